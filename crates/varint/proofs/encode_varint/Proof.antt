@@ -1,0 +1,119 @@
+-- `varint::encode_varint` meets its contract: with no room nothing is written; below 240 the one byte is; and else the first byte
+-- and what `encode_more` leaves in the tail behind it are the written form.
+-- Assumes nothing.
+use borrow.Author.Needs.{needs}
+use Prim.Native.Nat.{_+_, _-_, _/_, _%_, _≤_}
+use mathlib.Core.Path.{_≡_, refl, sym, ap, _∙_}
+use mathlib.Core.List.{[], _∷_}
+use native.Mathlib.Omega.{arith}
+use lib.ListN.{length, set, length-set, length-drop}
+use borrow.Rule.Slice.PartMut.{putMid}
+use Rattle.varint.specs.Answer.{written, leaves}
+use Rattle.varint.specs.Number.{numberBytes, groups}
+use Rattle.varint.specs.Writing.{bytes-one, bytes-more, length-bounds}
+use Rattle.varint.specs.Output.{lent-tail, leaves-length, leaves-byte, leaves-tail, writes-none, writes-all}
+use Rattle.varint.proofs.encode_varint.Statement.{statement}
+use Rattle.varint.proofs.encode_varint.Tie as tie
+
+-- past the first test there is room for the number, and so for its first byte
+room : (c : tie.Else1) → length (numberBytes (c .before .before .before .args .i)) ≤ length (c .before .before .before .args .out .now)
+room c = omega (arith, c .if1 .left, c .before .varint-len .ensures)
+
+room-one : (c : tie.Else1) → 1 ≤ length (c .before .before .before .args .out .now)
+room-one c = let a = c .before .before .before in omega (arith, room c, length-bounds (a .args .i) (a .fits .i .fits))
+
+-- and past the second the number is its first byte and what encode_more writes
+bytes : (c : tie.Else2)
+    → numberBytes (c .before .before .before .before .args .i)
+    ≡ (240 + c .before .before .before .before .args .i % 16) ∷ groups 9 ((c .before .before .before .before .args .i - 240) / 16)
+bytes c = bytes-more (c .before .before .before .before .args .i) (c .if2 .left)
+
+-- what the two leave, the first byte and encode_more behind it
+both : (c : tie.After-slice-known2)
+    → let i = c .before .before .before .before .before .before .before .before .args .i in
+    let old = c .before .before .before .before .before .before .before .before .args .out .now in
+    putMid 1 (length (set old 0 (240 + i % 16)) - 1) (set old 0 (240 + i % 16)) (c .before .before .encode-more .last .1 .0) ≡ leaves (written (numberBytes i)) old
+both c =
+    let e = c .before .before .before .before in
+    let i = e .before .before .before .before .args .i in
+    let old = e .before .before .before .before .args .out .now in
+    rw (bytes e)
+    (leaves-tail ((240 + i % 16) ∷ []) (groups 9 ((i - 240) / 16)) old _ _ 1 refl (leaves-byte (240 + i % 16) old (room-one (e .before))) (c .before .before .encode-more .ensures .1))
+
+varint-len-requires : tie.Need-varint-len-requires
+varint-len-requires c κs = search needs
+
+returns : tie.Need-returns
+returns c = writes-none (numberBytes (c .before .before .before .args .i)) _ (omega (arith, c .if1 .taken, c .before .varint-len .ensures))
+
+cast-out : tie.Need-cast-out
+cast-out c = search needs
+
+slice-write-out : tie.Need-slice-write-out
+slice-write-out c = room-one (c .before)
+
+same-length : tie.Need-same-length
+same-length c = search needs
+
+returns-2 : tie.Need-returns-2
+returns-2 c = let i = c .before .before .before .before .args .i in
+    let old = c .before .before .before .before .args .out .now in
+    writes-all (numberBytes i) old _ _ (room (c .before)) (rw (bytes-one i (c .if2 .taken)))
+    (rw (bytes-one i (c .if2 .taken)) (leaves-byte i old (room-one (c .before))))
+
+add-out : tie.Need-add-out
+add-out c = search needs
+
+cast-out-2 : tie.Need-cast-out-2
+cast-out-2 c = search needs
+
+slice-write-out-2 : tie.Need-slice-write-out-2
+slice-write-out-2 c = room-one (c .before)
+
+sub-encode-more : tie.Need-sub-encode-more
+sub-encode-more c = simp length-set (room-one (c .before))
+
+part-encode-more-start : tie.Need-part-encode-more-start
+part-encode-more-start c = simp length-set (room-one (c .before))
+
+part-encode-more-end : tie.Need-part-encode-more-end
+part-encode-more-end c = search needs
+
+encode-more-requires : tie.Need-encode-more-requires
+encode-more-requires c κs = let i = c .before .before .before .before .before .args .i in
+    (omega (arith, c .before .before .before .before .before .fits .i), rw lent-tail (simp (length-drop, length-set) (omega (arith, room (c .before .before), ap length (bytes (c .before))))))
+
+add-t5 : tie.Need-add-t5
+add-t5 c = let e = c .before .before .before .before in
+    let a = e .before .before .before .before in
+    omega (arith, c .before .before .encode-more .ensures .0, ap length (bytes e), length-bounds (a .args .i) (a .fits .i .fits))
+
+same-length-2 : tie.Need-same-length-2
+same-length-2 c = let e = c .before .before .before .before in
+    ap length (both c) ∙ leaves-length (numberBytes (e .before .before .before .before .args .i)) (e .before .before .before .before .args .out .now) (room (e .before))
+
+returns-3 : tie.Need-returns-3
+returns-3 c = let e = c .before .before .before .before in
+    let i = e .before .before .before .before .args .i in
+    writes-all (numberBytes i) _ _ _ (room (e .before)) (omega (arith, c .before .before .encode-more .ensures .0, ap length (bytes e))) (both c)
+
+pub encode-varint-spec : {M : Type 1} → statement M
+encode-varint-spec =
+    tie.close
+    (tie.spec
+    varint-len-requires
+    returns
+    cast-out
+    slice-write-out
+    same-length
+    returns-2
+    add-out
+    cast-out-2
+    slice-write-out-2
+    sub-encode-more
+    part-encode-more-start
+    part-encode-more-end
+    encode-more-requires
+    add-t5
+    same-length-2
+    returns-3)

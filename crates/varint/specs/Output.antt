@@ -1,0 +1,119 @@
+-- Laws about writing bytes one after the other at the front of lent ones: what every writer's loop is made of.
+use mathlib.Core.Path.{_≡_, refl, sym, ap, ap₂, _∙_}
+use mathlib.Core.List.{List, [], _∷_, _++_, append-nil, append-assoc, head-eq-of-cons-eq, tail-eq-of-cons-eq}
+use mathlib.Core.Logic.{⊎-elim}
+use Prim.Native.Nat.{ℕ, suc, _+_, _-_, _≤_, _<_, zero-le}
+use native.Mathlib.Numerals.{add-one}
+use native.Mathlib.Omega.{arith}
+use lib.ListN.{length, take, drop, set, getD, length-append, length-take, length-drop, drop-of-length-le}
+use lib.Seq.{drop-cons, take-suc, append-snoc, set-at, take-all, length-take-le, drop-drop, take-at, drop-at}
+use borrow.Rule.Slice.PartMut.{putMid}
+use borrow.Author.Tests.{le-leb, lt-leb}
+use Rattle.varint.specs.declared.Written.the-variants as w
+use Rattle.varint.specs.Answer.{done, written, within, leaves}
+use Rattle.varint.specs.Promise.{Writes}
+use Rattle.varint.specs.Writing.{lt-or-le}
+
+-- Of `bytes`, which old has room for, the first `at` are written, which makes out of old, and rest is left to write.
+pub record Partly (bytes old : List ℕ) (at : ℕ) (rest out : List ℕ) : Type 0 where
+  pub room : length bytes ≤ length old
+  pub so-far : out ≡ take at bytes ++ drop at old
+  pub to-do : drop at bytes ≡ rest
+  pub at-most : at ≤ length bytes
+
+pub partly-none : (bytes old : List ℕ) → length bytes ≤ length old → Partly bytes old 0 bytes old
+partly-none bytes old room = record { room = room; so-far = refl; to-do = refl; at-most = zero-le }
+
+pub partly-length : {bytes old : List ℕ} {at : ℕ} {rest out : List ℕ} → Partly bytes old at rest out → length out ≡ length old
+partly-length p = rw (p .so-far) (simp (length-append, length-take, length-drop) (omega (arith, p .room, p .at-most)))
+
+module _ {bytes old : List ℕ} {at b : ℕ} {rest out : List ℕ} (p : Partly bytes old at (b ∷ rest) out) where
+  -- what is left to write says that there is one more
+  below : at < length bytes
+  below =
+      ⊎-elim (λ h. h)
+      (λ h. let n : 0 ≡ suc (length rest) = ap length (sym (drop-of-length-le bytes h) ∙ p .to-do) in absurd (omega arith))
+      (lt-or-le at (length bytes))
+
+  next : getD bytes at 0 ∷ drop (suc at) bytes ≡ b ∷ rest
+  next = sym (drop-cons bytes at 0 below) ∙ p .to-do
+
+  -- the next byte goes to its place
+  stored : set (take at bytes ++ drop at old) at b ≡ take (suc at) bytes ++ drop (suc at) old
+  stored =
+      let h = below in
+      let r = p .room in
+      rw (drop-cons old at 0 (omega arith))
+      (set-at (take at bytes) (getD old at 0) (drop (suc at) old) b at (length-take-le at bytes (omega arith))
+      ∙ sym (append-snoc (take at bytes) b (drop (suc at) old))
+      ∙ ap (λ (l : List ℕ). l ++ drop (suc at) old)
+      (ap (λ (x : ℕ). take at bytes ++ (x ∷ [])) (sym (head-eq-of-cons-eq next)) ∙ sym (take-suc bytes at 0 h)))
+
+  pub partly-next : Partly bytes old (at + 1) rest (set out at b)
+  partly-next = record { room = p .room; so-far = rw (add-one, p .so-far) stored; to-do = rw add-one (tail-eq-of-cons-eq next); at-most = (let h = below in omega arith) }
+
+  pub partly-place : at < length out
+  partly-place = omega (arith, below, p .room, partly-length p)
+
+-- nothing is left: all is written
+module _ {bytes old : List ℕ} {at : ℕ} {out : List ℕ} (p : Partly bytes old at [] out) where
+  pub partly-count : at ≡ length bytes
+  partly-count = omega (arith, p .at-most, sym (length-drop at bytes) ∙ ap length (p .to-do))
+
+  pub partly-all : out ≡ leaves (written bytes) old
+  partly-all =
+      p .so-far
+      ∙ rw partly-count
+      (ap (λ (l : List ℕ). l ++ drop (length bytes) old) (take-all (length bytes) bytes (omega arith)))
+
+-- ---- a part in front, and the rest by whoever was lent the tail behind it, `&mut out[n..]`
+
+-- the tail that was lent, as the callee has it
+pub lent-tail : (n : ℕ) (out : List ℕ) → take (length out - n) (drop n out) ≡ drop n out
+lent-tail n out = take-all (length out - n) (drop n out) (omega (arith, length-drop n out))
+
+-- nothing lies behind it
+behind-tail : (n : ℕ) (out : List ℕ) → drop (length out - n) (drop n out) ≡ []
+behind-tail n out = drop-of-length-le (drop n out) {i = length out - n} (omega (arith, length-drop n out))
+
+-- a success keeps the lent bytes' count
+pub leaves-length : (bytes old : List ℕ) → length bytes ≤ length old → length (leaves (written bytes) old) ≡ length old
+leaves-length bytes old h = simp (length-append, length-drop) (omega arith)
+
+-- one byte in front
+pub leaves-byte : (b : ℕ) (old : List ℕ) → 1 ≤ length old → set old 0 b ≡ leaves (written (b ∷ [])) old
+leaves-byte b [] h = absurd (omega arith)
+leaves-byte b (x ∷ old) h = refl
+
+-- writing one part and then the other behind it is writing both
+pub leaves-both : (front rest old : List ℕ)
+    → front ++ leaves (written rest) (drop (length front) old) ≡ leaves (written (front ++ rest)) old
+leaves-both front rest old = simp (append-assoc, length-append, drop-drop)
+
+module _ (front rest old out tail : List ℕ) (n : ℕ) (count : length front ≡ n)
+    (first : out ≡ leaves (written front) old)
+    (then : tail ≡ leaves (written rest) (take (length out - n) (drop n out))) where
+  front-is : take n out ≡ front
+  front-is = ap (take n) first ∙ take-at front (drop (length front) old) n count
+
+  tail-is : tail ≡ leaves (written rest) (drop (length front) old)
+  tail-is =
+      then
+      ∙ ap (leaves (written rest)) (lent-tail n out ∙ ap (drop n) first ∙ drop-at front (drop (length front) old) n count)
+
+  pub leaves-tail : putMid n (length out - n) out tail ≡ leaves (written (front ++ rest)) old
+  leaves-tail =
+      ap (λ (l : List ℕ). take n out ++ (tail ++ l)) (behind-tail n out)
+      ∙ ap (λ (l : List ℕ). take n out ++ l) (append-nil tail)
+      ∙ ap₂ _++_ front-is tail-is
+      ∙ leaves-both front rest old
+
+-- ---- what a writer promises: the two ways to keep it
+
+pub writes-none : (bytes old : List ℕ) → length old < length bytes
+    → Writes (within (length old) (written bytes)) (w.Refused (record { number = 11; place = 0 })) old old
+writes-none bytes old h = simp (lt-leb (length bytes) (length old) h) (record { says = refl; holds = refl })
+
+pub writes-all : (bytes old new : List ℕ) (n : ℕ) → length bytes ≤ length old → n ≡ length bytes → new ≡ leaves (written bytes) old
+    → Writes (within (length old) (written bytes)) (w.Done n) old new
+writes-all bytes old new n h count e = simp (le-leb (length bytes) (length old) h) (record { says = ap (done tt) count; holds = e })

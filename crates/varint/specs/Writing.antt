@@ -1,0 +1,110 @@
+-- Laws about the written form of a number: how it unrolls, and how long it is.
+use mathlib.Core.Path.{_≡_, refl, sym, ap, _∙_}
+use mathlib.Core.Logic.{_⊎_, inl, inr, ⊎-elim, _↔_}
+use mathlib.Core.List.{List, [], _∷_}
+use Prim.Native.Nat.{ℕ, zero, suc, _+_, _-_, _*_, _/_, _%_, _^_, _≤_, _<_, zero-le, suc-le-suc}
+use native.Mathlib.Omega.{arith}
+use lib.ListN.{length}
+use borrow.Author.Tests.{lt-ltb, le-ltb}
+use Rattle.varint.specs.Number.{groups, numberBytes}
+
+-- One of two numbers is below the other, or not: how the laws take a test apart.
+pub lt-or-le : (a b : ℕ) → (a < b) ⊎ (b ≤ a)
+lt-or-le a zero = inr zero-le
+lt-or-le zero (suc b) = inl (suc-le-suc zero-le)
+lt-or-le (suc a) (suc b) = ⊎-elim (λ h. inl (suc-le-suc h)) (λ h. inr (suc-le-suc h)) (lt-or-le a b)
+
+-- ---- one byte at a time
+
+pub groups-last : (left v : ℕ) → v < 128 → groups (suc left) v ≡ v ∷ []
+unfolding groups
+groups-last left v h = simp (lt-ltb v 128 h)
+
+pub groups-on : (left v : ℕ) → 128 ≤ v → groups (suc left) v ≡ (128 + v % 128) ∷ groups left ((v - 128) / 128)
+unfolding groups
+groups-on left v h = simp (le-ltb v 128 h)
+
+-- The first v that takes more than k bytes after the first: each byte more starts where the one before ends.
+unfoldable pub reach : ℕ → ℕ
+reach zero = 0
+reach (suc k) = 128 + 128 * reach k
+
+pub reach-down : (k v : ℕ) → 128 ≤ v → v < reach (suc k) → (v - 128) / 128 < reach k
+unfolding reach
+reach-down k v l h = omega arith
+
+-- Where the count down starts does not matter, as long as it is enough.
+pub groups-enough : (j k v : ℕ) → v < reach j → v < reach k → groups j v ≡ groups k v
+unfolding reach
+groups-enough zero k v h g = absurd (omega arith)
+groups-enough (suc j) zero v h g = absurd (omega arith)
+groups-enough (suc j) (suc k) v h g =
+    ⊎-elim (λ l. groups-last j v l ∙ sym (groups-last k v l))
+    (λ l. groups-on j v l ∙ ap (λ (s : List ℕ). (128 + v % 128) ∷ s) (groups-enough j k ((v - 128) / 128) (reach-down j v l h) (reach-down k v l g)) ∙ sym (groups-on k v l))
+    (lt-or-le v 128)
+
+-- So the nine of the written form unroll without end.
+pub nine-on : (v : ℕ) → 128 ≤ v → v < 2 ^ 60 → groups 9 v ≡ (128 + v % 128) ∷ groups 9 ((v - 128) / 128)
+unfolding reach
+nine-on v l h =
+    groups-on 8 v l
+    ∙ ap (λ (s : List ℕ). (128 + v % 128) ∷ s) (groups-enough 8 9 ((v - 128) / 128) (omega arith) (omega arith))
+
+pub bytes-one : (n : ℕ) → n < 240 → numberBytes n ≡ n ∷ []
+unfolding numberBytes
+bytes-one n h = simp (lt-ltb n 240 h)
+
+pub bytes-more : (n : ℕ) → 240 ≤ n → numberBytes n ≡ (240 + n % 16) ∷ groups 9 ((n - 240) / 16)
+unfolding numberBytes
+bytes-more n h = simp (le-ltb n 240 h)
+
+-- Nine are enough for 64 bits.
+pub steps-reach : (n : ℕ) → n < 2 ^ 64 → (n - 240) / 16 < reach 9
+unfolding reach
+steps-reach n h = omega arith
+
+-- ---- how long
+
+-- As many as k bytes are enough exactly below what k bytes reach.
+pub groups-length : (left k v : ℕ) → v < reach left → (length (groups left v) ≤ k) ↔ (v < reach k)
+unfolding reach
+groups-length zero k v h = absurd (omega arith)
+groups-length (suc left) zero v h =
+    ⊎-elim (λ l. rw (groups-last left v l) (λ e. absurd (omega arith), λ e. absurd (omega arith)))
+    (λ l. rw (groups-on left v l) (λ e. absurd (omega arith), λ e. absurd (omega arith)))
+    (lt-or-le v 128)
+groups-length (suc left) (suc k) v h =
+    ⊎-elim (λ l. rw (groups-last left v l) (λ e. omega arith, λ e. omega arith))
+    (λ l.
+    let ih = groups-length left k ((v - 128) / 128) (reach-down left v l h) in
+    rw (groups-on left v l) (λ e. (let g = ih .0 (omega arith) in omega arith), λ e. (let g = ih .1 (omega arith) in omega arith)))
+    (lt-or-le v 128)
+
+-- SPOE.txt's table: the first number that takes more than k bytes.
+unfoldable pub row : ℕ → ℕ
+row zero = 0
+row (suc k) = 240 + 16 * reach k
+
+pub table : (row 1 ≡ 240) × (row 2 ≡ 2288) × (row 3 ≡ 264432) × (row 4 ≡ 33818864) × (row 5 ≡ 4328786160)
+unfolding row reach
+table = (refl, refl, refl, refl, refl)
+
+pub length-row : (k n : ℕ) → n < 2 ^ 64 → (length (numberBytes n) ≤ k) ↔ (n < row k)
+unfolding row reach
+length-row zero n h =
+    ⊎-elim (λ l. rw (bytes-one n l) (λ e. absurd (omega arith), λ e. absurd (omega arith)))
+    (λ l. rw (bytes-more n l) (λ e. absurd (omega arith), λ e. absurd (omega arith)))
+    (lt-or-le n 240)
+length-row (suc k) n h =
+    ⊎-elim (λ l. rw (bytes-one n l) (λ e. omega arith, λ e. omega arith))
+    (λ l.
+    let g = groups-length 9 k ((n - 240) / 16) (steps-reach n h) in
+    rw (bytes-more n l) (λ e. (let i = g .0 (omega arith) in omega arith), λ e. (let i = g .1 (omega arith) in omega arith)))
+    (lt-or-le n 240)
+
+pub length-bounds : (n : ℕ) → n < 2 ^ 64 → (1 ≤ length (numberBytes n)) × (length (numberBytes n) ≤ 10)
+unfolding row reach
+length-bounds n h = (
+  ⊎-elim (λ l. rw (bytes-one n l) (omega arith)) (λ l. rw (bytes-more n l) (omega arith)) (lt-or-le n 240),
+  length-row 10 n h .1 (omega arith),
+)

@@ -1,0 +1,144 @@
+// Variable-length numbers (SPOE.txt, section 3.1): their length, writing and reading.
+//
+// The small types that every layer's answers share stand here too. No public call has a `requires`: each does its own
+// refusing, and a refusal changes no byte.
+ghost use mathlib.Core.Path.{_≡_};
+ghost use Prim.Native.Nat.{_≤_, _<_, _^_};
+ghost use lib.ListN.{length, drop};
+ghost use Rattle.varint.specs.Answer.{refused, written, within, leaves};
+ghost use Rattle.varint.specs.Number.{number, more, numberBytes, groups};
+ghost use Rattle.varint.specs.Promise.{numberRead, Writes};
+
+// Bytes end too soon.
+pub const TOO_SOON: u64 = 3;
+// A number is too large.
+pub const TOO_LARGE: u64 = 7;
+// The output is too short.
+pub const NO_ROOM: u64 = 11;
+
+// The largest number, 2^64-1.
+const LARGEST: u64 = 0xFFFF_FFFF_FFFF_FFFF;
+
+// A refusal's number, as document 01 lists them, and its place, counted from the first byte of the call's input.
+pub struct Refusal {
+    pub number: u64,
+    pub place: usize,
+}
+
+// What a writer answers: how many bytes it wrote, or why it wrote none.
+pub enum Written {
+    Done(usize),
+    Refused(Refusal),
+}
+
+// What the number reader answers.
+pub enum Number {
+    Done { value: u64, used: usize },
+    Refused(Refusal),
+}
+
+// How many bytes the written form of i has.
+pub fn varint_len(i: u64) -> usize
+    ensures { λ r. ⌜ r ≡ length (numberBytes i) ⌝ }
+{
+    if i < 240 {
+        return 1;
+    }
+    let mut len = 2;
+    let mut value = (i - 240) / 16;
+    while 128 <= value {
+        len += 1;
+        value = (value - 128) / 128;
+    }
+    len
+}
+
+// Writes i at the front of `out`.
+pub fn encode_varint(i: u64, out: &mut [u8]) -> Written
+    ensures { λ r. ⌜ Writes (within (length (now (out .entry))) (written (numberBytes i))) r (now (out .entry)) (now (out .exit)) ⌝ }
+{
+    if out.len() < varint_len(i) {
+        return Written::Refused(Refusal {
+            number: NO_ROOM,
+            place: 0,
+        });
+    }
+    if i < 240 {
+        out[0] = i as u8;
+        return Written::Done(1);
+    }
+    out[0] = (240 + i % 16) as u8;
+    let n = encode_more((i - 240) / 16, &mut out[1..]);
+    Written::Done(1 + n)
+}
+
+// Writes what follows the first byte, where there is room.
+fn encode_more(steps: u64, out: &mut [u8]) -> usize
+    requires { ⌜ steps < 2 ^ 60 ⌝ }
+    requires { ⌜ length (groups 9 steps) ≤ length (now out) ⌝ }
+    ensures { λ r. ⌜ r ≡ length (groups 9 steps) ⌝ }
+    ensures { λ r. ⌜ now (out .exit) ≡ leaves (written (groups 9 steps)) (now (out .entry)) ⌝ }
+{
+    let mut at = 0;
+    let mut value = steps;
+    while 128 <= value {
+        out[at] = (128 + value % 128) as u8;
+        at += 1;
+        value = (value - 128) / 128;
+    }
+    out[at] = value as u8;
+    at + 1
+}
+
+// Reads the number at the front of `input`.
+pub fn decode_varint(input: &[u8]) -> Number
+    ensures { λ r. ⌜ numberRead r ≡ number (now (input .entry)) ⌝ }
+{
+    if input.len() == 0 {
+        return refuse(TOO_SOON, 0);
+    }
+    let first = input[0];
+    if first < 240 {
+        return Number::Done {
+            value: first as u64,
+            used: 1,
+        };
+    }
+    decode_more(first as u64, input)
+}
+
+// Reads on after a first byte that is not the number itself.
+fn decode_more(first: u64, input: &[u8]) -> Number
+    ensures { λ r. ⌜ numberRead r ≡ more first 1 (drop 1 (now (input .entry))) ⌝ }
+{
+    let mut sum = first;
+    let mut used = 1;
+    let mut shift: u64 = 4;
+    let value = loop {
+        if input.len() <= used {
+            return refuse(TOO_SOON, used);
+        }
+        if 64 <= shift {
+            return refuse(TOO_LARGE, used + 1);
+        }
+        let byte = input[used];
+        // The shift drops the upper bits of a tenth byte.
+        let addend = (byte as u64) << shift;
+        if LARGEST - sum < addend {
+            return refuse(TOO_LARGE, used + 1);
+        }
+        sum += addend;
+        used += 1;
+        shift += 7;
+        if byte < 128 {
+            break sum;
+        }
+    };
+    Number::Done { value, used }
+}
+
+fn refuse(number: u64, place: usize) -> Number
+    ensures { λ r. ⌜ numberRead r ≡ refused number place ⌝ }
+{
+    Number::Refused(Refusal { number, place })
+}
