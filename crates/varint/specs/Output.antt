@@ -9,9 +9,10 @@ use lib.ListN.{length, take, drop, set, getD, length-append, length-take, length
 use lib.Seq.{drop-cons, take-suc, append-snoc, set-at, take-all, length-take-le, drop-drop, take-at, drop-at}
 use borrow.Rule.Slice.PartMut.{putMid}
 use borrow.Author.Tests.{le-leb, lt-leb}
+use Rattle.varint.specs.declared.Written.{Written}
 use Rattle.varint.specs.declared.Written.the-variants as w
 use Rattle.varint.specs.Answer.{done, written, within, leaves}
-use Rattle.varint.specs.Promise.{Writes}
+use Rattle.varint.specs.Promise.{count, Writes}
 use Rattle.varint.specs.Writing.{lt-or-le}
 
 -- Of `bytes`, which old has room for, the first `at` are written, which makes out of old, and rest is left to write.
@@ -117,3 +118,20 @@ writes-none bytes old h = simp (lt-leb (length bytes) (length old) h) (record { 
 pub writes-all : (bytes old new : List ℕ) (n : ℕ) → length bytes ≤ length old → n ≡ length bytes → new ≡ leaves (written bytes) old
     → Writes (within (length old) (written bytes)) (w.Done n) old new
 writes-all bytes old new n h count e = simp (le-leb (length bytes) (length old) h) (record { says = ap (done tt) count; holds = e })
+
+-- What a caller learns where it was told that n bytes were written: they are there, at the front.
+pub writes-done : (bytes : List ℕ) {old new : List ℕ} {r : Written} {n : ℕ}
+    → Writes (within (length old) (written bytes)) r old new → r ≡ w.Done n
+    → (n ≡ length bytes) × (n ≤ length new) × (take n new ≡ bytes)
+writes-done bytes {old} {new} {r} {n} p is =
+    ⊎-elim
+    (λ h. let none = sym (ap count is) ∙ simp (lt-leb (length bytes) (length old) h) at (p .says) in let z : _≡_ {A = ℕ} 0 1 = cc none in absurd (omega arith))
+    (λ h.
+    let all = sym (ap count is) ∙ simp (le-leb (length bytes) (length old) h) at (p .says) in
+    let e = simp (le-leb (length bytes) (length old) h) at (p .holds) in
+    let m : n ≡ length bytes = cc all in (
+      m,
+      rw (m, e) (omega (arith, leaves-length bytes old h)),
+      rw (m, e) (take-at bytes (drop (length bytes) old) (length bytes) refl),
+    ))
+    (lt-or-le (length old) (length bytes))

@@ -16,9 +16,6 @@ pub const TOO_LARGE: u64 = 7;
 // The output is too short.
 pub const NO_ROOM: u64 = 11;
 
-// The largest number, 2^64-1.
-const LARGEST: u64 = 0xFFFF_FFFF_FFFF_FFFF;
-
 // A refusal's number, as document 01 lists them, and its place, counted from the first byte of the call's input.
 pub struct Refusal {
     pub number: u64,
@@ -80,13 +77,13 @@ fn encode_more(steps: u64, out: &mut [u8]) -> usize
     ensures { λ r. ⌜ now (out .exit) ≡ leaves (written (groups 9 steps)) (now (out .entry)) ⌝ }
 {
     let mut at = 0;
-    let mut value = steps;
-    while 128 <= value {
-        out[at] = (128 + value % 128) as u8;
+    let mut rest = steps;
+    while 128 <= rest {
+        out[at] = (128 + rest % 128) as u8;
         at += 1;
-        value = (value - 128) / 128;
+        rest = (rest - 128) / 128;
     }
-    out[at] = value as u8;
+    out[at] = rest as u8;
     at + 1
 }
 
@@ -124,7 +121,7 @@ fn decode_more(first: u64, input: &[u8]) -> Number
         let byte = input[used];
         // The shift drops the upper bits of a tenth byte.
         let addend = (byte as u64) << shift;
-        if LARGEST - sum < addend {
+        if u64::MAX - sum < addend {
             return refuse(TOO_LARGE, used + 1);
         }
         sum += addend;

@@ -1,5 +1,5 @@
 -- `varint::encode_more` meets its contract. The loop's invariant: the groups are partly written, and what is left to write are the
--- groups of `value`. Each turn writes the first of them, and the store after the loop the last.
+-- groups of `rest`. Each turn writes the first of them, and the store after the loop the last.
 -- Assumes nothing.
 use Prim.Native.Nat.{_+_, _-_, _/_, _%_, _<_, _^_}
 use mathlib.Core.Path.{_≡_}
@@ -13,20 +13,20 @@ use Rattle.varint.proofs.encode_more.Statement.{statement}
 use Rattle.varint.proofs.encode_more.Tie as tie
 
 abbrev Inv-loop : tie.InvT-loop
-Inv-loop steps out₀ at₀ value₀ out at value = (Partly (groups 9 steps) out₀ at (groups 9 value) out) × (value < 2 ^ 60)
+Inv-loop steps out₀ at₀ rest₀ out at rest = (Partly (groups 9 steps) out₀ at (groups 9 rest) out) × (rest < 2 ^ 60)
 
 abbrev μ-loop : tie.MeasureT-loop
-μ-loop steps out₀ at₀ value₀ out at value = value
+μ-loop steps out₀ at₀ rest₀ out at rest = rest
 
 -- what is left to write starts with the byte that is written next, in the loop and after it
 on : (c : tie.In-loop Inv-loop μ-loop)
     → Partly (groups 9 (c .before .before .args .steps)) (c .before .before .args .out .now) (c .before .loop .at)
-    ((128 + c .before .loop .value % 128) ∷ groups 9 ((c .before .loop .value - 128) / 128)) (c .before .loop .out)
-on c = rw (nine-on (c .before .loop .value) (c .loop-test .taken) (c .before .loop .inv .1)) at (c .before .loop .inv .0)
+    ((128 + c .before .loop .rest % 128) ∷ groups 9 ((c .before .loop .rest - 128) / 128)) (c .before .loop .out)
+on c = rw (nine-on (c .before .loop .rest) (c .loop-test .taken) (c .before .loop .inv .1)) at (c .before .loop .inv .0)
 
 last : (c : tie.After-loop Inv-loop μ-loop)
-    → Partly (groups 9 (c .before .before .args .steps)) (c .before .before .args .out .now) (c .before .loop .at) (c .before .loop .value ∷ []) (c .before .loop .out)
-last c = rw (groups-last 8 (c .before .loop .value) (c .loop-test .left)) at (c .before .loop .inv .0)
+    → Partly (groups 9 (c .before .before .args .steps)) (c .before .before .args .out .now) (c .before .loop .at) (c .before .loop .rest ∷ []) (c .before .loop .out)
+last c = rw (groups-last 8 (c .before .loop .rest) (c .loop-test .left)) at (c .before .loop .inv .0)
 
 loop-holds : tie.Need-loop-holds Inv-loop μ-loop
 loop-holds c = (partly-none _ _ (c .pre .1), c .pre .0)

@@ -1,0 +1,37 @@
+-- Document 01's marked examples, as one statement over a list: each layer adds its own.
+use mathlib.Core.Path.{_≡_, refl}
+use mathlib.Core.List.{List, [], _∷_}
+use Prim.Native.Nat.{ℕ, _+_, _-_, _^_}
+use lib.ListN.{length}
+use Rattle.varint.specs.Answer.{Answer, done, refused}
+use Rattle.varint.specs.Number.{worth, more, number, groups, numberBytes}
+
+-- what the paper says: a number is these bytes, written and read; or some bytes are read so
+pub data Example : Type 0 where
+  is : ℕ → List ℕ → Example
+  reads : List ℕ → Answer ℕ → Example
+
+abbrev pub Holds : Example → Type 0
+Holds (is n bytes) = (numberBytes n ≡ bytes) × (number bytes ≡ done n (length bytes))
+Holds (reads bytes answer) = number bytes ≡ answer
+
+abbrev pub All : List Example → Type 0
+All [] = Unit
+All (e ∷ es) = Holds e × All es
+
+abbrev pub examples : List Example
+examples =
+    is 239 (0xEF ∷ [])
+    ∷ is 240 (0xF0 ∷ 0x00 ∷ [])
+    ∷ is 2287 (0xFF ∷ 0x7F ∷ [])
+    ∷ is 2288 (0xF0 ∷ 0x80 ∷ 0x00 ∷ [])
+    ∷ is (2 ^ 64 - 1) (0xFF ∷ 0xF0 ∷ 0xFE ∷ 0xFE ∷ 0xFE ∷ 0xFE ∷ 0xFE ∷ 0xFE ∷ 0xFE ∷ 0x0E ∷ [])
+    ∷ reads (0xF0 ∷ 0x80 ∷ 0x80 ∷ 0x80 ∷ 0x80 ∷ 0x80 ∷ 0x80 ∷ 0x80 ∷ 0x80 ∷ 0x10 ∷ [])
+    (done (240 + 2 ^ 11 + 2 ^ 18 + 2 ^ 25 + 2 ^ 32 + 2 ^ 39 + 2 ^ 46 + 2 ^ 53 + 2 ^ 60) 10)
+    ∷ reads (0xF0 ∷ 0x80 ∷ 0x80 ∷ 0x80 ∷ 0x80 ∷ 0x80 ∷ 0x80 ∷ 0x80 ∷ 0x80 ∷ 0x0F ∷ []) (refused 7 10)
+    ∷ reads (0xF0 ∷ 0x80 ∷ 0x80 ∷ 0x80 ∷ 0x80 ∷ 0x80 ∷ 0x80 ∷ 0x80 ∷ 0x80 ∷ 0x80 ∷ 0x00 ∷ []) (refused 7 11)
+    ∷ []
+
+pub marked : All examples
+unfolding worth more number groups numberBytes
+marked = ((refl, refl), ((refl, refl), ((refl, refl), ((refl, refl), ((refl, refl), (refl, (refl, (refl, tt))))))))

@@ -1,0 +1,143 @@
+// Runs document 01's marked examples and says of each what it found.
+//
+// The same examples are proved of the definitions, as one statement over a list, in specs/Examples.antt. Here the built
+// code is run on them: a line for each, which ends in "as marked" where the answer is the paper's.
+use libc::STDOUT_FILENO;
+use varint::Number;
+use varint::Refusal;
+use varint::Written;
+
+// What F0 and eight 80 add up to: 240+2^11+2^18+2^25+2^32+2^39+2^46+2^53+2^60.
+const EIGHT_80: u64 = 1_161_999_626_690_365_680;
+
+// What the paper has: the refusal's number or 0, the bytes used or the place, and the number that was read.
+struct Answer {
+    number: u64,
+    at: usize,
+    value: u64,
+}
+
+fn main() {
+    numbers();
+}
+
+// Numbers that are written and read back, and byte strings that no number is written as.
+fn numbers() {
+    both(239, &[0xEF]);
+    both(240, &[0xF0, 0x00]);
+    both(2287, &[0xFF, 0x7F]);
+    both(2288, &[0xF0, 0x80, 0x00]);
+    both(
+        u64::MAX,
+        &[0xFF, 0xF0, 0xFE, 0xFE, 0xFE, 0xFE, 0xFE, 0xFE, 0xFE, 0x0E],
+    );
+    // The tenth byte counts modulo 16, so that 10 adds nothing.
+    reads(
+        &[0xF0, 0x80, 0x80, 0x80, 0x80, 0x80, 0x80, 0x80, 0x80, 0x10],
+        Answer {
+            number: 0,
+            at: 10,
+            value: EIGHT_80,
+        },
+    );
+    reads(
+        &[0xF0, 0x80, 0x80, 0x80, 0x80, 0x80, 0x80, 0x80, 0x80, 0x0F],
+        Answer {
+            number: 7,
+            at: 10,
+            value: 0,
+        },
+    );
+    reads(
+        &[
+            0xF0,
+            0x80,
+            0x80,
+            0x80,
+            0x80,
+            0x80,
+            0x80,
+            0x80,
+            0x80,
+            0x80,
+            0x00,
+        ],
+        Answer {
+            number: 7,
+            at: 11,
+            value: 0,
+        },
+    );
+}
+
+// n is written as these bytes, and they read as n.
+fn both(n: u64, bytes: &[u8]) {
+    writes(n, bytes);
+    reads(
+        bytes,
+        Answer {
+            number: 0,
+            at: bytes.len(),
+            value: n,
+        },
+    );
+}
+
+fn writes(n: u64, bytes: &[u8]) {
+    let mut out = [0u8; 10];
+    let answer = varint::encode_varint(n, &mut out);
+    io::write_all(STDOUT_FILENO, b"write ");
+    io::print_decimal(STDOUT_FILENO, n);
+    io::write_all(STDOUT_FILENO, b": ");
+    match answer {
+        Written::Done(k) => {
+            print_bytes(&out[..k]);
+            verdict(check::same(&out[..k], bytes));
+        },
+        Written::Refused(r) => {
+            refused(r);
+            verdict(false);
+        },
+    }
+}
+
+fn reads(input: &[u8], marked: Answer) {
+    io::write_all(STDOUT_FILENO, b"read ");
+    print_bytes(input);
+    io::write_all(STDOUT_FILENO, b": ");
+    match varint::decode_varint(input) {
+        Number::Done { value, used } => {
+            io::print_decimal(STDOUT_FILENO, value);
+            io::write_all(STDOUT_FILENO, b" from ");
+            io::print_decimal(STDOUT_FILENO, used as u64);
+            verdict(marked.number == 0 && marked.at == used && marked.value == value);
+        },
+        Number::Refused(r) => {
+            refused(r);
+            verdict(marked.number == r.number && marked.at == r.place);
+        },
+    }
+}
+
+fn refused(r: Refusal) {
+    io::write_all(STDOUT_FILENO, b"refused ");
+    io::print_decimal(STDOUT_FILENO, r.number);
+    io::write_all(STDOUT_FILENO, b" at ");
+    io::print_decimal(STDOUT_FILENO, r.place as u64);
+}
+
+fn print_bytes(bytes: &[u8]) {
+    let mut i = 0;
+    while i < bytes.len() {
+        io::print_hex(STDOUT_FILENO, bytes[i] as u64, 2);
+        i += 1;
+    }
+}
+
+fn verdict(right: bool) {
+    if right {
+        io::write_all(STDOUT_FILENO, b", as marked\n");
+    } else {
+        io::write_all(STDOUT_FILENO, b", NOT AS MARKED\n");
+    }
+}
