@@ -1,0 +1,27 @@
+-- `spop::spop_decode_varint` meets its contract: each case of the reader's answer is told as it is.
+-- Assumes nothing.
+use borrow.Author.Needs.{needs}
+use mathlib.Core.Path.{sym, ap, _∙_}
+use Rattle.varint.specs.Promise.{numberRead}
+use Rattle.spop.specs.Told.{told-done, told-refused}
+use Rattle.spop.proofs.spop_decode_varint.Statement.{statement}
+use Rattle.spop.proofs.spop_decode_varint.Tie as tie
+
+decode-varint-requires : tie.Need-decode-varint-requires
+decode-varint-requires c κs = search needs
+
+enum-known-n : tie.Need-enum-known-n
+enum-known-n c = search needs
+
+enum-known-r : tie.Need-enum-known-r
+enum-known-r c = search needs
+
+returns : tie.Need-returns
+returns c = told-done _ (sym (c .before .before .before .decode-varint .ensures) ∙ ap numberRead (c .before .n .given .1))
+
+returns-2 : tie.Need-returns-2
+returns-2 c = told-refused _ (sym (c .before .before .before .decode-varint .ensures) ∙ ap numberRead (c .before .r .given .1))
+
+pub spop-decode-varint-spec : {M : Type 1} → statement M
+spop-decode-varint-spec =
+    tie.close (tie.spec decode-varint-requires enum-known-n enum-known-r returns returns-2)

@@ -1,0 +1,22 @@
+-- `spop::spop_encode_varint` meets its contract: what the writer answers is told, and what it leaves is left.
+-- Assumes nothing.
+use borrow.Author.Needs.{needs}
+use Rattle.spop.specs.Told.{told-writes}
+use Rattle.spop.proofs.spop_encode_varint.Statement.{statement}
+use Rattle.spop.proofs.spop_encode_varint.Tie as tie
+
+encode-varint-requires : tie.Need-encode-varint-requires
+encode-varint-requires c κs = search needs
+
+tell-requires : tie.Need-tell-requires
+tell-requires c κs = search needs
+
+same-length : tie.Need-same-length
+same-length c = search needs
+
+returns : tie.Need-returns
+returns c = let e = c .before .before .before .before .encode-varint .ensures in (told-writes e (c .tell .ensures), e .holds)
+
+pub spop-encode-varint-spec : {M : Type 1} → statement M
+spop-encode-varint-spec =
+    tie.close (tie.spec encode-varint-requires tell-requires same-length returns)

@@ -1,0 +1,3 @@
+-- What a C program is told, and that nothing else is told it.
+pub mod Told
+pub mod Unique

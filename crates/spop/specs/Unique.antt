@@ -1,0 +1,40 @@
+-- No second result, and no second content of what is lent, meets the promise of a call.
+use mathlib.Core.Path.{_≡_, sym, _∙_}
+use mathlib.Core.List.{List}
+use Prim.Native.Nat.{ℕ}
+use lib.ListN.{length}
+use Rattle.varint.specs.Answer.{Answer, written, within, leaves}
+use Rattle.varint.specs.Number.{number, numberBytes}
+use Rattle.spop.specs.Told.{Told, valueOf}
+
+-- what two results that meet the same equations have in common
+one-only : {A : Type 0} {x y z : A} → x ≡ z → y ≡ z → x ≡ y
+one-only p q = p ∙ sym q
+
+told-unique : {A : Type 0} {a : Answer A} {r q at also : ℕ} → Told a r at → Told a q also → (r ≡ q) × (at ≡ also)
+told-unique p q = (one-only (p .says) (q .says), one-only (p .where-at) (q .where-at))
+
+-- of any call that tells an answer and leaves something in what else was lent to it
+call-unique : {A B : Type 0} {a : Answer A} {x y left : B} {r q at also : ℕ}
+    → Told a r at × (x ≡ left) → Told a q also × (y ≡ left)
+    → (r ≡ q) × (at ≡ also) × (x ≡ y)
+call-unique p q = let t = told-unique (p .0) (q .0) in (t .0, t .1, one-only (p .1) (q .1))
+
+pub spop-varint-len-unique : (n r q : ℕ) → r ≡ length (numberBytes n) → q ≡ length (numberBytes n) → r ≡ q
+spop-varint-len-unique n r q p s = one-only p s
+
+module _ (n : ℕ) (old : List ℕ) where
+  abbrev encoded : Answer (List ℕ)
+  encoded = within (length old) (written (numberBytes n))
+
+  pub spop-encode-varint-unique : (new other : List ℕ) (r q at also : ℕ)
+      → Told encoded r at × (new ≡ leaves encoded old) → Told encoded q also × (other ≡ leaves encoded old)
+      → (r ≡ q) × (at ≡ also) × (new ≡ other)
+  spop-encode-varint-unique new other r q at also p s = call-unique p s
+
+module _ (input : List ℕ) (before : ℕ) where
+  pub spop-decode-varint-unique : (value other r q at also : ℕ)
+      → Told (number input) r at × (value ≡ valueOf (number input) before)
+      → Told (number input) q also × (other ≡ valueOf (number input) before)
+      → (r ≡ q) × (at ≡ also) × (value ≡ other)
+  spop-decode-varint-unique value other r q at also p s = call-unique p s

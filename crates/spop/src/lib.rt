@@ -1,0 +1,66 @@
+// The calls under C names, as `include/spop.h` declares them. Each is thin over the call that it wraps, and its promise goes
+// through the same definitions.
+//
+// A call answers the paper's number, 0 for done, and `at` takes what goes with it: the bytes used or written, or the place.
+// Whatever else is lent changes only after 0.
+ghost use mathlib.Core.Path.{_≡_};
+ghost use lib.ListN.{length};
+ghost use Rattle.varint.specs.Answer.{written, within, leaves};
+ghost use Rattle.varint.specs.Number.{number, numberBytes};
+ghost use Rattle.varint.specs.Promise.{count, numberRead};
+ghost use Rattle.spop.specs.Told.{Told, valueOf};
+use varint::Number;
+use varint::Refusal;
+use varint::Written;
+
+const DONE: u64 = 0;
+
+#[no_mangle]
+pub extern "C" fn spop_varint_len(n: u64) -> u64
+    ensures { λ r. ⌜ r ≡ length (numberBytes n) ⌝ }
+{
+    varint::varint_len(n) as u64
+}
+
+#[no_mangle]
+pub extern "C" fn spop_encode_varint(n: u64, out: &mut [u8], at: &mut u64) -> u64
+    ensures { λ r. ⌜ Told (within (length (now (out .entry))) (written (numberBytes n))) r (now (at .exit)) ⌝ }
+    ensures { λ r. ⌜ now (out .exit) ≡ leaves (within (length (now (out .entry))) (written (numberBytes n))) (now (out .entry)) ⌝ }
+{
+    let answer = varint::encode_varint(n, out);
+    tell(answer, at)
+}
+
+#[no_mangle]
+pub extern "C" fn spop_decode_varint(input: &[u8], value: &mut u64, at: &mut u64) -> u64
+    ensures { λ r. ⌜ Told (number (now (input .entry))) r (now (at .exit)) ⌝ }
+    ensures { λ r. ⌜ now (value .exit) ≡ valueOf (number (now (input .entry))) (now (value .entry)) ⌝ }
+{
+    match varint::decode_varint(input) {
+        Number::Done { value: n, used } => {
+            *value = n;
+            *at = used as u64;
+            DONE
+        },
+        Number::Refused(r) => {
+            *at = r.place as u64;
+            r.number
+        },
+    }
+}
+
+// What any writer answered.
+fn tell(answer: Written, at: &mut u64) -> u64
+    ensures { λ r. ⌜ Told (count answer) r (now (at .exit)) ⌝ }
+{
+    match answer {
+        Written::Done(n) => {
+            *at = n as u64;
+            DONE
+        },
+        Written::Refused(r) => {
+            *at = r.place as u64;
+            r.number
+        },
+    }
+}

@@ -1,0 +1,39 @@
+/* The SPOP codec's calls for C and C++. Link libspop.a (tools/native-lib spop).
+ *
+ * Every call takes every input, ends, and does its own refusing. Unless its line says otherwise it answers a number:
+ *
+ *    0  done            *at: the bytes used or written
+ *    3  too soon        the bytes end inside what is read; *at: for a number, the end of the input
+ *    7  too large       a number over 2^64-1 or of more than ten bytes; *at: right after the byte that broke it
+ *   11  no room         the output is too short; *at: 0
+ *
+ * *at is always set. Whatever else is lent changes only after 0, and of an output only the bytes that are written.
+ *
+ * No pointer may be null, also where its length is 0 (it need not point at anything then), and what a call may change must not
+ * overlap what else is lent to it. Lengths are counted in elements. Calls keep no state, so threads need no lock.
+ */
+#ifndef SPOP_H
+#define SPOP_H
+
+#include <stddef.h>
+#include <stdint.h>
+
+#ifdef __cplusplus
+extern "C" {
+#endif
+
+/* Answers how many bytes the written form of n has: 1 to 10. */
+uint64_t spop_varint_len(uint64_t n);
+
+/* Writes n at the front of out. 0 with the length, or 11. */
+uint64_t spop_encode_varint(uint64_t n, uint8_t *out, size_t out_len, uint64_t *at);
+
+/* Reads the number at the front of input. 0 with *value set and the bytes used, or 3, or 7. Bytes after the number are not
+ * looked at. Of a tenth byte the lower four bits count. */
+uint64_t spop_decode_varint(const uint8_t *input, size_t input_len, uint64_t *value, uint64_t *at);
+
+#ifdef __cplusplus
+}
+#endif
+
+#endif

@@ -1,0 +1,38 @@
+//! The port's calls under their C names, and each in a form that Rust can call safely.
+
+/// Declares the calls. A build without the library gets calls that are never to be reached.
+macro_rules! c_calls {
+    ($(fn $name:ident($($arg:ident: $kind:ty),*) -> $answer:ty;)*) => {
+        #[cfg(feature = "port")]
+        unsafe extern "C" {
+            $(fn $name($($arg: $kind),*) -> $answer;)*
+        }
+        $(
+            #[cfg(not(feature = "port"))]
+            unsafe fn $name($(_: $kind),*) -> $answer {
+                unreachable!("built without the port")
+            }
+        )*
+    };
+}
+
+c_calls! {
+    fn spop_varint_len(n: u64) -> u64;
+    fn spop_encode_varint(n: u64, out: *mut u8, out_len: usize, at: *mut u64) -> u64;
+    fn spop_decode_varint(input: *const u8, input_len: usize, value: *mut u64, at: *mut u64) -> u64;
+}
+
+pub fn varint_len(n: u64) -> u64 {
+    // SAFETY: the call takes a number alone.
+    unsafe { spop_varint_len(n) }
+}
+
+pub fn encode_varint(n: u64, out: &mut [u8], at: &mut u64) -> u64 {
+    // SAFETY: the slice is lent with its length, and nothing lent overlaps.
+    unsafe { spop_encode_varint(n, out.as_mut_ptr(), out.len(), at) }
+}
+
+pub fn decode_varint(input: &[u8], value: &mut u64, at: &mut u64) -> u64 {
+    // SAFETY: the slice is lent with its length, and nothing lent overlaps.
+    unsafe { spop_decode_varint(input.as_ptr(), input.len(), value, at) }
+}
