@@ -32,8 +32,9 @@ module _ {A : Type 0} {a : Answer A} where
   pub told-done : {value : A} {n : ℕ} (before : A) → a ≡ done value n → Told a 0 n × (value ≡ valueOf a before)
   told-done before e = (record { says = sym (ap numberOf e); where-at = sym (ap atOf e) }, sym (ap (λ (b : Answer A). valueOf b before) e))
 
-  pub told-refused : {number place : ℕ} (before : A) → a ≡ refused number place → Told a number place × (before ≡ valueOf a before)
-  told-refused before e = (record { says = sym (ap numberOf e); where-at = sym (ap atOf e) }, sym (ap (λ (b : Answer A). valueOf b before) e))
+  pub told-refused : {number place r at : ℕ} (before : A) → a ≡ refused number place → (r ≡ number) × (at ≡ place) → Told a r at × (before ≡ valueOf a before)
+  told-refused before e t =
+      (record { says = t .0 ∙ sym (ap numberOf e); where-at = t .1 ∙ sym (ap atOf e) }, sym (ap (λ (b : Answer A). valueOf b before) e))
 
 -- a writer's own answer has the count alone, which is all that is told of it
 number-tells : (a : Answer (List ℕ)) → numberOf (tells a) ≡ numberOf a

@@ -42,10 +42,7 @@ pub extern "C" fn spop_decode_varint(input: &[u8], value: &mut u64, at: &mut u64
             *at = used as u64;
             DONE
         },
-        Number::Refused(r) => {
-            *at = r.place as u64;
-            r.number
-        },
+        Number::Refused(r) => refuse(r, at),
     }
 }
 
@@ -58,9 +55,14 @@ fn tell(answer: Written, at: &mut u64) -> u64
             *at = n as u64;
             DONE
         },
-        Written::Refused(r) => {
-            *at = r.place as u64;
-            r.number
-        },
+        Written::Refused(r) => refuse(r, at),
     }
+}
+
+// Any refusal.
+fn refuse(r: Refusal, at: &mut u64) -> u64
+    ensures { λ number. ⌜ (number ≡ r .number) × (now (at .exit) ≡ r .place) ⌝ }
+{
+    *at = r.place as u64;
+    r.number
 }

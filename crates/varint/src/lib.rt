@@ -4,6 +4,7 @@
 // refusing, and a refusal changes no byte.
 ghost use mathlib.Core.Path.{_≡_};
 ghost use Prim.Native.Nat.{_≤_, _<_, _^_};
+ghost use lib.Dec.{leb};
 ghost use lib.ListN.{length, drop};
 ghost use Rattle.varint.specs.Answer.{refused, written, within, leaves};
 ghost use Rattle.varint.specs.Number.{number, more, numberBytes, groups};
@@ -54,7 +55,7 @@ pub fn varint_len(i: u64) -> usize
 pub fn encode_varint(i: u64, out: &mut [u8]) -> Written
     ensures { λ r. ⌜ Writes (within (length (now (out .entry))) (written (numberBytes i))) r (now (out .entry)) (now (out .exit)) ⌝ }
 {
-    if out.len() < varint_len(i) {
+    if !has_room(i, out.len()) {
         return Written::Refused(Refusal {
             number: NO_ROOM,
             place: 0,
@@ -67,6 +68,16 @@ pub fn encode_varint(i: u64, out: &mut [u8]) -> Written
     out[0] = (240 + i % 16) as u8;
     let n = encode_more((i - 240) / 16, &mut out[1..]);
     Written::Done(1 + n)
+}
+
+// Whether the written form of i has at most `room` bytes. Ten are always enough, and spare the measuring.
+fn has_room(i: u64, room: usize) -> bool
+    ensures { λ r. ⌜ r ≡ leb (length (numberBytes i)) room ⌝ }
+{
+    if 10 <= room {
+        return true;
+    }
+    varint_len(i) <= room
 }
 
 // Writes what follows the first byte, where there is room.

@@ -16,12 +16,18 @@ enum-known-n c = search needs
 enum-known-r : tie.Need-enum-known-r
 enum-known-r c = search needs
 
+refuse-requires : tie.Need-refuse-requires
+refuse-requires c κs = search needs
+
 returns : tie.Need-returns
 returns c = told-done _ (sym (c .before .before .before .decode-varint .ensures) ∙ ap numberRead (c .before .n .given .1))
 
 returns-2 : tie.Need-returns-2
-returns-2 c = told-refused _ (sym (c .before .before .before .decode-varint .ensures) ∙ ap numberRead (c .before .r .given .1))
+returns-2 c =
+    let k = c .before .before .before in
+    told-refused _ (sym (k .before .before .decode-varint .ensures) ∙ ap numberRead (k .r .given .1)) (c .refuse .ensures)
 
 pub spop-decode-varint-spec : {M : Type 1} → statement M
 spop-decode-varint-spec =
-    tie.close (tie.spec decode-varint-requires enum-known-n enum-known-r returns returns-2)
+    tie.close
+    (tie.spec decode-varint-requires enum-known-n enum-known-r refuse-requires returns returns-2)

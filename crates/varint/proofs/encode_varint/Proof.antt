@@ -5,6 +5,7 @@ use borrow.Author.Needs.{needs}
 use Prim.Native.Nat.{_+_, _-_, _/_, _%_, _≤_}
 use mathlib.Core.Path.{_≡_, refl, sym, ap, _∙_}
 use mathlib.Core.List.{[], _∷_}
+use borrow.Author.Tests.{leb-true, leb-false, not-true, not-false}
 use native.Mathlib.Omega.{arith}
 use lib.ListN.{length, set, length-set, length-drop}
 use borrow.Rule.Slice.PartMut.{putMid}
@@ -17,7 +18,7 @@ use Rattle.varint.proofs.encode_varint.Tie as tie
 
 -- past the first test there is room for the number, and so for its first byte
 room : (c : tie.Else1) → length (numberBytes (c .before .before .before .args .i)) ≤ length (c .before .before .before .args .out .now)
-room c = omega (arith, c .if1 .left, c .before .varint-len .ensures)
+room c = leb-true _ _ (sym (c .before .has-room .ensures) ∙ not-false _ (c .if1 .left))
 
 room-one : (c : tie.Else1) → 1 ≤ length (c .before .before .before .args .out .now)
 room-one c = let a = c .before .before .before in omega (arith, room c, length-bounds (a .args .i) (a .fits .i .fits))
@@ -40,11 +41,11 @@ both c =
     rw (bytes e)
     (leaves-tail ((240 + i % 16) ∷ []) (groups 9 ((i - 240) / 16)) old _ _ 1 refl (leaves-byte (240 + i % 16) old (room-one (e .before))) (c .before .before .encode-more .ensures .1))
 
-varint-len-requires : tie.Need-varint-len-requires
-varint-len-requires c κs = search needs
+has-room-requires : tie.Need-has-room-requires
+has-room-requires c κs = search needs
 
 returns : tie.Need-returns
-returns c = writes-none (numberBytes (c .before .before .before .args .i)) _ (omega (arith, c .if1 .taken, c .before .varint-len .ensures))
+returns c = writes-none (numberBytes (c .before .before .before .args .i)) _ (leb-false _ _ (sym (c .before .has-room .ensures) ∙ not-true _ (c .if1 .taken)))
 
 cast-out : tie.Need-cast-out
 cast-out c = search needs
@@ -101,7 +102,7 @@ pub encode-varint-spec : {M : Type 1} → statement M
 encode-varint-spec =
     tie.close
     (tie.spec
-    varint-len-requires
+    has-room-requires
     returns
     cast-out
     slice-write-out

@@ -379,7 +379,7 @@ fn time_encode(name: &str, numbers: &[u64]) {
     let port = || {
         for &n in numbers {
             black_box(port::encode_varint(black_box(n), &mut lent, &mut at));
-            black_box((&lent, at));
+            black_box((&lent, &at));
         }
     };
     let mut grown = Vec::with_capacity(16);
@@ -393,7 +393,8 @@ fn time_encode(name: &str, numbers: &[u64]) {
     timing::race(name, numbers.len(), port, rust);
 }
 
-/// The numbers stand one behind the other, and each call is lent all from its number on.
+/// The numbers stand one behind the other, and each call is lent all from its number on. Of each
+/// answer the caller takes the number and the count of bytes.
 fn time_decode(name: &str, numbers: &[u64]) {
     let (mut bytes, mut starts) = (Vec::new(), Vec::new());
     for &n in numbers {
@@ -404,14 +405,19 @@ fn time_decode(name: &str, numbers: &[u64]) {
     let port = || {
         for &start in &starts {
             let input = black_box(&bytes[start..]);
-            black_box(port::decode_varint(input, &mut value, &mut at));
-            black_box((value, at));
+            if port::decode_varint(input, &mut value, &mut at) == 0 {
+                black_box(value);
+                black_box(at);
+            }
         }
     };
     let rust = || {
         for &start in &starts {
             let input = black_box(&bytes[start..]);
-            let _ = black_box(&rust_decode(input));
+            if let Ok((rest, value)) = rust_decode(input) {
+                black_box(value);
+                black_box(rest.len());
+            }
         }
     };
     timing::race(name, numbers.len(), port, rust);

@@ -1,0 +1,249 @@
+// Replays lists of the Rust's answers (`data/`, made by `oracle/run vectors`) on the port: how many agree, and the number
+// of each line that does not.
+//
+// A line is a letter, a space and fields with one space between: numbers as 16 hex digits, byte strings as hex pairs, an
+// empty one as `-`. oracle/README.md says what each letter stands for.
+ghost use Prim.Native.Nat.{_≤_, _<_};
+ghost use lib.ListN.{length};
+use libc::STDOUT_FILENO;
+use varint::Number;
+use varint::Written;
+
+// What a line turned out to be.
+enum Verdict {
+    Agrees,
+    Differs,
+    Unread,
+}
+
+// How many lines of each verdict.
+struct Counts {
+    agree: u64,
+    differ: u64,
+    unread: u64,
+}
+
+fn main() {
+    replay(b"numbers.txt");
+}
+
+fn replay(name: &[u8]) {
+    let file = os::open_read(name);
+    if file < 0 {
+        io::write_all(STDOUT_FILENO, name);
+        io::write_all(STDOUT_FILENO, b" cannot be opened\n");
+        return;
+    }
+    let mut text = io::large_buffer();
+    let n = io::read_full(file, &mut text);
+    libc::close(file);
+    let counts = lines(&text[0..n]);
+    io::write_all(STDOUT_FILENO, name);
+    io::write_all(STDOUT_FILENO, b": ");
+    io::print_decimal(STDOUT_FILENO, counts.agree);
+    io::write_all(STDOUT_FILENO, b" agree, ");
+    io::print_decimal(STDOUT_FILENO, counts.differ);
+    io::write_all(STDOUT_FILENO, b" differ, ");
+    io::print_decimal(STDOUT_FILENO, counts.unread);
+    io::write_all(STDOUT_FILENO, b" cannot be read\n");
+}
+
+fn lines(text: &[u8]) -> Counts {
+    let mut counts = Counts {
+        agree: 0,
+        differ: 0,
+        unread: 0,
+    };
+    let mut at = 0;
+    let mut line: u64 = 0;
+    while at < text.len() {
+        let end = line_end(text, at);
+        line = more(line);
+        counts = count(counts, judge(&text[at..end]), line);
+        at = end + 1;
+    }
+    counts
+}
+
+// Where the line that starts at `from` ends: at its newline, or at the end of the text.
+fn line_end(text: &[u8], from: usize) -> usize
+    requires { ⌜ from ≤ length (now text) ⌝ }
+    ensures { λ r. ⌜ (from ≤ r) × (r ≤ length (now (text .entry))) ⌝ }
+{
+    let mut end = from;
+    while end < text.len() {
+        if text[end] == b'\n' {
+            return end;
+        }
+        end += 1;
+    }
+    end
+}
+
+// The counts with one verdict more, and a line of output where it is not that the answers agree.
+fn count(counts: Counts, verdict: Verdict, line: u64) -> Counts {
+    match verdict {
+        Verdict::Agrees => Counts {
+            agree: more(counts.agree),
+            differ: counts.differ,
+            unread: counts.unread,
+        },
+        Verdict::Differs => {
+            say(line, b" differs\n");
+            Counts {
+                agree: counts.agree,
+                differ: more(counts.differ),
+                unread: counts.unread,
+            }
+        },
+        Verdict::Unread => {
+            say(line, b" cannot be read\n");
+            Counts {
+                agree: counts.agree,
+                differ: counts.differ,
+                unread: more(counts.unread),
+            }
+        },
+    }
+}
+
+fn say(line: u64, what: &[u8]) {
+    io::write_all(STDOUT_FILENO, b"line ");
+    io::print_decimal(STDOUT_FILENO, line);
+    io::write_all(STDOUT_FILENO, what);
+}
+
+// One more, up to what a u64 holds.
+fn more(n: u64) -> u64 {
+    if n < u64::MAX { n + 1 } else { n }
+}
+
+fn judge(line: &[u8]) -> Verdict {
+    if line.len() < 2 {
+        return Verdict::Unread;
+    }
+    let fields = &line[2..];
+    match line[0] {
+        b'l' => length_line(fields),
+        b'e' => encode_line(fields),
+        b'd' => decode_line(fields),
+        _ => Verdict::Unread,
+    }
+}
+
+fn agreed(same: bool) -> Verdict {
+    if same {
+        Verdict::Agrees
+    } else {
+        Verdict::Differs
+    }
+}
+
+// N LEN
+fn length_line(fields: &[u8]) -> Verdict {
+    if fields.len() != 33 {
+        return Verdict::Unread;
+    }
+    let n = number_of(&fields[0..16]);
+    let len = number_of(&fields[17..33]);
+    agreed(varint::varint_len(n) as u64 == len)
+}
+
+// N BYTES
+fn encode_line(fields: &[u8]) -> Verdict {
+    if fields.len() < 18 {
+        return Verdict::Unread;
+    }
+    let n = number_of(&fields[0..16]);
+    let mut want = [0u8; 16];
+    let length = bytes_of(&fields[17..], &mut want);
+    let mut out = [0u8; 10];
+    match varint::encode_varint(n, &mut out) {
+        Written::Done(k) => agreed(k == length && starts_with(&out, &want, length)),
+        Written::Refused(_) => Verdict::Differs,
+    }
+}
+
+// INPUT ANSWER AT VALUE
+fn decode_line(fields: &[u8]) -> Verdict {
+    if fields.len() < 52 {
+        return Verdict::Unread;
+    }
+    let end = fields.len() - 51;
+    let mut input = [0u8; 64];
+    let length = bytes_of(&fields[0..end], &mut input);
+    decoded(&input[0..length], &fields[end + 1..])
+}
+
+// ANSWER AT VALUE, of an input
+fn decoded(input: &[u8], fields: &[u8]) -> Verdict {
+    if fields.len() != 50 {
+        return Verdict::Unread;
+    }
+    let answer = number_of(&fields[0..16]);
+    let at = number_of(&fields[17..33]);
+    let value = number_of(&fields[34..]);
+    match varint::decode_varint(input) {
+        Number::Done { value: v, used } => agreed(answer == 0 && at == used as u64 && value == v),
+        Number::Refused(r) => agreed(answer == r.number && at == r.place as u64),
+    }
+}
+
+// The number that hex digits spell. Of more than 16 the last 16 count.
+fn number_of(text: &[u8]) -> u64 {
+    let mut n: u64 = 0;
+    let mut i = 0;
+    while i < text.len() {
+        n = n % 0x1000_0000_0000_0000 * 16 + digit(text[i]);
+        i += 1;
+    }
+    n
+}
+
+// The bytes whose hex pairs are the text, as many as there is room for; how many they are.
+fn bytes_of(text: &[u8], out: &mut [u8]) -> usize
+    ensures { λ r. ⌜ r ≤ length (now (out .exit)) ⌝ }
+{
+    let most = least(out.len(), text.len() / 2);
+    let mut n = 0;
+    while n < most {
+        out[n] = (digit(text[2 * n]) * 16 + digit(text[2 * n + 1])) as u8;
+        n += 1;
+    }
+    n
+}
+
+fn least(a: usize, b: usize) -> usize
+    ensures { λ r. ⌜ (r ≤ a) × (r ≤ b) ⌝ }
+{
+    if a < b { a } else { b }
+}
+
+// The value of a hex digit, 0 for any other byte.
+fn digit(b: u8) -> u64
+    ensures { λ r. ⌜ r < 16 ⌝ }
+{
+    match b {
+        b'0'..=b'9' => (b - b'0') as u64,
+        b'a'..=b'f' => (b - b'a') as u64 + 10,
+        _ => 0,
+    }
+}
+
+// Whether the first n bytes of both are there and the same.
+fn starts_with(a: &[u8], b: &[u8], n: usize) -> bool {
+    if a.len() < n {
+        return false;
+    }
+    if b.len() < n {
+        return false;
+    }
+    let mut i = 0;
+    while i < n {
+        if a[i] != b[i] {
+            return false;
+        }
+        i += 1;
+    }
+    true
+}
