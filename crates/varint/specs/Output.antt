@@ -135,3 +135,22 @@ writes-done bytes {old} {new} {r} {n} p is =
       rw (m, e) (take-at bytes (drop (length bytes) old) (length bytes) refl),
     ))
     (lt-or-le (length old) (length bytes))
+
+-- What it leaves where the caller knows that there is room.
+pub writes-room : (bytes : List ℕ) {old new : List ℕ} {r : Written}
+    → Writes (within (length old) (written bytes)) r old new → length bytes ≤ length old → new ≡ leaves (written bytes) old
+writes-room bytes {old} p h = simp (le-leb (length bytes) (length old) h) at (p .holds)
+
+-- ---- a writer that lends the tail of its output to another writer
+
+module _ (front bytes old out tail : List ℕ) (n : ℕ) {r : Written} (count : length front ≡ n)
+    (first : out ≡ leaves (written front) old)
+    (fit : length front + length bytes ≤ length old)
+    (then : Writes (within (length (take (length out - n) (drop n out))) (written bytes)) r (take (length out - n) (drop n out)) tail) where
+  tail-room : length bytes ≤ length (take (length out - n) (drop n out))
+  tail-room =
+      rw (lent-tail n out)
+      (omega (arith, length-drop n out, ap length first, leaves-length front old (omega arith)))
+
+  pub leaves-writes : putMid n (length out - n) out tail ≡ leaves (written (front ++ bytes)) old
+  leaves-writes = leaves-tail front bytes old out tail n count first (writes-room bytes then tail-room)

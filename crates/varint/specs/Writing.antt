@@ -108,3 +108,18 @@ length-bounds n h = (
   ⊎-elim (λ l. rw (bytes-one n l) (omega arith)) (λ l. rw (bytes-more n l) (omega arith)) (lt-or-le n 240),
   length-row 10 n h .1 (omega arith),
 )
+
+-- Of any number at all there are no more, since the count down starts at nine.
+groups-most : (left v : ℕ) → length (groups left v) ≤ left
+unfolding groups
+groups-most zero v = zero-le
+groups-most (suc left) v =
+    ⊎-elim (λ l. rw (groups-last left v l) (omega arith))
+    (λ l. rw (groups-on left v l) (suc-le-suc (groups-most left ((v - 128) / 128))))
+    (lt-or-le v 128)
+
+pub length-most : (n : ℕ) → length (numberBytes n) ≤ 10
+length-most n =
+    ⊎-elim (λ l. rw (bytes-one n l) (omega arith))
+    (λ l. rw (bytes-more n l) (suc-le-suc (groups-most 9 ((n - 240) / 16))))
+    (lt-or-le n 240)

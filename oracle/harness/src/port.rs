@@ -20,6 +20,9 @@ c_calls! {
     fn spop_varint_len(n: u64) -> u64;
     fn spop_encode_varint(n: u64, out: *mut u8, out_len: usize, at: *mut u64) -> u64;
     fn spop_decode_varint(input: *const u8, input_len: usize, value: *mut u64, at: *mut u64) -> u64;
+    fn spop_is_utf8(bytes: *const u8, len: usize) -> bool;
+    fn spop_same_text(a: *const u8, a_len: usize, b: *const u8, b_len: usize) -> bool;
+    fn spop_lossy_text(bytes: *const u8, len: usize, out: *mut u8, out_len: usize, at: *mut u64) -> u64;
 }
 
 pub fn varint_len(n: u64) -> u64 {
@@ -35,4 +38,19 @@ pub fn encode_varint(n: u64, out: &mut [u8], at: &mut u64) -> u64 {
 pub fn decode_varint(input: &[u8], value: &mut u64, at: &mut u64) -> u64 {
     // SAFETY: the slice is lent with its length, and nothing lent overlaps.
     unsafe { spop_decode_varint(input.as_ptr(), input.len(), value, at) }
+}
+
+pub fn is_utf8(bytes: &[u8]) -> bool {
+    // SAFETY: the slice is lent with its length.
+    unsafe { spop_is_utf8(bytes.as_ptr(), bytes.len()) }
+}
+
+pub fn same_text(a: &[u8], b: &[u8]) -> bool {
+    // SAFETY: each slice is lent with its length.
+    unsafe { spop_same_text(a.as_ptr(), a.len(), b.as_ptr(), b.len()) }
+}
+
+pub fn lossy_text(bytes: &[u8], out: &mut [u8], at: &mut u64) -> u64 {
+    // SAFETY: each slice is lent with its length, and nothing lent overlaps.
+    unsafe { spop_lossy_text(bytes.as_ptr(), bytes.len(), out.as_mut_ptr(), out.len(), at) }
 }

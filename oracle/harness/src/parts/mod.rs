@@ -30,4 +30,5 @@ macro_rules! parts {
 
 parts! {
     numbers,
+    text,
 }

@@ -1,0 +1,27 @@
+-- Frames: SPOE.txt, section 3.2.
+--
+--     <FRAME-LENGTH:4 bytes> <FRAME>
+--     FRAME       : <FRAME-TYPE:1 byte> <METADATA> <FRAME-PAYLOAD>
+--     METADATA    : <FLAGS:4 bytes> <STREAM-ID:varint> <FRAME-ID:varint>
+use mathlib.Core.Bool.{Bool, cond}
+use mathlib.Core.List.{List, [], _∷_, _++_}
+use Prim.Native.Nat.{ℕ, _+_, _/_, _%_, _^_}
+use lib.ListN.{length}
+use Rattle.varint.specs.Number.{numberBytes}
+use Rattle.frame.specs.declared.Head.{Head}
+
+-- "4 bytes in network byte order": the highest first
+unfoldable pub fourBytes : ℕ → List ℕ
+fourBytes n = n / 2 ^ 24 % 256 ∷ n / 2 ^ 16 % 256 ∷ n / 2 ^ 8 % 256 ∷ n % 256 ∷ []
+
+-- bit 0 is FIN, bit 1 is ABORT, the others are reserved
+abbrev pub flagsOf : Bool → Bool → ℕ
+flagsOf fin abort = cond fin 1 0 + cond abort 2 0
+
+-- from the type to the second number
+unfoldable pub headBytes : Head → List ℕ
+headBytes h = (h .kind ∷ fourBytes (flagsOf (h .fin) (h .abort))) ++ (numberBytes (h .stream) ++ numberBytes (h .frame))
+
+-- a whole frame: the length of what follows, the head, the payload
+unfoldable pub frameBytes : Head → List ℕ → List ℕ
+frameBytes h payload = fourBytes (length (headBytes h ++ payload)) ++ (headBytes h ++ payload)
