@@ -1,0 +1,49 @@
+-- Going on over several bytes at once: what every walk over a text needs of it.
+use mathlib.Core.Path.{_≡_, refl, sym, ap, _∙_}
+use mathlib.Core.Bool.{Bool, true, false, _&&_}
+use mathlib.Core.List.{List, [], _∷_, _++_}
+use Prim.Native.Nat.{ℕ, zero, suc, _+_, _-_, _≤_, _<_}
+use native.Mathlib.Omega.{arith}
+use lib.ListN.{length, take, drop, length-drop, take-append-drop}
+use lib.Seq.{drop-drop, length-take-le}
+use Rattle.utf8.specs.Text.{Step, ends, char, mark, step, size, whole, becomes, isUtf8, lossy}
+use Rattle.utf8.specs.Stepping.{Bounded, step-bounds}
+use Rattle.utf8.specs.Lossy.{lossy-on, isUtf8-on, lossy-front, isUtf8-front}
+
+-- As a step does, x takes some bytes off the front of s, and says what they become.
+pub record Advances (s : List ℕ) (x : Step) : Type 0 where
+  pub text : lossy s ≡ becomes x s ++ lossy (drop (size x) s)
+  pub well : isUtf8 s ≡ whole x && isUtf8 (drop (size x) s)
+  pub there : size x ≤ length s
+  pub moves : 1 ≤ length s → 1 ≤ size x
+
+-- a step does
+pub step-advances : (s : List ℕ) → Advances s (step s)
+step-advances s = record { text = lossy-on s; well = isUtf8-on s; there = go (step s) (step-bounds s) .0; moves = go (step s) (step-bounds s) .1 }
+  where
+    go : (x : Step) → Bounded x (length s) → (size x ≤ length s) × (1 ≤ length s → 1 ≤ size x)
+    go ends b = (omega arith, λ h. absurd (omega arith))
+    go (char n) b = (b .1, λ h. b .0)
+    go (mark n) b = (b .1, λ h. b .0)
+
+-- and so does a well-formed text at the front
+pub text-advances : (s : List ℕ) (n : ℕ) → 1 ≤ n → n ≤ length s → isUtf8 (take n s) ≡ true → Advances s (char n)
+text-advances s n some there e = record {
+  text = ap lossy (sym (take-append-drop n s)) ∙ lossy-front (drop n s) (take n s) e;
+  well = ap isUtf8 (sym (take-append-drop n s)) ∙ isUtf8-front (drop n s) (take n s) e;
+  there = there;
+  moves = λ h. some;
+}
+
+-- one that takes no byte is at the end
+pub advances-end : (s : List ℕ) → Advances s ends → length s ≡ 0
+advances-end [] a = refl
+advances-end (b ∷ s) a = absurd (omega (arith, a .moves (omega arith)))
+
+-- What a loop learns that has come to `at`: the bytes from there on are s, and it goes on over n of them.
+module _ (bytes : List ℕ) (at : ℕ) where
+  pub rest-there : (n : ℕ) → n ≤ length (drop at bytes) → at ≤ length bytes → at + n ≤ length bytes
+  rest-there n h g = omega (arith, length-drop at bytes)
+
+  pub rest-some : at < length bytes → 1 ≤ length (drop at bytes)
+  rest-some h = omega (arith, length-drop at bytes)
