@@ -5,3 +5,4 @@ pub mod Stepping
 pub mod Lossy
 pub mod Same
 pub mod Advance
+pub mod Parts

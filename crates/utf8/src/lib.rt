@@ -1,12 +1,18 @@
 // Text: well-formed UTF-8, lossy text and texts that are the same (the Unicode standard, section 3.9).
 //
 // No public call has a `requires`, and a refusal changes no byte.
+use varint::NO_ROOM;
+use varint::Refusal;
+use varint::Written;
 ghost use mathlib.Core.Path.{_≡_};
 ghost use Prim.Native.Nat.{suc, _-_, _≤_};
 ghost use lib.ListN.{length, drop};
-ghost use Rattle.utf8.specs.Text.{inside, follow, front, taken, step, isUtf8};
+ghost use lib.Dec.{leb};
+ghost use Rattle.varint.specs.Answer.{written, within, leaves};
+ghost use Rattle.varint.specs.Promise.{Writes};
+ghost use Rattle.utf8.specs.Text.{inside, follow, front, taken, step, size, becomes, isUtf8, lossy};
 ghost use Rattle.utf8.specs.Promise.{asRange, seen};
-ghost use Rattle.utf8.specs.Advance.{Advances};
+ghost use Rattle.utf8.specs.Advance.{Advances, textSize};
 
 // The bytes from the first to the last.
 struct Range {
@@ -200,4 +206,102 @@ pub fn is_utf8(bytes: &[u8]) -> bool
         at += n;
     }
     true
+}
+
+// Writes the lossy text of the bytes at the front of `out`.
+pub fn lossy_text(bytes: &[u8], out: &mut [u8]) -> Written
+    ensures { λ r. ⌜ Writes (within (length (now (out .entry))) (written (lossy (now (bytes .entry))))) r (now (out .entry)) (now (out .exit)) ⌝ }
+{
+    if !has_room(bytes, out.len()) {
+        return Written::Refused(Refusal {
+            number: NO_ROOM,
+            place: 0,
+        });
+    }
+    let n = write_lossy(bytes, out);
+    Written::Done(n)
+}
+
+// Whether so many bytes are enough for the lossy text.
+fn has_room(bytes: &[u8], room: usize) -> bool
+    ensures { λ r. ⌜ r ≡ leb (length (lossy (now (bytes .entry)))) room ⌝ }
+{
+    let mut at = 0;
+    let mut left = room;
+    while at < bytes.len() {
+        let x = stride(&bytes[at..]);
+        let needs = text_len(x);
+        if left < needs {
+            return false;
+        }
+        left -= needs;
+        at += step_len(x);
+    }
+    true
+}
+
+// Writes the lossy text, where there is room.
+fn write_lossy(bytes: &[u8], out: &mut [u8]) -> usize
+    requires { ⌜ length (lossy (now bytes)) ≤ length (now out) ⌝ }
+    ensures { λ r. ⌜ r ≡ length (lossy (now (bytes .entry))) ⌝ }
+    ensures { λ r. ⌜ now (out .exit) ≡ leaves (written (lossy (now (bytes .entry)))) (now (out .entry)) ⌝ }
+{
+    let mut at = 0;
+    let mut n = 0;
+    while at < bytes.len() {
+        let x = stride(&bytes[at..]);
+        put(&bytes[at..], x, &mut out[n..]);
+        n += text_len(x);
+        at += step_len(x);
+    }
+    n
+}
+
+// How many bytes a step takes, and how many it becomes.
+fn step_len(x: Step) -> usize
+    ensures { λ r. ⌜ r ≡ size (seen x) ⌝ }
+{
+    match x {
+        Step::End => 0,
+        Step::Char(n) => n,
+        Step::Mark(n) => n,
+    }
+}
+
+fn text_len(x: Step) -> usize
+    ensures { λ r. ⌜ r ≡ textSize (seen x) ⌝ }
+{
+    match x {
+        Step::End => 0,
+        Step::Char(n) => n,
+        Step::Mark(_) => 3,
+    }
+}
+
+// Writes what a step at the front of `s` becomes, where there is room.
+fn put(s: &[u8], x: Step, out: &mut [u8])
+    requires { ⌜ size (seen x) ≤ length (now s) ⌝ }
+    requires { ⌜ textSize (seen x) ≤ length (now out) ⌝ }
+    ensures { λ r. ⌜ now (out .exit) ≡ leaves (written (becomes (seen x) (now (s .entry)))) (now (out .entry)) ⌝ }
+{
+    match x {
+        Step::End => {}
+        Step::Char(n) => copy(&s[..n], out),
+        Step::Mark(_) => {
+            out[0] = 0xEF;
+            out[1] = 0xBF;
+            out[2] = 0xBD;
+        }
+    }
+}
+
+fn copy(s: &[u8], out: &mut [u8])
+    requires { ⌜ length (now s) ≤ length (now out) ⌝ }
+    ensures { λ r. ⌜ now (out .exit) ≡ leaves (written (now (s .entry))) (now (out .entry)) ⌝ }
+{
+    let mut i = 0;
+    while i < s.len() {
+        out[i] = s[i];
+        i += 1;
+    }
 }
