@@ -56,6 +56,15 @@ advances-length s x a =
     ∙ length-append (becomes x s) (lossy (drop (size x) s))
     ∙ ap (λ (n : ℕ). n + length (lossy (drop (size x) s))) (becomes-length s x (a .there))
 
+-- bytes become bytes
+pub lossy-some : (s : List ℕ) → 1 ≤ length s → 1 ≤ length (lossy s)
+lossy-some s h = let e = advances-length s (step s) (step-advances s) in omega (arith, go (step s) (step-bounds s))
+  where
+    go : (x : Step) → Bounded x (length s) → 1 ≤ textSize x
+    go ends b = absurd (omega arith)
+    go (char n) b = b .0
+    go (mark n) b = omega arith
+
 -- room for a text, less what it becomes, is room for the rest
 pub room-on : (s : List ℕ) (x : Step) (room : ℕ) → Advances s x → textSize x ≤ room
     → leb (length (lossy s)) room ≡ leb (length (lossy (drop (size x) s))) (room - textSize x)

@@ -6,3 +6,5 @@ pub mod Lossy
 pub mod Same
 pub mod Advance
 pub mod Parts
+pub mod Walk
+pub mod Unique

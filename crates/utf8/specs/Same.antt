@@ -6,10 +6,11 @@ use mathlib.Core.List.{List, [], _∷_, _++_}
 use Prim.Native.Nat.{ℕ, zero, suc, _+_, _-_, _*_, _≤_, _<_, zero-le, suc-le-suc}
 use native.Mathlib.Omega.{arith}
 use native.Mathlib.Decide.{ℕ-discrete}
-use lib.Dec.{eqb}
-use lib.ListN.{length, take, drop}
-use lib.Seq.{take-at, length-take-le}
-use borrow.Author.Tests.{eq-eqb, eqb-true}
+use lib.Dec.{eqb, eqb·suc-zero}
+use lib.ListN.{length, take, drop, getD}
+use native.Mathlib.Numerals.{add-one}
+use lib.Seq.{drop-cons, take-at, length-take-le}
+use borrow.Author.Tests.{eq-eqb, ne-eqb, eqb-true}
 use Rattle.utf8.specs.Text.{Step, ends, char, mark, step, size, becomes, isUtf8, lossy, same, sameText}
 use Rattle.utf8.specs.Stepping.{bool-cases, Bounded, step-bounds, step-none}
 use Rattle.utf8.specs.Lossy.{empty, not-both, lossy-on, lossy-none, lossy-char, lossy-mark, lossy-same, lossy-step-char, lossy-step-mark, char-bounds}
@@ -36,6 +37,16 @@ same-iff s t = (same-true s t, λ e. rw e (same-refl t))
 
 pub same-apart : (s t : List ℕ) → (s ≡ t → ⊥) → same s t ≡ false
 same-apart s t ne = bool-cases (same s t) (λ e. absurd (ne (same-true s t e))) (λ e. e)
+
+-- one byte of each
+module _ (s t : List ℕ) (i : ℕ) (h : i < length s) (g : i < length t) where
+  pub same-next : getD s i 0 ≡ getD t i 0 → same (drop i s) (drop i t) ≡ same (drop (i + 1) s) (drop (i + 1) t)
+  unfolding same
+  same-next e = rw (add-one, drop-cons s i 0 h, drop-cons t i 0 g) (simp (eq-eqb (getD s i 0) (getD t i 0) e))
+
+  pub same-stop : (getD s i 0 ≡ getD t i 0 → ⊥) → same (drop i s) (drop i t) ≡ false
+  unfolding same
+  same-stop ne = rw (drop-cons s i 0 h, drop-cons t i 0 g) (simp (ne-eqb (getD s i 0) (getD t i 0) ne))
 
 pub same-front : (p s t : List ℕ) → same (p ++ s) (p ++ t) ≡ same s t
 unfolding same
@@ -98,3 +109,13 @@ unfolding sameText
 same-text-off s t e =
     same-apart (lossy s) (lossy t)
     (λ q. not-both (same-iff (piece s) (piece t) .1 (sym (piece-lossy s) ∙ ap piece q ∙ piece-lossy t)) e)
+
+-- ---- at the end
+
+pub same-length : (s t : List ℕ) → (length s ≡ length t → ⊥) → same s t ≡ false
+same-length s t ne = same-apart s t (λ e. ne (ap length e))
+
+pub same-none : (t : List ℕ) → same [] t ≡ eqb (length t) 0
+unfolding same
+same-none [] = refl
+same-none (b ∷ t) = sym (eqb·suc-zero (length t))

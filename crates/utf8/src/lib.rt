@@ -10,9 +10,10 @@ ghost use lib.ListN.{length, drop};
 ghost use lib.Dec.{leb};
 ghost use Rattle.varint.specs.Answer.{written, within, leaves};
 ghost use Rattle.varint.specs.Promise.{Writes};
-ghost use Rattle.utf8.specs.Text.{inside, follow, front, taken, step, size, becomes, isUtf8, lossy};
+ghost use Rattle.utf8.specs.Text.{inside, follow, front, taken, step, size, becomes, isUtf8, lossy, same, sameText};
 ghost use Rattle.utf8.specs.Promise.{asRange, seen};
 ghost use Rattle.utf8.specs.Advance.{Advances, textSize};
+ghost use Rattle.utf8.specs.Walk.{Walks};
 
 // The bytes from the first to the last.
 struct Range {
@@ -304,4 +305,77 @@ fn copy(s: &[u8], out: &mut [u8])
         out[i] = s[i];
         i += 1;
     }
+}
+
+// Whether the lossy texts are the same, by walking both at once.
+pub fn same_text(a: &[u8], b: &[u8]) -> bool
+    ensures { λ r. ⌜ r ≡ sameText (now (a .entry)) (now (b .entry)) ⌝ }
+{
+    let mut i = 0;
+    let mut j = 0;
+    while i < a.len() {
+        let Both::On(m, n) = both_stride(&a[i..], &b[j..]) else {
+            return false;
+        };
+        i += m;
+        j += n;
+    }
+    j == b.len()
+}
+
+// How far one can go on at once in two texts that start in the same way.
+enum Both {
+    Apart,
+    On(usize, usize),
+}
+
+fn both_stride(a: &[u8], b: &[u8]) -> Both
+    ensures { λ r. ⌜ Walks (now (a .entry)) (now (b .entry)) r ⌝ }
+{
+    let x = front_step(a);
+    let y = front_step(b);
+    if !same_start(a, x, b, y) {
+        return Both::Apart;
+    }
+    Both::On(step_len(x), step_len(y))
+}
+
+// Whether two steps at the front of `a` and `b` become the same.
+fn same_start(a: &[u8], x: Step, b: &[u8], y: Step) -> bool
+    requires { ⌜ size (seen x) ≤ length (now a) ⌝ }
+    requires { ⌜ size (seen y) ≤ length (now b) ⌝ }
+    ensures { λ r. ⌜ r ≡ same (becomes (seen x) (now (a .entry))) (becomes (seen y) (now (b .entry))) ⌝ }
+{
+    match x {
+        Step::End => starts_as(&[], b, y),
+        Step::Char(n) => starts_as(&a[..n], b, y),
+        Step::Mark(_) => starts_as(&[0xEF, 0xBF, 0xBD], b, y),
+    }
+}
+
+fn starts_as(text: &[u8], b: &[u8], y: Step) -> bool
+    requires { ⌜ size (seen y) ≤ length (now b) ⌝ }
+    ensures { λ r. ⌜ r ≡ same (now (text .entry)) (becomes (seen y) (now (b .entry))) ⌝ }
+{
+    match y {
+        Step::End => same_bytes(text, &[]),
+        Step::Char(n) => same_bytes(text, &b[..n]),
+        Step::Mark(_) => same_bytes(text, &[0xEF, 0xBF, 0xBD]),
+    }
+}
+
+fn same_bytes(a: &[u8], b: &[u8]) -> bool
+    ensures { λ r. ⌜ r ≡ same (now (a .entry)) (now (b .entry)) ⌝ }
+{
+    if a.len() != b.len() {
+        return false;
+    }
+    let mut i = 0;
+    while i < a.len() {
+        if a[i] != b[i] {
+            return false;
+        }
+        i += 1;
+    }
+    true
 }
