@@ -1,0 +1,10 @@
+pub mod Text
+pub mod Promise
+pub mod Table
+pub mod Stepping
+pub mod Lossy
+pub mod Same
+pub mod Advance
+pub mod Parts
+pub mod Walk
+pub mod Unique
