@@ -15,6 +15,7 @@
 #ifndef SPOP_H
 #define SPOP_H
 
+#include <stdbool.h>
 #include <stddef.h>
 #include <stdint.h>
 
@@ -31,6 +32,16 @@ uint64_t spop_encode_varint(uint64_t n, uint8_t *out, size_t out_len, uint64_t *
 /* Reads the number at the front of input. 0 with *value set and the bytes used, or 3, or 7. Bytes after the number are not
  * looked at. Of a tenth byte the lower four bits count. */
 uint64_t spop_decode_varint(const uint8_t *input, size_t input_len, uint64_t *value, uint64_t *at);
+
+/* Whether the bytes are well-formed UTF-8 (Unicode, table 3-7). */
+bool spop_is_utf8(const uint8_t *bytes, size_t len);
+
+/* Whether the two have the same lossy text, in which each maximal subpart of an ill-formed sequence is U+FFFD (EF BF BD). Keys
+ * are compared so. For well-formed texts it is equality of bytes. */
+bool spop_same_text(const uint8_t *a, size_t a_len, const uint8_t *b, size_t b_len);
+
+/* Writes the lossy text of the bytes at the front of out. 0 with its length, at most 3 * len, or 11. */
+uint64_t spop_lossy_text(const uint8_t *bytes, size_t len, uint8_t *out, size_t out_len, uint64_t *at);
 
 #ifdef __cplusplus
 }

@@ -2,6 +2,8 @@
 //
 // The same examples are proved of the definitions, as one statement over a list, in specs/Examples.antt. Here the built
 // code is run on them: a line for each, which ends in "as marked" where the answer is the paper's.
+ghost use Prim.Native.Nat.{_≤_};
+ghost use lib.ListN.{length};
 use libc::STDOUT_FILENO;
 use varint::Number;
 use varint::Refusal;
@@ -19,6 +21,7 @@ struct Answer {
 
 fn main() {
     numbers();
+    texts();
 }
 
 // Numbers that are written and read back, and byte strings that no number is written as.
@@ -70,6 +73,46 @@ fn numbers() {
     );
 }
 
+// Lossy texts, with FF for each mark: document 01's, and the tables of the Unicode standard's section 3.9.
+fn texts() {
+    becomes(&[0xED, 0xA0, 0x80], &[0xFF, 0xFF, 0xFF]);
+    becomes(&[0xE2, 0x82], &[0xFF]);
+    becomes(
+        &[0xC0, 0xAF, 0xE0, 0x80, 0xBF, 0xF0, 0x81, 0x82, 0x41],
+        &[0xFF, 0xFF, 0xFF, 0xFF, 0xFF, 0xFF, 0xFF, 0xFF, 0x41],
+    );
+    becomes(
+        &[0xED, 0xA0, 0x80, 0xED, 0xBF, 0xBF, 0xED, 0xAF, 0x41],
+        &[0xFF, 0xFF, 0xFF, 0xFF, 0xFF, 0xFF, 0xFF, 0xFF, 0x41],
+    );
+    becomes(
+        &[0xF4, 0x91, 0x92, 0x93, 0xFF, 0x41, 0x80, 0xBF, 0x42],
+        &[0xFF, 0xFF, 0xFF, 0xFF, 0xFF, 0x41, 0xFF, 0xFF, 0x42],
+    );
+    becomes(
+        &[0xE1, 0x80, 0xE2, 0xF0, 0x91, 0x92, 0xF1, 0xBF, 0x41],
+        &[0xFF, 0xFF, 0xFF, 0xFF, 0x41],
+    );
+    becomes(
+        &[
+            0x61,
+            0xF1,
+            0x80,
+            0x80,
+            0xE1,
+            0x80,
+            0xC2,
+            0x62,
+            0x80,
+            0x63,
+            0x80,
+            0xBF,
+            0x64,
+        ],
+        &[0x61, 0xFF, 0xFF, 0xFF, 0x62, 0xFF, 0x63, 0xFF, 0xFF, 0x64],
+    );
+}
+
 // n is written as these bytes, and they read as n.
 fn both(n: u64, bytes: &[u8]) {
     writes(n, bytes);
@@ -117,6 +160,58 @@ fn reads(input: &[u8], marked: Answer) {
             verdict(marked.number == r.number && marked.at == r.place);
         },
     }
+}
+
+fn becomes(bytes: &[u8], marked: &[u8]) {
+    let mut out = [0u8; 64];
+    let answer = utf8::lossy_text(bytes, &mut out);
+    io::write_all(STDOUT_FILENO, b"text ");
+    print_bytes(bytes);
+    io::write_all(STDOUT_FILENO, b": ");
+    match answer {
+        Written::Done(k) => {
+            print_bytes(&out[..k]);
+            verdict(is_text(&out[..k], marked));
+        },
+        Written::Refused(r) => {
+            refused(r);
+            verdict(false);
+        },
+    }
+}
+
+// Whether the text is these bytes, with EF BF BD for each FF.
+fn is_text(text: &[u8], marked: &[u8]) -> bool {
+    let mut at = 0;
+    let mut i = 0;
+    while i < marked.len() {
+        let n = stands_for(&text[at..], marked[i]);
+        if n == 0 {
+            return false;
+        }
+        at += n;
+        i += 1;
+    }
+    at == text.len()
+}
+
+// How many bytes at the front of the text stand for this one, and 0 where they do not.
+fn stands_for(text: &[u8], byte: u8) -> usize
+    ensures { λ r. ⌜ r ≤ length (now (text .entry)) ⌝ }
+{
+    if text.len() == 0 {
+        return 0;
+    }
+    if byte != 0xFF {
+        return if text[0] == byte { 1 } else { 0 };
+    }
+    if text.len() < 3 {
+        return 0;
+    }
+    if check::same(&text[0..3], &[0xEF, 0xBF, 0xBD]) {
+        return 3;
+    }
+    0
 }
 
 fn refused(r: Refusal) {

@@ -25,6 +25,7 @@ struct Counts {
 
 fn main() {
     replay(b"numbers.txt");
+    replay(b"text.txt");
 }
 
 fn replay(name: &[u8]) {
@@ -57,27 +58,27 @@ fn lines(text: &[u8]) -> Counts {
     let mut at = 0;
     let mut line: u64 = 0;
     while at < text.len() {
-        let end = line_end(text, at);
+        let rest = &text[at..];
+        let n = find(rest, b'\n');
         line = more(line);
-        counts = count(counts, judge(&text[at..end]), line);
-        at = end + 1;
+        counts = count(counts, judge(&rest[0..n]), line);
+        at = at + n + 1;
     }
     counts
 }
 
-// Where the line that starts at `from` ends: at its newline, or at the end of the text.
-fn line_end(text: &[u8], from: usize) -> usize
-    requires { ⌜ from ≤ length (now text) ⌝ }
-    ensures { λ r. ⌜ (from ≤ r) × (r ≤ length (now (text .entry))) ⌝ }
+// Where the byte first stands, or the text's length.
+fn find(text: &[u8], byte: u8) -> usize
+    ensures { λ r. ⌜ r ≤ length (now (text .entry)) ⌝ }
 {
-    let mut end = from;
-    while end < text.len() {
-        if text[end] == b'\n' {
-            return end;
+    let mut at = 0;
+    while at < text.len() {
+        if text[at] == byte {
+            return at;
         }
-        end += 1;
+        at += 1;
     }
-    end
+    at
 }
 
 // The counts with one verdict more, and a line of output where it is not that the answers agree.
@@ -127,6 +128,9 @@ fn judge(line: &[u8]) -> Verdict {
         b'l' => length_line(fields),
         b'e' => encode_line(fields),
         b'd' => decode_line(fields),
+        b't' => lossy_line(fields),
+        b'u' => form_line(fields),
+        b's' => same_line(fields),
         _ => Verdict::Unread,
     }
 }
@@ -187,6 +191,55 @@ fn decoded(input: &[u8], fields: &[u8]) -> Verdict {
         Number::Done { value: v, used } => agreed(answer == 0 && at == used as u64 && value == v),
         Number::Refused(r) => agreed(answer == r.number && at == r.place as u64),
     }
+}
+
+// BYTES TEXT
+fn lossy_line(fields: &[u8]) -> Verdict {
+    let gap = find(fields, b' ');
+    if gap == fields.len() {
+        return Verdict::Unread;
+    }
+    let mut bytes = [0u8; 64];
+    let n = bytes_of(&fields[0..gap], &mut bytes);
+    let mut want = [0u8; 192];
+    let length = bytes_of(&fields[gap + 1..], &mut want);
+    let mut out = [0u8; 192];
+    match utf8::lossy_text(&bytes[0..n], &mut out) {
+        Written::Done(k) => agreed(k == length && starts_with(&out, &want, length)),
+        Written::Refused(_) => Verdict::Differs,
+    }
+}
+
+// YES BYTES
+fn form_line(fields: &[u8]) -> Verdict {
+    if fields.len() < 18 {
+        return Verdict::Unread;
+    }
+    let yes = number_of(&fields[0..16]);
+    let mut bytes = [0u8; 64];
+    let n = bytes_of(&fields[17..], &mut bytes);
+    agreed(utf8::is_utf8(&bytes[0..n]) == (yes == 1))
+}
+
+// YES BYTES BYTES
+fn same_line(fields: &[u8]) -> Verdict {
+    if fields.len() < 18 {
+        return Verdict::Unread;
+    }
+    let yes = number_of(&fields[0..16]);
+    same_fields(yes == 1, &fields[17..])
+}
+
+fn same_fields(yes: bool, fields: &[u8]) -> Verdict {
+    let gap = find(fields, b' ');
+    if gap == fields.len() {
+        return Verdict::Unread;
+    }
+    let mut a = [0u8; 64];
+    let m = bytes_of(&fields[0..gap], &mut a);
+    let mut b = [0u8; 192];
+    let n = bytes_of(&fields[gap + 1..], &mut b);
+    agreed(utf8::same_text(&a[0..m], &b[0..n]) == yes)
 }
 
 // The number that hex digits spell. Of more than 16 the last 16 count.

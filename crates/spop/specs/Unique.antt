@@ -1,10 +1,12 @@
 -- No second result, and no second content of what is lent, meets the promise of a call.
 use mathlib.Core.Path.{_≡_, sym, _∙_}
+use mathlib.Core.Bool.{Bool}
 use mathlib.Core.List.{List}
 use Prim.Native.Nat.{ℕ}
 use lib.ListN.{length}
 use Rattle.varint.specs.Answer.{Answer, written, within, leaves}
 use Rattle.varint.specs.Number.{number, numberBytes}
+use Rattle.utf8.specs.Text.{isUtf8, lossy, sameText}
 use Rattle.spop.specs.Told.{Told, valueOf}
 
 -- what two results that meet the same equations have in common
@@ -20,17 +22,21 @@ call-unique : {A B : Type 0} {a : Answer A} {x y left : B} {r q at also : ℕ}
     → (r ≡ q) × (at ≡ also) × (x ≡ y)
 call-unique p q = let t = told-unique (p .0) (q .0) in (t .0, t .1, one-only (p .1) (q .1))
 
+-- of any writer
+writer-unique : (bytes old new other : List ℕ) (r q at also : ℕ)
+    → Told (within (length old) (written bytes)) r at × (new ≡ leaves (within (length old) (written bytes)) old)
+    → Told (within (length old) (written bytes)) q also × (other ≡ leaves (within (length old) (written bytes)) old)
+    → (r ≡ q) × (at ≡ also) × (new ≡ other)
+writer-unique bytes old new other r q at also p s = call-unique p s
+
 pub spop-varint-len-unique : (n r q : ℕ) → r ≡ length (numberBytes n) → q ≡ length (numberBytes n) → r ≡ q
 spop-varint-len-unique n r q p s = one-only p s
 
-module _ (n : ℕ) (old : List ℕ) where
-  abbrev encoded : Answer (List ℕ)
-  encoded = within (length old) (written (numberBytes n))
-
-  pub spop-encode-varint-unique : (new other : List ℕ) (r q at also : ℕ)
-      → Told encoded r at × (new ≡ leaves encoded old) → Told encoded q also × (other ≡ leaves encoded old)
-      → (r ≡ q) × (at ≡ also) × (new ≡ other)
-  spop-encode-varint-unique new other r q at also p s = call-unique p s
+pub spop-encode-varint-unique : (n : ℕ) (old new other : List ℕ) (r q at also : ℕ)
+    → Told (within (length old) (written (numberBytes n))) r at × (new ≡ leaves (within (length old) (written (numberBytes n))) old)
+    → Told (within (length old) (written (numberBytes n))) q also × (other ≡ leaves (within (length old) (written (numberBytes n))) old)
+    → (r ≡ q) × (at ≡ also) × (new ≡ other)
+spop-encode-varint-unique n = writer-unique (numberBytes n)
 
 module _ (input : List ℕ) (before : ℕ) where
   pub spop-decode-varint-unique : (value other r q at also : ℕ)
@@ -38,3 +44,15 @@ module _ (input : List ℕ) (before : ℕ) where
       → Told (number input) q also × (other ≡ valueOf (number input) before)
       → (r ≡ q) × (at ≡ also) × (value ≡ other)
   spop-decode-varint-unique value other r q at also p s = call-unique p s
+
+pub spop-is-utf8-unique : (s : List ℕ) (r q : Bool) → r ≡ isUtf8 s → q ≡ isUtf8 s → r ≡ q
+spop-is-utf8-unique s r q p o = one-only p o
+
+pub spop-same-text-unique : (s t : List ℕ) (r q : Bool) → r ≡ sameText s t → q ≡ sameText s t → r ≡ q
+spop-same-text-unique s t r q p o = one-only p o
+
+pub spop-lossy-text-unique : (s old new other : List ℕ) (r q at also : ℕ)
+    → Told (within (length old) (written (lossy s))) r at × (new ≡ leaves (within (length old) (written (lossy s))) old)
+    → Told (within (length old) (written (lossy s))) q also × (other ≡ leaves (within (length old) (written (lossy s))) old)
+    → (r ≡ q) × (at ≡ also) × (new ≡ other)
+spop-lossy-text-unique s = writer-unique (lossy s)

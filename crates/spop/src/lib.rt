@@ -8,6 +8,7 @@ ghost use lib.ListN.{length};
 ghost use Rattle.varint.specs.Answer.{written, within, leaves};
 ghost use Rattle.varint.specs.Number.{number, numberBytes};
 ghost use Rattle.varint.specs.Promise.{count, numberRead};
+ghost use Rattle.utf8.specs.Text.{isUtf8, lossy, sameText};
 ghost use Rattle.spop.specs.Told.{Told, valueOf};
 use varint::Number;
 use varint::Refusal;
@@ -44,6 +45,29 @@ pub extern "C" fn spop_decode_varint(input: &[u8], value: &mut u64, at: &mut u64
         },
         Number::Refused(r) => refuse(r, at),
     }
+}
+
+#[no_mangle]
+pub extern "C" fn spop_is_utf8(bytes: &[u8]) -> bool
+    ensures { λ r. ⌜ r ≡ isUtf8 (now (bytes .entry)) ⌝ }
+{
+    utf8::is_utf8(bytes)
+}
+
+#[no_mangle]
+pub extern "C" fn spop_same_text(a: &[u8], b: &[u8]) -> bool
+    ensures { λ r. ⌜ r ≡ sameText (now (a .entry)) (now (b .entry)) ⌝ }
+{
+    utf8::same_text(a, b)
+}
+
+#[no_mangle]
+pub extern "C" fn spop_lossy_text(bytes: &[u8], out: &mut [u8], at: &mut u64) -> u64
+    ensures { λ r. ⌜ Told (within (length (now (out .entry))) (written (lossy (now (bytes .entry))))) r (now (at .exit)) ⌝ }
+    ensures { λ r. ⌜ now (out .exit) ≡ leaves (within (length (now (out .entry))) (written (lossy (now (bytes .entry))))) (now (out .entry)) ⌝ }
+{
+    let answer = utf8::lossy_text(bytes, out);
+    tell(answer, at)
 }
 
 // What any writer answered.

@@ -1,16 +1,16 @@
--- `replay::line_end` meets its contract: `end` goes up from `from`, and stops at the length at the latest.
+-- `replay::find` meets its contract: `at` goes up and stops at the length at the latest.
 -- Assumes nothing.
 use Prim.Native.Nat.{_-_, _≤_}
 use borrow.Author.Needs.{needs}
 use lib.ListN.{length}
-use Rattle.replay.proofs.line_end.Statement.{statement}
-use Rattle.replay.proofs.line_end.Tie as tie
+use Rattle.replay.proofs.find.Statement.{statement}
+use Rattle.replay.proofs.find.Tie as tie
 
 abbrev Inv-loop : tie.InvT-loop
-Inv-loop text from end₀ end = (from ≤ end) × (end ≤ length text)
+Inv-loop text byte at₀ at = at ≤ length text
 
 abbrev μ-loop : tie.MeasureT-loop
-μ-loop text from end₀ end = length text - end
+μ-loop text byte at₀ at = length text - at
 
 loop-holds : tie.Need-loop-holds Inv-loop μ-loop
 loop-holds c = search needs
@@ -21,8 +21,8 @@ shared-slice-read-if1 c = search needs
 returns : tie.Need-returns Inv-loop μ-loop
 returns c = search needs
 
-add-end : tie.Need-add-end Inv-loop μ-loop
-add-end c = search needs
+add-at : tie.Need-add-at Inv-loop μ-loop
+add-at c = search needs
 
 loop-less : tie.Need-loop-less Inv-loop μ-loop
 loop-less c = search needs
@@ -33,8 +33,8 @@ loop-again c = search needs
 returns-2 : tie.Need-returns-2 Inv-loop μ-loop
 returns-2 c = search needs
 
-pub line-end-spec : {M : Type 1} → statement M
-line-end-spec =
+pub find-spec : {M : Type 1} → statement M
+find-spec =
     tie.close
     (tie.spec
     Inv-loop
@@ -42,7 +42,7 @@ line-end-spec =
     loop-holds
     shared-slice-read-if1
     returns
-    add-end
+    add-at
     loop-less
     loop-again
     returns-2)
