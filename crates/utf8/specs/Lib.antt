@@ -3,6 +3,7 @@ pub mod Promise
 pub mod Table
 pub mod Stepping
 pub mod Lossy
+pub mod Ascii
 pub mod Same
 pub mod Advance
 pub mod Parts

@@ -6,12 +6,13 @@ use varint::Refusal;
 use varint::Written;
 ghost use mathlib.Core.Path.{_≡_};
 ghost use Prim.Native.Nat.{suc, _-_, _≤_};
-ghost use lib.ListN.{length, drop};
+ghost use lib.ListN.{length, take, drop};
 ghost use lib.Dec.{leb};
 ghost use Rattle.varint.specs.Answer.{written, within, leaves};
 ghost use Rattle.varint.specs.Promise.{Writes};
 ghost use Rattle.utf8.specs.Text.{inside, follow, front, taken, step, size, becomes, isUtf8, lossy, same, sameText};
 ghost use Rattle.utf8.specs.Promise.{asRange, seen};
+ghost use Rattle.utf8.specs.Ascii.{ascii};
 ghost use Rattle.utf8.specs.Advance.{Advances, textSize};
 ghost use Rattle.utf8.specs.Walk.{Walks};
 
@@ -188,11 +189,31 @@ fn step_on(s: &[u8], bytes: usize, second: Range) -> Step
     Step::Char(at)
 }
 
-// How far one can go on at once from the front of `s`: over a step.
+// How far one can go on at once from the front of `s`: over eight bytes of ASCII, or over a step.
 fn stride(s: &[u8]) -> Step
     ensures { λ r. ⌜ Advances (now (s .entry)) (seen r) ⌝ }
 {
+    if 8 <= s.len() {
+        if eight_ascii(s) {
+            return Step::Char(8);
+        }
+    }
     front_step(s)
+}
+
+// Whether the first eight bytes are ASCII. No test waits for the one before, so the compiler can take them together.
+fn eight_ascii(s: &[u8]) -> bool
+    requires { ⌜ 8 ≤ length (now s) ⌝ }
+    ensures { λ r. ⌜ r ≡ ascii (take 8 (now (s .entry))) ⌝ }
+{
+    (s[0] < 128)
+        & (s[1] < 128)
+        & (s[2] < 128)
+        & (s[3] < 128)
+        & (s[4] < 128)
+        & (s[5] < 128)
+        & (s[6] < 128)
+        & (s[7] < 128)
 }
 
 // Whether the bytes are well-formed UTF-8.
