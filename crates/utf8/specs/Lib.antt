@@ -1,4 +1,5 @@
 pub mod Text
+pub mod Leading
 pub mod Promise
 pub mod Table
 pub mod Stepping

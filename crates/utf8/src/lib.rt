@@ -10,8 +10,9 @@ ghost use lib.ListN.{length, take, drop};
 ghost use lib.Dec.{leb};
 ghost use Rattle.varint.specs.Answer.{written, within, leaves};
 ghost use Rattle.varint.specs.Promise.{Writes};
-ghost use Rattle.utf8.specs.Text.{inside, follow, front, taken, step, size, becomes, isUtf8, lossy, same, sameText};
-ghost use Rattle.utf8.specs.Promise.{asRange, seen};
+ghost use Rattle.utf8.specs.Text.{rows, inside, follow, front, taken, step, size, becomes, isUtf8, lossy, same, sameText};
+ghost use Rattle.utf8.specs.Promise.{asRange, seen, ledBy};
+ghost use Rattle.utf8.specs.Leading.{rowFor};
 ghost use Rattle.utf8.specs.Ascii.{ascii};
 ghost use Rattle.utf8.specs.Advance.{Advances, textSize};
 ghost use Rattle.utf8.specs.Walk.{Walks};
@@ -146,15 +147,34 @@ fn front_step(s: &[u8]) -> Step
         return Step::End;
     }
     let lead = s[0];
+    // ASCII is the first row, and by far the most frequent.
+    if lead < 128 {
+        return Step::Char(1);
+    }
+    match lead_row(lead) {
+        Lead::Unused => Step::Mark(1),
+        Lead::In(r) => step_on(s, r.bytes, r.second),
+    }
+}
+
+// The row in whose range a first byte is, if there is one.
+enum Lead {
+    Unused,
+    In(Row),
+}
+
+fn lead_row(lead: u8) -> Lead
+    ensures { λ r. ⌜ ledBy r ≡ rowFor rows lead ⌝ }
+{
     let mut i = 0;
     while i < 9 {
         let r = ROWS[i];
         if in_range(lead, r.lead) {
-            return step_on(s, r.bytes, r.second);
+            return Lead::In(r);
         }
         i += 1;
     }
-    Step::Mark(1)
+    Lead::Unused
 }
 
 fn in_range(byte: u8, range: Range) -> bool
