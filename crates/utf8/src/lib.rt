@@ -5,6 +5,7 @@ use varint::NO_ROOM;
 use varint::Refusal;
 use varint::Written;
 ghost use mathlib.Core.Path.{_≡_};
+ghost use mathlib.Core.Bool.{_&&_};
 ghost use Prim.Native.Nat.{suc, _-_, _≤_};
 ghost use lib.ListN.{length, take, drop};
 ghost use lib.Dec.{leb};
@@ -371,6 +372,37 @@ enum Both {
 }
 
 fn both_stride(a: &[u8], b: &[u8]) -> Both
+    ensures { λ r. ⌜ Walks (now (a .entry)) (now (b .entry)) r ⌝ }
+{
+    if 8 <= a.len() {
+        if 8 <= b.len() {
+            if eight_same(a, b) {
+                return Both::On(8, 8);
+            }
+        }
+    }
+    both_step(a, b)
+}
+
+// Whether the first eight bytes are ASCII and the same.
+fn eight_same(a: &[u8], b: &[u8]) -> bool
+    requires { ⌜ 8 ≤ length (now a) ⌝ }
+    requires { ⌜ 8 ≤ length (now b) ⌝ }
+    ensures { λ r. ⌜ r ≡ ascii (take 8 (now (a .entry))) && same (take 8 (now (a .entry))) (take 8 (now (b .entry))) ⌝ }
+{
+    eight_ascii(a)
+        & (a[0] == b[0])
+        & (a[1] == b[1])
+        & (a[2] == b[2])
+        & (a[3] == b[3])
+        & (a[4] == b[4])
+        & (a[5] == b[5])
+        & (a[6] == b[6])
+        & (a[7] == b[7])
+}
+
+// A step of each.
+fn both_step(a: &[u8], b: &[u8]) -> Both
     ensures { λ r. ⌜ Walks (now (a .entry)) (now (b .entry)) r ⌝ }
 {
     let x = front_step(a);
