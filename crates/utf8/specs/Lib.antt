@@ -1,8 +1,10 @@
 pub mod Text
+pub mod Leading
 pub mod Promise
 pub mod Table
 pub mod Stepping
 pub mod Lossy
+pub mod Ascii
 pub mod Same
 pub mod Advance
 pub mod Parts

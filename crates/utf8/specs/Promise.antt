@@ -4,6 +4,9 @@ use Rattle.utf8.specs.declared.Range as g
 use Rattle.utf8.specs.declared.Row as r
 use Rattle.utf8.specs.declared.Step as t
 use Rattle.utf8.specs.declared.Step.the-variants as s
+use Rattle.utf8.specs.declared.Lead as l
+use Rattle.utf8.specs.declared.Lead.the-variants as v
+use Rattle.utf8.specs.Leading.{Led, unused, led}
 use Rattle.utf8.specs.Text.{Range, _to_, Row, row, Step, ends, char, mark}
 
 -- a range and a row of the code's table
@@ -18,3 +21,8 @@ abbrev pub seen : t.Step → Step
 seen s.End = ends
 seen (s.Char n) = char n
 seen (s.Mark n) = mark n
+
+-- the row that the code found for a first byte
+abbrev pub ledBy : l.Lead → Led
+ledBy v.Unused = unused
+ledBy (v.In x) = led (asRow x)

@@ -10,6 +10,7 @@ use lib.Dec.{leb, eqb, T}
 use lib.ListN.{length, take, drop, getD, drop-of-length-le}
 use lib.Seq.{drop-cons, drop-drop}
 use borrow.Author.Tests.{le-leb, lt-leb, eq-eqb, ne-eqb, eqb-true, leb-true}
+use Rattle.utf8.specs.Leading.{unused, led, rowFor, stepFor}
 use Rattle.utf8.specs.Text.{Range, _to_, Row, row, rows, follow, places, starts, inside, front, Step, ends, char, mark, taken, stepIn, step, size, replacement}
 
 -- a Bool is one of the two
@@ -223,10 +224,32 @@ unfolding step
 step-ends [] h = refl
 step-ends (b ∷ s) h = absurd (omega arith)
 
-pub step-some : (s : List ℕ) → 1 ≤ length s → step s ≡ stepIn rows s
+-- ---- by the first byte alone
+
+module _ (lead second : Range) (bytes : ℕ) (rs : List Row) (b : ℕ) where
+  pub rowFor-past : inside lead b ≡ false → rowFor (row lead second bytes ∷ rs) b ≡ rowFor rs b
+  unfolding rowFor
+  rowFor-past e = simp e
+
+  pub rowFor-here : inside lead b ≡ true → rowFor (row lead second bytes ∷ rs) b ≡ led (row lead second bytes)
+  unfolding rowFor
+  rowFor-here e = simp e
+
+pub rowFor-none : (b : ℕ) → rowFor [] b ≡ unused
+unfolding rowFor
+rowFor-none b = refl
+
+stepIn-for : (rs : List Row) (b : ℕ) (s : List ℕ) → stepIn rs (b ∷ s) ≡ stepFor (rowFor rs b) (b ∷ s)
+stepIn-for [] b s = rw (rowFor-none b) (stepIn-none (b ∷ s))
+stepIn-for (row lead second bytes ∷ rs) b s =
+    bool-cases (inside lead b)
+    (λ e. rw (rowFor-here lead second bytes rs b e) (stepIn-here lead second bytes rs (b ∷ s) e))
+    (λ e. rw (rowFor-past lead second bytes rs b e) (stepIn-past lead second bytes rs (b ∷ s) e ∙ stepIn-for rs b s))
+
+pub step-for : (s : List ℕ) → 1 ≤ length s → step s ≡ stepFor (rowFor rows (getD s 0 0)) s
 unfolding step
-step-some [] h = absurd (omega arith)
-step-some (b ∷ s) h = refl
+step-for [] h = absurd (omega arith)
+step-for (b ∷ s) h = stepIn-for rows b s
 
 -- ---- two steps that are known
 
@@ -242,3 +265,7 @@ step-replacement t = refl
 pub step-ascii : (b : ℕ) (s : List ℕ) → b < 128 → step (b ∷ s) ≡ char 1
 unfolding step stepIn rows follow front inside
 step-ascii b s h = simp (le-leb 0 b zero-le, le-leb b 127 (omega arith))
+
+pub step-ascii-front : (s : List ℕ) → 1 ≤ length s → getD s 0 0 < 128 → step s ≡ char 1
+step-ascii-front [] h g = absurd (omega arith)
+step-ascii-front (b ∷ s) h g = step-ascii b s g

@@ -5,13 +5,16 @@ use varint::NO_ROOM;
 use varint::Refusal;
 use varint::Written;
 ghost use mathlib.Core.Path.{_≡_};
+ghost use mathlib.Core.Bool.{_&&_};
 ghost use Prim.Native.Nat.{suc, _-_, _≤_};
-ghost use lib.ListN.{length, drop};
+ghost use lib.ListN.{length, take, drop};
 ghost use lib.Dec.{leb};
 ghost use Rattle.varint.specs.Answer.{written, within, leaves};
 ghost use Rattle.varint.specs.Promise.{Writes};
-ghost use Rattle.utf8.specs.Text.{inside, follow, front, taken, step, size, becomes, isUtf8, lossy, same, sameText};
-ghost use Rattle.utf8.specs.Promise.{asRange, seen};
+ghost use Rattle.utf8.specs.Text.{rows, inside, follow, front, taken, step, size, becomes, isUtf8, lossy, same, sameText};
+ghost use Rattle.utf8.specs.Promise.{asRange, seen, ledBy};
+ghost use Rattle.utf8.specs.Leading.{rowFor};
+ghost use Rattle.utf8.specs.Ascii.{ascii};
 ghost use Rattle.utf8.specs.Advance.{Advances, textSize};
 ghost use Rattle.utf8.specs.Walk.{Walks};
 
@@ -145,15 +148,34 @@ fn front_step(s: &[u8]) -> Step
         return Step::End;
     }
     let lead = s[0];
+    // ASCII is the first row, and by far the most frequent.
+    if lead < 128 {
+        return Step::Char(1);
+    }
+    match lead_row(lead) {
+        Lead::Unused => Step::Mark(1),
+        Lead::In(r) => step_on(s, r.bytes, r.second),
+    }
+}
+
+// The row in whose range a first byte is, if there is one.
+enum Lead {
+    Unused,
+    In(Row),
+}
+
+fn lead_row(lead: u8) -> Lead
+    ensures { λ r. ⌜ ledBy r ≡ rowFor rows lead ⌝ }
+{
     let mut i = 0;
     while i < 9 {
         let r = ROWS[i];
         if in_range(lead, r.lead) {
-            return step_on(s, r.bytes, r.second);
+            return Lead::In(r);
         }
         i += 1;
     }
-    Step::Mark(1)
+    Lead::Unused
 }
 
 fn in_range(byte: u8, range: Range) -> bool
@@ -188,11 +210,31 @@ fn step_on(s: &[u8], bytes: usize, second: Range) -> Step
     Step::Char(at)
 }
 
-// How far one can go on at once from the front of `s`: over a step.
+// How far one can go on at once from the front of `s`: over eight bytes of ASCII, or over a step.
 fn stride(s: &[u8]) -> Step
     ensures { λ r. ⌜ Advances (now (s .entry)) (seen r) ⌝ }
 {
+    if 8 <= s.len() {
+        if eight_ascii(s) {
+            return Step::Char(8);
+        }
+    }
     front_step(s)
+}
+
+// Whether the first eight bytes are ASCII. No test waits for the one before, so the compiler can take them together.
+fn eight_ascii(s: &[u8]) -> bool
+    requires { ⌜ 8 ≤ length (now s) ⌝ }
+    ensures { λ r. ⌜ r ≡ ascii (take 8 (now (s .entry))) ⌝ }
+{
+    (s[0] < 128)
+        & (s[1] < 128)
+        & (s[2] < 128)
+        & (s[3] < 128)
+        & (s[4] < 128)
+        & (s[5] < 128)
+        & (s[6] < 128)
+        & (s[7] < 128)
 }
 
 // Whether the bytes are well-formed UTF-8.
@@ -330,6 +372,37 @@ enum Both {
 }
 
 fn both_stride(a: &[u8], b: &[u8]) -> Both
+    ensures { λ r. ⌜ Walks (now (a .entry)) (now (b .entry)) r ⌝ }
+{
+    if 8 <= a.len() {
+        if 8 <= b.len() {
+            if eight_same(a, b) {
+                return Both::On(8, 8);
+            }
+        }
+    }
+    both_step(a, b)
+}
+
+// Whether the first eight bytes are ASCII and the same.
+fn eight_same(a: &[u8], b: &[u8]) -> bool
+    requires { ⌜ 8 ≤ length (now a) ⌝ }
+    requires { ⌜ 8 ≤ length (now b) ⌝ }
+    ensures { λ r. ⌜ r ≡ ascii (take 8 (now (a .entry))) && same (take 8 (now (a .entry))) (take 8 (now (b .entry))) ⌝ }
+{
+    eight_ascii(a)
+        & (a[0] == b[0])
+        & (a[1] == b[1])
+        & (a[2] == b[2])
+        & (a[3] == b[3])
+        & (a[4] == b[4])
+        & (a[5] == b[5])
+        & (a[6] == b[6])
+        & (a[7] == b[7])
+}
+
+// A step of each.
+fn both_step(a: &[u8], b: &[u8]) -> Both
     ensures { λ r. ⌜ Walks (now (a .entry)) (now (b .entry)) r ⌝ }
 {
     let x = front_step(a);
