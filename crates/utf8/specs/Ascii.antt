@@ -1,13 +1,14 @@
 -- Bytes below 128 are text, each a character of its own.
 use mathlib.Core.Path.{_≡_, refl, sym, _∙_}
 use mathlib.Core.Bool.{Bool, true, false, _&&_, and-assoc, and-true}
-use mathlib.Core.List.{List, [], _∷_}
-use Prim.Native.Nat.{ℕ, suc, _<_, _≤_}
+use mathlib.Core.List.{List, [], _∷_, _++_}
+use Prim.Native.Nat.{ℕ, suc, _+_, _-_, _<_, _≤_, zero-le}
+use native.Mathlib.Numerals.{add-one}
 use native.Mathlib.Omega.{arith}
 use lib.Dec.{ltb}
 use lib.ListN.{length, take, drop, getD}
-use lib.Seq.{drop-cons}
-use borrow.Author.Tests.{ltb-true}
+use lib.Seq.{drop-cons, take-add, take-suc}
+use borrow.Author.Tests.{ltb-true, lt-ltb}
 use Rattle.utf8.specs.Text.{isUtf8}
 use Rattle.utf8.specs.Stepping.{bool-cases, step-ascii}
 use Rattle.utf8.specs.Lossy.{not-both, isUtf8-none, isUtf8-char}
@@ -38,3 +39,31 @@ pub ascii-eight : (s : List ℕ) → 8 ≤ length s
     → ltb (getD s 0 0) 128 && ltb (getD s 1 0) 128 && ltb (getD s 2 0) 128 && ltb (getD s 3 0) 128 && ltb (getD s 4 0) 128 && ltb (getD s 5 0) 128 && ltb (getD s 6 0) 128 && ltb (getD s 7 0) 128
     ≡ ascii (take 8 s)
 ascii-eight s h = simp (ascii-next s 7 0 (omega arith), ascii-next s 6 1 (omega arith), ascii-next s 5 2 (omega arith), ascii-next s 4 3 (omega arith), ascii-next s 3 4 (omega arith), ascii-next s 2 5 (omega arith), ascii-next s 1 6 (omega arith), ascii-next s 0 7 (omega arith), ascii-none, and-assoc, and-true)
+
+-- ---- as far as it goes
+
+-- the first n bytes are there and are ASCII
+pub record AsciiTo (s : List ℕ) (n : ℕ) : Type 0 where
+  pub there : n ≤ length s
+  pub are : ascii (take n s) ≡ true
+
+ascii-both : (s t : List ℕ) → ascii s ≡ true → ascii t ≡ true → ascii (s ++ t) ≡ true
+unfolding ascii
+ascii-both [] t p q = q
+ascii-both (b ∷ s) t p q =
+    bool-cases (ltb b 128)
+    (λ e. simp e (ascii-both s t (simp e at p) q))
+    (λ e. let f = simp e at p in not-both f refl)
+
+pub ascii-to-none : (s : List ℕ) → AsciiTo s 0
+ascii-to-none s = record { there = zero-le; are = ascii-none }
+
+pub ascii-to-eight : (s : List ℕ) (n : ℕ) → AsciiTo s n → 8 ≤ length s - n → ascii (take 8 (drop n s)) ≡ true → AsciiTo s (n + 8)
+ascii-to-eight s n a h e = record { there = omega (arith, a .there); are = rw (take-add n 8 s) (ascii-both (take n s) (take 8 (drop n s)) (a .are) e) }
+
+pub ascii-to-one : (s : List ℕ) (n : ℕ) → AsciiTo s n → n < length s → getD s n 0 < 128 → AsciiTo s (n + 1)
+unfolding ascii
+ascii-to-one s n a h e = record {
+  there = omega arith;
+  are = rw (add-one, take-suc s n 0 h) (ascii-both (take n s) (getD s n 0 ∷ []) (a .are) (simp (lt-ltb (getD s n 0) 128 e)));
+}

@@ -14,7 +14,7 @@ ghost use Rattle.varint.specs.Promise.{Writes};
 ghost use Rattle.utf8.specs.Text.{rows, inside, follow, front, taken, step, size, becomes, isUtf8, lossy, same, sameText};
 ghost use Rattle.utf8.specs.Promise.{asRange, seen, ledBy};
 ghost use Rattle.utf8.specs.Leading.{rowFor};
-ghost use Rattle.utf8.specs.Ascii.{ascii};
+ghost use Rattle.utf8.specs.Ascii.{ascii, AsciiTo};
 ghost use Rattle.utf8.specs.Advance.{Advances, textSize};
 ghost use Rattle.utf8.specs.Walk.{Walks};
 
@@ -210,16 +210,44 @@ fn step_on(s: &[u8], bytes: usize, second: Range) -> Step
     Step::Char(at)
 }
 
-// How far one can go on at once from the front of `s`: over eight bytes of ASCII, or over a step.
+// How far one can go on at once from the front of `s`: over all ASCII that stands there, or over a step.
 fn stride(s: &[u8]) -> Step
     ensures { λ r. ⌜ Advances (now (s .entry)) (seen r) ⌝ }
 {
-    if 8 <= s.len() {
-        if eight_ascii(s) {
-            return Step::Char(8);
-        }
+    let n = ascii_run(s, ascii_eights(s));
+    if 0 < n {
+        return Step::Char(n);
     }
     front_step(s)
+}
+
+// How many bytes of ASCII stand at the front, where the first n are.
+fn ascii_run(s: &[u8], n: usize) -> usize
+    requires { ⌜ AsciiTo (now s) n ⌝ }
+    ensures { λ r. ⌜ AsciiTo (now (s .entry)) r ⌝ }
+{
+    let mut at = n;
+    while at < s.len() {
+        if 128 <= s[at] {
+            return at;
+        }
+        at += 1;
+    }
+    at
+}
+
+// As many of them as come in eights.
+fn ascii_eights(s: &[u8]) -> usize
+    ensures { λ r. ⌜ AsciiTo (now (s .entry)) r ⌝ }
+{
+    let mut at = 0;
+    while 8 <= s.len() - at {
+        if !eight_ascii(&s[at..]) {
+            return at;
+        }
+        at += 8;
+    }
+    at
 }
 
 // Whether the first eight bytes are ASCII. No test waits for the one before, so the compiler can take them together.
