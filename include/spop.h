@@ -6,6 +6,7 @@
  *    3  too soon        the bytes end inside what is read; *at: for a number, the end of the input
  *    7  too large       a number over 2^64-1 or of more than ten bytes; *at: right after the byte that broke it
  *   11  no room         the output is too short; *at: 0
+ *   13  size too small  a frame size is under 256; *at: 0
  *
  * *at is always set. Whatever else is lent changes only after 0, and of an output only the bytes that are written.
  *
@@ -42,6 +43,13 @@ bool spop_same_text(const uint8_t *a, size_t a_len, const uint8_t *b, size_t b_l
 
 /* Writes the lossy text of the bytes at the front of out. 0 with its length, at most 3 * len, or 11. */
 uint64_t spop_lossy_text(const uint8_t *bytes, size_t len, uint8_t *out, size_t out_len, uint64_t *at);
+
+/* The frame size that both sides can keep to: 0 with *at the smaller one, or 13 where either is under 256. */
+uint64_t spop_negotiate_max_frame_size(uint32_t theirs, uint32_t ours, uint64_t *at);
+
+/* Each three numbers of versions are an announced version (major, minor, patch); one or two left over are not read. True where
+ * one of them has the major number 2, and then version is set to 2, 0, 0; else it stays. */
+bool spop_negotiate_version(const uint64_t *versions, size_t versions_len, uint64_t version[3]);
 
 #ifdef __cplusplus
 }

@@ -4,16 +4,19 @@ use mathlib.Core.List.{List, [], _∷_}
 use Prim.Native.Nat.{ℕ, _+_, _-_, _^_}
 use lib.ListN.{length}
 use Rattle.varint.specs.Answer.{Answer, done, refused}
+use Rattle.hello.specs.Hello.{frameSize}
 use Rattle.varint.specs.Number.{worth, more, number, groups, numberBytes}
 
--- what the paper says: a number is these bytes, written and read; or some bytes are read so
+-- what the paper says: a number is these bytes, written and read; some bytes are read so; two frame sizes settle so
 pub data Example : Type 0 where
   is : ℕ → List ℕ → Example
   reads : List ℕ → Answer ℕ → Example
+  sizes : ℕ → ℕ → Answer Unit → Example
 
 abbrev pub Holds : Example → Type 0
 Holds (is n bytes) = (numberBytes n ≡ bytes) × (number bytes ≡ done n (length bytes))
 Holds (reads bytes answer) = number bytes ≡ answer
+Holds (sizes theirs ours answer) = frameSize theirs ours ≡ answer
 
 abbrev pub All : List Example → Type 0
 All [] = Unit
@@ -30,8 +33,11 @@ examples =
     (done (240 + 2 ^ 11 + 2 ^ 18 + 2 ^ 25 + 2 ^ 32 + 2 ^ 39 + 2 ^ 46 + 2 ^ 53 + 2 ^ 60) 10)
     ∷ reads (0xF0 ∷ 0x80 ∷ 0x80 ∷ 0x80 ∷ 0x80 ∷ 0x80 ∷ 0x80 ∷ 0x80 ∷ 0x80 ∷ 0x0F ∷ []) (refused 7 10)
     ∷ reads (0xF0 ∷ 0x80 ∷ 0x80 ∷ 0x80 ∷ 0x80 ∷ 0x80 ∷ 0x80 ∷ 0x80 ∷ 0x80 ∷ 0x80 ∷ 0x00 ∷ []) (refused 7 11)
+    ∷ sizes 255 256 (refused 13 0)
+    ∷ sizes 256 255 (refused 13 0)
+    ∷ sizes 256 256 (done tt 256)
     ∷ []
 
 pub marked : All examples
-unfolding worth more number groups numberBytes
-marked = ((refl, refl), ((refl, refl), ((refl, refl), ((refl, refl), ((refl, refl), (refl, (refl, (refl, tt))))))))
+unfolding worth more number groups numberBytes frameSize
+marked = ((refl, refl), ((refl, refl), ((refl, refl), ((refl, refl), ((refl, refl), (refl, (refl, (refl, (refl, (refl, (refl, tt)))))))))))

@@ -4,6 +4,7 @@
 // code is run on them: a line for each, which ends in "as marked" where the answer is the paper's.
 ghost use Prim.Native.Nat.{_≤_};
 ghost use lib.ListN.{length};
+use hello::Size;
 use libc::STDOUT_FILENO;
 use varint::Number;
 use varint::Refusal;
@@ -22,6 +23,7 @@ struct Answer {
 fn main() {
     numbers();
     texts();
+    sizes();
 }
 
 // Numbers that are written and read back, and byte strings that no number is written as.
@@ -111,6 +113,55 @@ fn texts() {
         ],
         &[0x61, 0xFF, 0xFF, 0xFF, 0x62, 0xFF, 0x63, 0xFF, 0xFF, 0x64],
     );
+}
+
+// Frame sizes of both sides, and what they settle on.
+fn sizes() {
+    size(
+        255,
+        256,
+        Answer {
+            number: 13,
+            at: 0,
+            value: 0,
+        },
+    );
+    size(
+        256,
+        255,
+        Answer {
+            number: 13,
+            at: 0,
+            value: 0,
+        },
+    );
+    size(
+        256,
+        256,
+        Answer {
+            number: 0,
+            at: 256,
+            value: 0,
+        },
+    );
+}
+
+fn size(theirs: u32, ours: u32, marked: Answer) {
+    io::write_all(STDOUT_FILENO, b"sizes ");
+    io::print_decimal(STDOUT_FILENO, theirs as u64);
+    io::write_all(STDOUT_FILENO, b" and ");
+    io::print_decimal(STDOUT_FILENO, ours as u64);
+    io::write_all(STDOUT_FILENO, b": ");
+    match hello::negotiate_max_frame_size(theirs, ours) {
+        Size::Agreed(n) => {
+            io::print_decimal(STDOUT_FILENO, n as u64);
+            verdict(marked.number == 0 && marked.at == n as usize);
+        },
+        Size::Refused(r) => {
+            refused(r);
+            verdict(marked.number == r.number && marked.at == r.place);
+        },
+    }
 }
 
 // n is written as these bytes, and they read as n.

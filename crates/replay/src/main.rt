@@ -5,6 +5,8 @@
 // empty one as `-`. oracle/README.md says what each letter stands for.
 ghost use Prim.Native.Nat.{_≤_, _<_};
 ghost use lib.ListN.{length};
+use hello::Chosen;
+use hello::Size;
 use libc::STDOUT_FILENO;
 use varint::Number;
 use varint::Written;
@@ -26,6 +28,7 @@ struct Counts {
 fn main() {
     replay(b"numbers.txt");
     replay(b"text.txt");
+    replay(b"hello.txt");
 }
 
 fn replay(name: &[u8]) {
@@ -131,6 +134,8 @@ fn judge(line: &[u8]) -> Verdict {
         b't' => lossy_line(fields),
         b'u' => form_line(fields),
         b's' => same_line(fields),
+        b'z' => size_line(fields),
+        b'n' => version_line(fields),
         _ => Verdict::Unread,
     }
 }
@@ -240,6 +245,55 @@ fn same_fields(yes: bool, fields: &[u8]) -> Verdict {
     let mut b = [0u8; 192];
     let n = bytes_of(&fields[gap + 1..], &mut b);
     agreed(utf8::same_text(&a[0..m], &b[0..n]) == yes)
+}
+
+// THEIRS OURS ANSWER AT
+fn size_line(fields: &[u8]) -> Verdict {
+    if fields.len() != 67 {
+        return Verdict::Unread;
+    }
+    let theirs = number_of(&fields[0..16]);
+    let ours = number_of(&fields[17..33]);
+    let answer = number_of(&fields[34..50]);
+    let at = number_of(&fields[51..]);
+    match hello::negotiate_max_frame_size(low(theirs), low(ours)) {
+        Size::Agreed(n) => agreed(answer == 0 && at == n as u64),
+        Size::Refused(r) => agreed(answer == r.number && at == r.place as u64),
+    }
+}
+
+// The low 32 bits.
+fn low(n: u64) -> u32 {
+    (n % 0x1_0000_0000) as u32
+}
+
+// YES and any count of numbers
+fn version_line(fields: &[u8]) -> Verdict {
+    if fields.len() < 16 {
+        return Verdict::Unread;
+    }
+    let yes = number_of(&fields[0..16]);
+    let mut versions = [0u64; 15];
+    let n = numbers_of(&fields[16..], &mut versions);
+    match hello::negotiate_version(&versions[0..n]) {
+        Chosen::Version(v) => agreed(yes == 1 && v.major == 2 && v.minor == 0 && v.patch == 0),
+        Chosen::None => agreed(yes == 0),
+    }
+}
+
+// The numbers of a text of a space and 16 hex digits for each, as many as there is room for; how many they are.
+fn numbers_of(text: &[u8], out: &mut [u64]) -> usize
+    ensures { λ r. ⌜ r ≤ length (now (out .exit)) ⌝ }
+{
+    let most = least(out.len(), text.len() / 17);
+    let mut n = 0;
+    while n < most {
+        let from = 17 * n + 1;
+        let to = from + 16;
+        out[n] = number_of(&text[from..to]);
+        n += 1;
+    }
+    n
 }
 
 // The number that hex digits spell. Of more than 16 the last 16 count.

@@ -1,11 +1,12 @@
 -- What a call under a C name hands over of an answer: the paper's number as its result, 0 for done; through `at` what goes with
 -- it, the bytes used or written, or the place; and through what else is lent the value, which stays where there is none.
 use mathlib.Core.Path.{_≡_, refl, sym, ap, _∙_}
-use mathlib.Core.List.{List}
+use mathlib.Core.List.{List, [], _∷_}
 use Prim.Native.Nat.{ℕ}
 use Rattle.varint.specs.declared.Written.{Written}
 use Rattle.varint.specs.Answer.{Answer, done, refused, tells}
 use Rattle.varint.specs.Promise.{count, Writes}
+use Rattle.hello.specs.Hello.{Choice, version, none}
 
 module _ {A : Type 0} where
   abbrev pub numberOf : Answer A → ℕ
@@ -24,6 +25,11 @@ module _ {A : Type 0} where
   pub record Told (a : Answer A) (r at : ℕ) : Type 0 where
     pub says : r ≡ numberOf a
     pub where-at : at ≡ atOf a
+
+-- the three numbers of a version, in the place of what was there before
+abbrev pub chosenOf : Choice → List ℕ → List ℕ
+chosenOf (version major minor patch) before = major ∷ minor ∷ patch ∷ []
+chosenOf none before = before
 
 -- ---- the ways to keep it
 

@@ -7,7 +7,8 @@ use lib.ListN.{length}
 use Rattle.varint.specs.Answer.{Answer, written, within, leaves}
 use Rattle.varint.specs.Number.{number, numberBytes}
 use Rattle.utf8.specs.Text.{isUtf8, lossy, sameText}
-use Rattle.spop.specs.Told.{Told, valueOf}
+use Rattle.hello.specs.Hello.{frameSize, announced, choice}
+use Rattle.spop.specs.Told.{Told, valueOf, chosenOf}
 
 -- what two results that meet the same equations have in common
 one-only : {A : Type 0} {x y z : A} → x ≡ z → y ≡ z → x ≡ y
@@ -56,3 +57,12 @@ pub spop-lossy-text-unique : (s old new other : List ℕ) (r q at also : ℕ)
     → Told (within (length old) (written (lossy s))) q also × (other ≡ leaves (within (length old) (written (lossy s))) old)
     → (r ≡ q) × (at ≡ also) × (new ≡ other)
 spop-lossy-text-unique s = writer-unique (lossy s)
+
+pub spop-negotiate-max-frame-size-unique : (theirs ours r q at also : ℕ) → Told (frameSize theirs ours) r at → Told (frameSize theirs ours) q also → (r ≡ q) × (at ≡ also)
+spop-negotiate-max-frame-size-unique theirs ours r q at also p s = told-unique p s
+
+pub spop-negotiate-version-unique : (versions before new other : List ℕ) (r q : Bool)
+    → (r ≡ announced versions) × (new ≡ chosenOf (choice versions) before)
+    → (q ≡ announced versions) × (other ≡ chosenOf (choice versions) before)
+    → (r ≡ q) × (new ≡ other)
+spop-negotiate-version-unique versions before new other r q p s = (one-only (p .0) (s .0), one-only (p .1) (s .1))

@@ -9,7 +9,10 @@ ghost use Rattle.varint.specs.Answer.{written, within, leaves};
 ghost use Rattle.varint.specs.Number.{number, numberBytes};
 ghost use Rattle.varint.specs.Promise.{count, numberRead};
 ghost use Rattle.utf8.specs.Text.{isUtf8, lossy, sameText};
-ghost use Rattle.spop.specs.Told.{Told, valueOf};
+ghost use Rattle.hello.specs.Hello.{frameSize, announced, choice};
+ghost use Rattle.spop.specs.Told.{Told, valueOf, chosenOf};
+use hello::Chosen;
+use hello::Size;
 use varint::Number;
 use varint::Refusal;
 use varint::Written;
@@ -68,6 +71,33 @@ pub extern "C" fn spop_lossy_text(bytes: &[u8], out: &mut [u8], at: &mut u64) ->
 {
     let answer = utf8::lossy_text(bytes, out);
     tell(answer, at)
+}
+
+#[no_mangle]
+pub extern "C" fn spop_negotiate_max_frame_size(theirs: u32, ours: u32, at: &mut u64) -> u64
+    ensures { λ r. ⌜ Told (frameSize theirs ours) r (now (at .exit)) ⌝ }
+{
+    match hello::negotiate_max_frame_size(theirs, ours) {
+        Size::Agreed(n) => {
+            *at = n as u64;
+            DONE
+        },
+        Size::Refused(r) => refuse(r, at),
+    }
+}
+
+#[no_mangle]
+pub extern "C" fn spop_negotiate_version(versions: &[u64], version: &mut [u64; 3]) -> bool
+    ensures { λ r. ⌜ r ≡ announced (now (versions .entry)) ⌝ }
+    ensures { λ r. ⌜ now (version .exit) ≡ chosenOf (choice (now (versions .entry))) (now (version .entry)) ⌝ }
+{
+    match hello::negotiate_version(versions) {
+        Chosen::Version(v) => {
+            *version = [v.major, v.minor, v.patch];
+            true
+        },
+        Chosen::None => false,
+    }
 }
 
 // What any writer answered.

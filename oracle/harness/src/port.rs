@@ -23,6 +23,11 @@ c_calls! {
     fn spop_is_utf8(bytes: *const u8, len: usize) -> bool;
     fn spop_same_text(a: *const u8, a_len: usize, b: *const u8, b_len: usize) -> bool;
     fn spop_lossy_text(bytes: *const u8, len: usize, out: *mut u8, out_len: usize, at: *mut u64) -> u64;
+    fn spop_typed_data(input: *const u8, input_len: usize, value: *mut u64, at: *mut u64) -> u64;
+    fn spop_value_len(value: *const u64, buffer: *const u8, buffer_len: usize) -> u64;
+    fn spop_write_value(value: *const u64, buffer: *const u8, buffer_len: usize, out: *mut u8, out_len: usize, at: *mut u64) -> u64;
+    fn spop_negotiate_max_frame_size(theirs: u32, ours: u32, at: *mut u64) -> u64;
+    fn spop_negotiate_version(versions: *const u64, versions_len: usize, version: *mut u64) -> bool;
 }
 
 pub fn varint_len(n: u64) -> u64 {
@@ -53,4 +58,38 @@ pub fn same_text(a: &[u8], b: &[u8]) -> bool {
 pub fn lossy_text(bytes: &[u8], out: &mut [u8], at: &mut u64) -> u64 {
     // SAFETY: each slice is lent with its length, and nothing lent overlaps.
     unsafe { spop_lossy_text(bytes.as_ptr(), bytes.len(), out.as_mut_ptr(), out.len(), at) }
+}
+
+pub fn typed_data(input: &[u8], value: &mut [u64; 3], at: &mut u64) -> u64 {
+    // SAFETY: the slice is lent with its length, the record has three numbers, and nothing lent overlaps.
+    unsafe { spop_typed_data(input.as_ptr(), input.len(), value.as_mut_ptr(), at) }
+}
+
+pub fn value_len(value: &[u64; 3], buffer: &[u8]) -> u64 {
+    // SAFETY: the record has three numbers, and the slice is lent with its length.
+    unsafe { spop_value_len(value.as_ptr(), buffer.as_ptr(), buffer.len()) }
+}
+
+pub fn write_value(value: &[u64; 3], buffer: &[u8], out: &mut [u8], at: &mut u64) -> u64 {
+    // SAFETY: the record has three numbers, each slice is lent with its length, and nothing lent overlaps.
+    unsafe {
+        spop_write_value(
+            value.as_ptr(),
+            buffer.as_ptr(),
+            buffer.len(),
+            out.as_mut_ptr(),
+            out.len(),
+            at,
+        )
+    }
+}
+
+pub fn negotiate_max_frame_size(theirs: u32, ours: u32, at: &mut u64) -> u64 {
+    // SAFETY: one number is lent.
+    unsafe { spop_negotiate_max_frame_size(theirs, ours, at) }
+}
+
+pub fn negotiate_version(versions: &[u64], version: &mut [u64; 3]) -> bool {
+    // SAFETY: the slice is lent with its length, the version has three numbers, and nothing lent overlaps.
+    unsafe { spop_negotiate_version(versions.as_ptr(), versions.len(), version.as_mut_ptr()) }
 }

@@ -31,4 +31,6 @@ macro_rules! parts {
 parts! {
     numbers,
     text,
+
+    hello,
 }

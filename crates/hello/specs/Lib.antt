@@ -1,0 +1,5 @@
+-- The two negotiations of the HELLO handshake.
+pub mod Hello
+pub mod Promise
+pub mod Laws
+pub mod Unique

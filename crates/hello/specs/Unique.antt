@@ -1,0 +1,34 @@
+-- No second result meets a promise.
+use mathlib.Core.Path.{_≡_, sym, ap, _∙_}
+use mathlib.Core.List.{List}
+use Prim.Native.Nat.{ℕ}
+use native.Mathlib.Omega.{arith}
+use Rattle.varint.specs.Unique.{refusal-same}
+use Rattle.hello.specs.declared.Size.{Size}
+use Rattle.hello.specs.declared.Size.the-variants as z
+use Rattle.hello.specs.declared.Version as v
+use Rattle.hello.specs.declared.Chosen.{Chosen}
+use Rattle.hello.specs.declared.Chosen.the-variants as c
+use Rattle.hello.specs.Hello.{frameSize, choice}
+use Rattle.hello.specs.Promise.{sizeOf, choiceOf}
+
+sizeOf-same : (a b : Size) → sizeOf a ≡ sizeOf b → a ≡ b
+sizeOf-same (z.Agreed m) (z.Agreed n) e = let q : m ≡ n = cc in cc
+sizeOf-same (z.Agreed m) (z.Refused q) e = let z : _≡_ {A = ℕ} 0 1 = cc in absurd (omega arith)
+sizeOf-same (z.Refused r) (z.Agreed n) e = let z : _≡_ {A = ℕ} 0 1 = cc in absurd (omega arith)
+sizeOf-same (z.Refused r) (z.Refused q) e = ap z.Refused (refusal-same r q (cc) (cc))
+
+version-same : (a b : v.Version) → a .major ≡ b .major → a .minor ≡ b .minor → a .patch ≡ b .patch → a ≡ b
+version-same a b e f g = λ i. record { major = e i; minor = f i; patch = g i }
+
+choiceOf-same : (a b : Chosen) → choiceOf a ≡ choiceOf b → a ≡ b
+choiceOf-same (c.Version x) (c.Version y) e = ap c.Version (version-same x y (cc) (cc) (cc))
+choiceOf-same (c.Version x) c.None e = let z : _≡_ {A = ℕ} 0 1 = cc in absurd (omega arith)
+choiceOf-same c.None (c.Version y) e = let z : _≡_ {A = ℕ} 0 1 = cc in absurd (omega arith)
+choiceOf-same c.None c.None e = cc
+
+pub negotiate-max-frame-size-unique : (theirs ours : ℕ) (r q : Size) → sizeOf r ≡ frameSize theirs ours → sizeOf q ≡ frameSize theirs ours → r ≡ q
+negotiate-max-frame-size-unique theirs ours r q p s = sizeOf-same r q (p ∙ sym s)
+
+pub negotiate-version-unique : (versions : List ℕ) (r q : Chosen) → choiceOf r ≡ choice versions → choiceOf q ≡ choice versions → r ≡ q
+negotiate-version-unique versions r q p s = choiceOf-same r q (p ∙ sym s)

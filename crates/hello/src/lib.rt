@@ -1,0 +1,78 @@
+// The two negotiations of the HELLO handshake (SPOE.txt, sections 3.2.4 and 3.2.5).
+ghost use mathlib.Core.Path.{_≡_};
+ghost use Rattle.varint.specs.Answer.{refused};
+ghost use Rattle.hello.specs.Hello.{frameSize, choice};
+ghost use Rattle.hello.specs.Promise.{sizeOf, choiceOf};
+use varint::Refusal;
+
+// A size is under 256.
+pub const SIZE_TOO_SMALL: u64 = 13;
+
+// The most that a frame may declare before the handshake settled on less.
+pub const MAX_FRAME_SIZE_LIMIT: u32 = 1_048_576;
+
+// The least size that a peer may announce.
+pub const MIN_FRAME_SIZE: u32 = 256;
+
+pub struct Version {
+    pub major: u64,
+    pub minor: u64,
+    pub patch: u64,
+}
+
+pub const SUPPORTED_VERSION: Version = Version {
+    major: 2,
+    minor: 0,
+    patch: 0,
+};
+
+// What the size is settled on.
+pub enum Size {
+    Agreed(u32),
+    Refused(Refusal),
+}
+
+// What version is given.
+pub enum Chosen {
+    Version(Version),
+    None,
+}
+
+// The smaller of both sizes.
+pub fn negotiate_max_frame_size(theirs: u32, ours: u32) -> Size
+    ensures { λ r. ⌜ sizeOf r ≡ frameSize theirs ours ⌝ }
+{
+    if theirs < MIN_FRAME_SIZE {
+        return refuse();
+    }
+    if ours < MIN_FRAME_SIZE {
+        return refuse();
+    }
+    if theirs < ours {
+        return Size::Agreed(theirs);
+    }
+    Size::Agreed(ours)
+}
+
+fn refuse() -> Size
+    ensures { λ r. ⌜ sizeOf r ≡ refused 13 0 ⌝ }
+{
+    Size::Refused(Refusal {
+        number: SIZE_TOO_SMALL,
+        place: 0,
+    })
+}
+
+// The supported version, where one of the announced ones has its major number. A version is three numbers of the slice.
+pub fn negotiate_version(versions: &[u64]) -> Chosen
+    ensures { λ r. ⌜ choiceOf r ≡ choice (now (versions .entry)) ⌝ }
+{
+    let mut at = 0;
+    while 3 <= versions.len() - at {
+        if versions[at] == 2 {
+            return Chosen::Version(SUPPORTED_VERSION);
+        }
+        at += 3;
+    }
+    Chosen::None
+}

@@ -1,0 +1,43 @@
+-- `spop::spop_negotiate_max_frame_size` meets its contract: each case of the answer is told as it is.
+-- Assumes nothing.
+use mathlib.Core.Path.{sym, ap, _∙_}
+use borrow.Author.Needs.{needs}
+use Rattle.hello.specs.Promise.{sizeOf}
+use Rattle.spop.specs.Told.{told-done, told-refused}
+use Rattle.spop.proofs.spop_negotiate_max_frame_size.Statement.{statement}
+use Rattle.spop.proofs.spop_negotiate_max_frame_size.Tie as tie
+
+negotiate-max-frame-size-requires : tie.Need-negotiate-max-frame-size-requires
+negotiate-max-frame-size-requires c κs = search needs
+
+enum-known-n : tie.Need-enum-known-n
+enum-known-n c = search needs
+
+cast-at : tie.Need-cast-at
+cast-at c = search needs
+
+enum-known-r : tie.Need-enum-known-r
+enum-known-r c = search needs
+
+refuse-requires : tie.Need-refuse-requires
+refuse-requires c κs = search needs
+
+returns : tie.Need-returns
+returns c = told-done _ (sym (c .before .before .before .negotiate-max-frame-size .ensures) ∙ ap sizeOf (c .before .n .given .1)) .0
+
+returns-2 : tie.Need-returns-2
+returns-2 c =
+    let k = c .before .before .before in
+    told-refused _ (sym (k .before .before .negotiate-max-frame-size .ensures) ∙ ap sizeOf (k .r .given .1)) (c .refuse .ensures) .0
+
+pub spop-negotiate-max-frame-size-spec : {M : Type 1} → statement M
+spop-negotiate-max-frame-size-spec =
+    tie.close
+    (tie.spec
+    negotiate-max-frame-size-requires
+    enum-known-n
+    cast-at
+    enum-known-r
+    refuse-requires
+    returns
+    returns-2)

@@ -1,0 +1,35 @@
+-- `spop::spop_negotiate_version` meets its contract: a version is stored, and none stores nothing.
+-- Assumes nothing.
+use mathlib.Core.Path.{sym, ap, _∙_}
+use borrow.Author.Needs.{needs}
+use Rattle.hello.specs.Hello.{Choice}
+use Rattle.hello.specs.Promise.{choiceOf}
+use Rattle.hello.specs.Laws.{some-announced, none-announced}
+use Rattle.spop.specs.Told.{chosenOf}
+use Rattle.spop.proofs.spop_negotiate_version.Statement.{statement}
+use Rattle.spop.proofs.spop_negotiate_version.Tie as tie
+
+negotiate-version-requires : tie.Need-negotiate-version-requires
+negotiate-version-requires c κs = search needs
+
+enum-known-v : tie.Need-enum-known-v
+enum-known-v c = search needs
+
+enum-told : tie.Need-enum-told
+enum-told c = search needs
+
+returns : tie.Need-returns
+returns c =
+    let a = c .before .before .before .before .before .before .args in
+    let e = sym (c .before .before .before .before .negotiate-version .ensures) ∙ ap choiceOf (c .before .before .v .given .1) in
+    (sym (some-announced _ e), sym (ap (λ (x : Choice). chosenOf x (a .version .now)) e))
+
+returns-2 : tie.Need-returns-2
+returns-2 c =
+    let a = c .before .before .before .before .args in
+    let e = sym (c .before .before .negotiate-version .ensures) ∙ ap choiceOf (c .enum-told .given .1) in
+    (sym (none-announced _ e), sym (ap (λ (x : Choice). chosenOf x (a .version .now)) e))
+
+pub spop-negotiate-version-spec : {M : Type 1} → statement M
+spop-negotiate-version-spec =
+    tie.close (tie.spec negotiate-version-requires enum-known-v enum-told returns returns-2)

@@ -1,0 +1,572 @@
+//! Values: `typed_data`, `TypedData::to_bytes` and `TypedData::serialized_len`.
+
+use crate::{
+    answers::{self, Answer, TOO_SHORT_OUT},
+    inputs::{self, Random},
+    port, shrink,
+    text::{Difference, hex},
+    timing,
+};
+use spop::{
+    types::{TypedData, typed_data},
+    varint::{decode_varint, encode_varint_into},
+};
+use std::{
+    hint::black_box,
+    net::{Ipv4Addr, Ipv6Addr},
+};
+
+/// The longest bytes that a value is drawn with.
+const LONGEST: usize = 40;
+
+/// The memory that a lent output stands at the front of, so that a call that goes past its end shows.
+const AREA: usize = LONGEST + 20;
+
+const UNTOUCHED: u64 = 0xa5c3_96e1_5a3c_691e;
+const FILL: u8 = 0x6b;
+
+const NOT_WRITABLE: u64 = 14;
+const NOT_TEXT: u64 = 15;
+const OUTSIDE: u64 = 16;
+
+/// Kind, a, b.
+type Record = [u64; 3];
+
+// ---------------------------------------------------------------- reading, both sides
+
+#[derive(PartialEq)]
+struct Read {
+    answer: Answer,
+    value: Record,
+}
+
+fn read_by_port(input: &[u8]) -> Read {
+    let (mut value, mut at) = ([UNTOUCHED; 3], UNTOUCHED);
+    let number = port::typed_data(input, &mut value, &mut at);
+    let answer = Answer::new(number, at);
+    Read { answer, value }
+}
+
+fn read_by_rust(input: &[u8]) -> Read {
+    match typed_data(input) {
+        Ok((rest, value)) => Read {
+            answer: answers::accepted(input, rest),
+            value: record_read(input, &value),
+        },
+        Err(error) => Read {
+            answer: answers::refused(input, error),
+            value: [UNTOUCHED; 3],
+        },
+    }
+}
+
+/// The paper's record for what the Rust read. Of bytes it has the contents alone, so that their place is
+/// a plain reading of the paper's, whose contents have to be the Rust's.
+fn record_read(input: &[u8], value: &TypedData) -> Record {
+    match value {
+        TypedData::Null => [0, 0, 0],
+        TypedData::Bool(yes) => [1, u64::from(*yes), 0],
+        TypedData::Int32(n) => [2, i64::from(*n) as u64, 0],
+        TypedData::UInt32(n) => [3, u64::from(*n), 0],
+        TypedData::Int64(n) => [4, *n as u64, 0],
+        TypedData::UInt64(n) => [5, *n, 0],
+        TypedData::IPv4(address) => part(input, 6, 1, 4, |bytes| bytes == address.octets()),
+        TypedData::IPv6(address) => part(input, 7, 1, 16, |bytes| bytes == address.octets()),
+        TypedData::String(text) => {
+            let (start, length) = string_part(input);
+            part(input, 8, start, length, |bytes| {
+                String::from_utf8_lossy(bytes) == *text
+            })
+        }
+        TypedData::Binary(data) => {
+            let (start, length) = string_part(input);
+            part(input, 9, start, length, |bytes| bytes == data)
+        }
+    }
+}
+
+/// A record that no answer of the port equals where the bytes at that place are not the Rust's.
+fn part(
+    input: &[u8],
+    kind: u64,
+    start: usize,
+    length: usize,
+    right: impl Fn(&[u8]) -> bool,
+) -> Record {
+    match input.get(start..start + length) {
+        Some(bytes) if right(bytes) => [kind, start as u64, length as u64],
+        _ => [u64::MAX; 3],
+    }
+}
+
+fn string_part(input: &[u8]) -> (usize, usize) {
+    match decode_varint(&input[1..]) {
+        Ok((rest, length)) => (input.len() - rest.len(), length as usize),
+        Err(_) => (usize::MAX / 2, 0),
+    }
+}
+
+fn differs_in_reading(input: &[u8]) -> bool {
+    read_by_port(input) != read_by_rust(input)
+}
+
+// ---------------------------------------------------------------- writing, both sides
+
+#[derive(Clone)]
+struct Write {
+    record: Record,
+    buffer: Vec<u8>,
+    room: usize,
+}
+
+#[derive(PartialEq)]
+struct Wrote {
+    length: u64,
+    answer: Answer,
+    area: [u8; AREA],
+}
+
+impl Write {
+    fn by_port(&self) -> Wrote {
+        let (mut area, mut at) = ([FILL; AREA], UNTOUCHED);
+        let length = port::value_len(&self.record, &self.buffer);
+        let number = port::write_value(&self.record, &self.buffer, &mut area[..self.room], &mut at);
+        let answer = Answer::new(number, at);
+        Wrote {
+            length,
+            answer,
+            area,
+        }
+    }
+
+    /// The Rust writes a value that it holds. Which records are one, and what is refused, is a plain
+    /// reading of the paper.
+    fn by_rust(&self) -> Wrote {
+        let mut area = [FILL; AREA];
+        let value = match self.value() {
+            Ok(value) => value,
+            Err(number) => {
+                let length = match number {
+                    NOT_TEXT => self.binary_length(),
+                    _ => 0,
+                };
+                return Wrote {
+                    length,
+                    answer: Answer::new(number, 0),
+                    area,
+                };
+            }
+        };
+        let mut bytes = Vec::new();
+        value.to_bytes(&mut bytes);
+        let answer = match area[..self.room].get_mut(..bytes.len()) {
+            Some(front) => {
+                front.copy_from_slice(&bytes);
+                Answer::done(bytes.len())
+            }
+            None => Answer::new(TOO_SHORT_OUT, 0),
+        };
+        let length = value.serialized_len() as u64;
+        Wrote {
+            length,
+            answer,
+            area,
+        }
+    }
+
+    /// A text that is not UTF-8 is as long as a binary of the same bytes.
+    fn binary_length(&self) -> u64 {
+        let bytes = self.bytes().unwrap_or_default().to_vec();
+        TypedData::Binary(bytes).serialized_len() as u64
+    }
+
+    fn bytes(&self) -> Option<&[u8]> {
+        let start = usize::try_from(self.record[1]).ok()?;
+        let end = start.checked_add(usize::try_from(self.record[2]).ok()?)?;
+        self.buffer.get(start..end)
+    }
+
+    fn value(&self) -> Result<TypedData, u64> {
+        let [kind, a, b] = self.record;
+        let field = |right: bool| {
+            if right { Ok(()) } else { Err(NOT_WRITABLE) }
+        };
+        match kind {
+            0 => field(a == 0 && b == 0).map(|()| TypedData::Null),
+            1 => field(a < 2 && b == 0).map(|()| TypedData::Bool(a == 1)),
+            2 => field(i64::from(a as i32) as u64 == a && b == 0)
+                .map(|()| TypedData::Int32(a as i32)),
+            3 => field(u64::from(a as u32) == a && b == 0).map(|()| TypedData::UInt32(a as u32)),
+            4 => field(b == 0).map(|()| TypedData::Int64(a as i64)),
+            5 => field(b == 0).map(|()| TypedData::UInt64(a)),
+            6 => {
+                field(b == 4)?;
+                let bytes: [u8; 4] = self.bytes().ok_or(OUTSIDE)?.try_into().expect("four bytes");
+                Ok(TypedData::IPv4(Ipv4Addr::from(bytes)))
+            }
+            7 => {
+                field(b == 16)?;
+                let bytes: [u8; 16] = self
+                    .bytes()
+                    .ok_or(OUTSIDE)?
+                    .try_into()
+                    .expect("sixteen bytes");
+                Ok(TypedData::IPv6(Ipv6Addr::from(bytes)))
+            }
+            8 => {
+                let bytes = self.bytes().ok_or(OUTSIDE)?;
+                let text = String::from_utf8(bytes.to_vec()).map_err(|_| NOT_TEXT)?;
+                Ok(TypedData::String(text))
+            }
+            9 => Ok(TypedData::Binary(self.bytes().ok_or(OUTSIDE)?.to_vec())),
+            _ => Err(NOT_WRITABLE),
+        }
+    }
+
+    fn differs(&self) -> bool {
+        self.by_port() != self.by_rust()
+    }
+}
+
+// ---------------------------------------------------------------- a difference, made small
+
+fn read_difference(input: &[u8]) -> Difference {
+    let input = shrink::bytes(input, differs_in_reading);
+    let show = |side: Read| match side.value {
+        [UNTOUCHED, UNTOUCHED, UNTOUCHED] => format!("{}, value untouched", side.answer),
+        [kind, a, b] => format!("{}, value {kind} {a:#x} {b:#x}", side.answer),
+    };
+    Difference::in_call("typed_data")
+        .row("input", hex(&input))
+        .row("port", show(read_by_port(&input)))
+        .row("rust", show(read_by_rust(&input)))
+}
+
+fn smaller_write(mut call: Write) -> Write {
+    for place in 1..3 {
+        let old = call.clone();
+        call.record[place] = shrink::number(call.record[place], |n| {
+            let mut tried = old.clone();
+            tried.record[place] = n;
+            tried.differs()
+        });
+    }
+    call
+}
+
+fn write_difference(call: Write) -> Difference {
+    let call = smaller_write(call);
+    let (port, rust) = (call.by_port(), call.by_rust());
+    Difference::in_call("write_value and value_len")
+        .row("record", format!("{:x?}", call.record))
+        .row("buffer", hex(&call.buffer))
+        .row("out", format!("{} bytes", call.room))
+        .row("port", format!("length {}, {}", port.length, port.answer))
+        .row("", hex(&port.area))
+        .row("rust", format!("length {}, {}", rust.length, rust.answer))
+        .row("", hex(&rust.area))
+}
+
+// ---------------------------------------------------------------- comparing
+
+#[derive(Default)]
+struct Comparer {
+    count: u64,
+}
+
+impl Comparer {
+    fn read(&mut self, input: &[u8]) -> Result<(), Difference> {
+        self.count += 1;
+        if differs_in_reading(input) {
+            return Err(read_difference(input));
+        }
+        Ok(())
+    }
+
+    fn write(&mut self, call: &Write) -> Result<(), Difference> {
+        self.count += 1;
+        if call.differs() {
+            return Err(write_difference(call.clone()));
+        }
+        Ok(())
+    }
+}
+
+pub fn diff(random: &mut Random, rounds: u64) -> Result<String, Difference> {
+    let mut sides = Comparer::default();
+    for length in 0..=3 {
+        for bits in 0..1u32 << (8 * length) {
+            sides.read(&bits.to_be_bytes()[4 - length..])?;
+        }
+    }
+    let short = std::mem::take(&mut sides.count);
+    for _ in 0..rounds {
+        round(&mut sides, random)?;
+    }
+    let drawn = sides.count;
+    Ok(format!(
+        "all {short} byte strings of up to three bytes, {drawn} random calls in {rounds} rounds"
+    ))
+}
+
+fn round(sides: &mut Comparer, random: &mut Random) -> Result<(), Difference> {
+    let mut bytes = encoded(random);
+    sides.read(&bytes)?;
+    match random.below(3) {
+        0 => inputs::append(random, &mut bytes),
+        1 => inputs::cut(random, &mut bytes),
+        _ => inputs::damage(random, &mut bytes),
+    }
+    sides.read(&bytes)?;
+    let call = drawn_write(random);
+    sides.write(&call)
+}
+
+/// A value as it may come over the wire: any type byte, numbers that fit their type and others, lengths that are right
+/// and others.
+fn encoded(random: &mut Random) -> Vec<u8> {
+    let kind = random.below(11) as u8;
+    let flags = if random.below(2) == 0 {
+        0
+    } else {
+        random.byte() & 0xf0
+    };
+    let mut bytes = vec![kind | flags];
+    match kind {
+        2..=5 => encode_varint_into(inputs::number(random), &mut bytes),
+        6 => bytes.extend((0..random.within(3, 5)).map(|_| random.byte())),
+        7 => bytes.extend((0..random.within(15, 17)).map(|_| random.byte())),
+        8 | 9 => {
+            let content = contents(random);
+            let length = match random.below(8) {
+                0 => inputs::number(random),
+                1 => content.len() as u64 + 1,
+                _ => content.len() as u64,
+            };
+            encode_varint_into(length, &mut bytes);
+            bytes.extend(content);
+        }
+        _ => {}
+    }
+    bytes
+}
+
+/// Text, most of the time; a byte of it changed, or any bytes.
+fn contents(random: &mut Random) -> Vec<u8> {
+    let length = random.index(LONGEST - 12);
+    let mut bytes: Vec<u8> = (0..length).map(|_| b' ' + random.below(95) as u8).collect();
+    match random.below(4) {
+        0 if length > 0 => inputs::damage(random, &mut bytes),
+        1 => bytes.iter_mut().for_each(|byte| *byte = random.byte()),
+        2 if length > 3 => bytes[..3].copy_from_slice("€".as_bytes()),
+        _ => {}
+    }
+    bytes
+}
+
+fn drawn_write(random: &mut Random) -> Write {
+    let buffer = contents(random);
+    let kind = random.below(12);
+    let record = match kind {
+        0 | 1 => [kind, random.below(3), small(random)],
+        2 => [
+            kind,
+            i64::from(random.next() as i32) as u64 ^ small(random) << 40,
+            small(random),
+        ],
+        3 => [kind, random.next() >> random.within(30, 63), small(random)],
+        4 | 5 => [kind, inputs::number(random), small(random)],
+        6..=9 => {
+            let length = match (kind, random.below(8)) {
+                (_, 0) => inputs::number(random),
+                (6, _) => 4,
+                (7, _) => 16,
+                _ => random.below(buffer.len() as u64 + 2),
+            };
+            let start = match random.below(8) {
+                0 => inputs::number(random),
+                1 => buffer.len() as u64 + random.below(2),
+                _ => (buffer.len() as u64 + 1).saturating_sub(length.min(64)),
+            };
+            [
+                kind,
+                random
+                    .below(start.saturating_add(1).min(1 << 20))
+                    .min(start),
+                length,
+            ]
+        }
+        _ => [kind, small(random), small(random)],
+    };
+    let room = random.index(AREA - 6);
+    Write {
+        record,
+        buffer,
+        room,
+    }
+}
+
+/// 0 but for one time in eight: what an unused number has to be.
+fn small(random: &mut Random) -> u64 {
+    if random.below(8) == 0 {
+        1 + random.below(3)
+    } else {
+        0
+    }
+}
+
+// ---------------------------------------------------------------- timing
+
+/// Enough values of a kind that the processor does not learn them by heart.
+const TIMED: usize = 1 << 12;
+
+/// One value in each form: the bytes that are read, the record that is written, and the Rust's own.
+struct Timed {
+    bytes: Vec<u8>,
+    record: Record,
+    buffer: Vec<u8>,
+    value: TypedData,
+}
+
+pub fn bench(random: &mut Random) {
+    let sets: [(&str, Vec<Timed>); 4] = [
+        ("u32", timed(random, |r| TypedData::UInt32(r.next() as u32))),
+        (
+            "i64",
+            timed(random, |r| TypedData::Int64(inputs::number(r) as i64)),
+        ),
+        ("text of 12 bytes", timed(random, text)),
+        (
+            "IPv4 address",
+            timed(random, |r| TypedData::IPv4(Ipv4Addr::from(r.next() as u32))),
+        ),
+    ];
+    for (name, values) in &sets {
+        time_reading(&format!("typed_data, {name}"), values);
+    }
+    for (name, values) in &sets {
+        time_writing(&format!("write_value, {name}"), values);
+    }
+}
+
+fn text(random: &mut Random) -> TypedData {
+    let letters = (0..12).map(|_| (b'a' + random.below(26) as u8) as char);
+    TypedData::String(letters.collect())
+}
+
+fn timed(random: &mut Random, draw: fn(&mut Random) -> TypedData) -> Vec<Timed> {
+    let one = || {
+        let value = draw(random);
+        let mut bytes = Vec::new();
+        value.to_bytes(&mut bytes);
+        let (record, buffer) = match &value {
+            TypedData::UInt32(n) => ([3, u64::from(*n), 0], Vec::new()),
+            TypedData::Int64(n) => ([4, *n as u64, 0], Vec::new()),
+            TypedData::IPv4(address) => ([6, 0, 4], address.octets().to_vec()),
+            TypedData::String(text) => ([8, 0, text.len() as u64], text.clone().into_bytes()),
+            _ => unreachable!("no such value is timed"),
+        };
+        Timed {
+            bytes,
+            record,
+            buffer,
+            value,
+        }
+    };
+    std::iter::repeat_with(one).take(TIMED).collect()
+}
+
+#[inline(never)]
+fn rust_read(input: &[u8]) -> nom::IResult<&[u8], TypedData> {
+    typed_data(input)
+}
+
+#[inline(never)]
+fn rust_write(value: &TypedData, out: &mut Vec<u8>) {
+    value.to_bytes(out);
+}
+
+fn time_reading(name: &str, values: &[Timed]) {
+    let (mut value, mut at) = ([0; 3], 0);
+    let port = || {
+        for one in values {
+            if port::typed_data(black_box(&one.bytes), &mut value, &mut at) == 0 {
+                black_box(&value);
+                black_box(at);
+            }
+        }
+    };
+    let rust = || {
+        for one in values {
+            if let Ok((rest, value)) = rust_read(black_box(&one.bytes)) {
+                black_box(&value);
+                black_box(rest.len());
+            }
+        }
+    };
+    timing::race(name, values.len(), port, rust);
+}
+
+fn time_writing(name: &str, values: &[Timed]) {
+    let (mut lent, mut at) = ([0; 64], 0);
+    let port = || {
+        for one in values {
+            let (record, buffer) = (black_box(&one.record), black_box(&one.buffer));
+            black_box(port::write_value(record, buffer, &mut lent, &mut at));
+            black_box((&lent, &at));
+        }
+    };
+    let mut grown = Vec::with_capacity(64);
+    let rust = || {
+        for one in values {
+            grown.clear();
+            rust_write(black_box(&one.value), &mut grown);
+            black_box(&grown);
+        }
+    };
+    timing::race(name, values.len(), port, rust);
+}
+
+// ---------------------------------------------------------------- the list
+
+/// Each kind with its edges, each refusal, and random values, cut and damaged.
+pub fn list(random: &mut Random) -> Result<Vec<String>, String> {
+    let mut lines = Vec::new();
+    let examples: [&[u8]; 8] = [
+        &[0x02, 0xf0, 0xf1, 0xfe, 0xfe, 0x7e],
+        &[0x21],
+        &[0xf1],
+        &[0x0a],
+        &[],
+        &[0x06, 1, 2, 3],
+        &[0x07, 0, 1, 2, 3, 4, 5, 6, 7, 8, 9, 10, 11, 12, 13, 14, 15],
+        &[0x08, 3, b'a', b'b'],
+    ];
+    for input in examples {
+        add(&mut lines, input)?;
+    }
+    for first in 0..=255 {
+        add(&mut lines, &[first, 3, 1, 2, 3])?;
+    }
+    for _ in 0..60 {
+        let mut bytes = encoded(random);
+        add(&mut lines, &bytes)?;
+        inputs::cut(random, &mut bytes);
+        add(&mut lines, &bytes)?;
+    }
+    Ok(lines)
+}
+
+fn add(lines: &mut Vec<String>, input: &[u8]) -> Result<(), String> {
+    let read = read_by_rust(input);
+    let (number, at) = read.answer.listed()?;
+    let [kind, a, b] = match number {
+        answers::DONE => read.value,
+        _ => [0; 3],
+    };
+    lines.push(format!(
+        "v {} {number:016x} {at:016x} {kind:016x} {a:016x} {b:016x}",
+        hex(input)
+    ));
+    Ok(())
+}
