@@ -1,0 +1,4 @@
+-- Definitions first: what a string and a value are, read and written, and what the calls' own types mean. Then the laws.
+pub mod Value
+pub mod Promise
+pub mod Reading

@@ -1,0 +1,18 @@
+-- What the calls' own types mean: for each case the number and the values of document 01.
+use Prim.Native.Nat.{ℕ}
+use Rattle.types.specs.declared.Text.{Text}
+use Rattle.types.specs.declared.Text.the-variants as t
+use Rattle.types.specs.declared.Typed.{Typed}
+use Rattle.types.specs.declared.Typed.the-variants as v
+use Rattle.varint.specs.Answer.{Answer, done, refused}
+use Rattle.types.specs.Value.{Span, span, Record, value}
+
+-- what the string reader's answer says
+abbrev pub textRead : Text → Answer Span
+textRead (t.Done start len used) = done (span start len) used
+textRead (t.Refused r) = refused (r .number) (r .place)
+
+-- what the value reader's answer says
+abbrev pub typedRead : Typed → Answer Record
+typedRead (v.Done r used) = done (value (r .kind) (r .a) (r .b)) used
+typedRead (v.Refused r) = refused (r .number) (r .place)

@@ -1,0 +1,177 @@
+// Strings and typed data (SPOE.txt, section 3.1): one value on its own, read and written.
+//
+// No public call has a `requires`: each does its own refusing, and a refusal changes no byte.
+use varint::Number;
+use varint::Refusal;
+use varint::TOO_SOON;
+ghost use mathlib.Core.Path.{_≡_};
+ghost use Prim.Native.Nat.{ℕ, _≤_, _<_};
+ghost use lib.ListN.{length, drop};
+ghost use Rattle.varint.specs.Answer.{done as finished, refused};
+ghost use Rattle.types.specs.Value.{Width, integer, address, text, shape, kept, signExtended, string, content, behind, moved, typed, value};
+ghost use Rattle.types.specs.Promise.{textRead, typedRead};
+
+// A data type is 10 to 15.
+pub const NO_TYPE: u64 = 8;
+
+// What the string reader answers: where the bytes are, and how many the string took with its length number.
+pub enum Text {
+    Done {
+        start: usize,
+        len: usize,
+        used: usize,
+    },
+    Refused(Refusal),
+}
+
+// A value as the records have it: its kind and two numbers, as document 01 sets them out for each kind.
+pub struct Value {
+    pub kind: u64,
+    pub a: u64,
+    pub b: u64,
+}
+
+// What the value reader answers.
+pub enum Typed {
+    Done { value: Value, used: usize },
+    Refused(Refusal),
+}
+
+// Reads the string at the front of `input`: a length number and that many bytes.
+pub fn read_string(input: &[u8]) -> Text
+    ensures { λ r. ⌜ textRead r ≡ string (now (input .entry)) ⌝ }
+{
+    match varint::decode_varint(input) {
+        Number::Refused(r) => {
+            return Text::Refused(r);
+        },
+        Number::Done { value, used } => {
+            if ((input.len() - used) as u64) < value {
+                return Text::Refused(Refusal {
+                    number: TOO_SOON,
+                    place: used,
+                });
+            }
+            let len = value as usize;
+            return Text::Done {
+                start: used,
+                len,
+                used: used + len,
+            };
+        },
+    }
+}
+
+// Reads the value at the front of `input`.
+pub fn typed_data(input: &[u8]) -> Typed
+    ensures { λ r. ⌜ typedRead r ≡ typed (now (input .entry)) ⌝ }
+{
+    if input.len() == 0 {
+        return refuse(TOO_SOON, 0);
+    }
+    let first = input[0];
+    let kind = (first % 16) as u64;
+    if kind == 0 {
+        return done(0, 0, 0, 1);
+    }
+    if kind == 1 {
+        return done(1, (first / 16 % 2) as u64, 0, 1);
+    }
+    if kind < 6 {
+        return read_integer(kind, input);
+    }
+    if kind == 6 {
+        return read_address(6, 4, input);
+    }
+    if kind == 7 {
+        return read_address(7, 16, input);
+    }
+    if kind < 10 {
+        return read_bytes(kind, input);
+    }
+    refuse(NO_TYPE, 1)
+}
+
+// Reads the number behind the type byte, of a kind that is an integer.
+fn read_integer(kind: u64, input: &[u8]) -> Typed
+    requires { ⌜ 0 < length (now input) ⌝ }
+    requires { ⌜ (2 ≤ kind) × (kind < 6) ⌝ }
+    ensures { λ r. ⌜ ((flags : ℕ) → typedRead r ≡ behind moved 1 (content (shape kind) kind flags (drop 1 (now (input .entry))))) ⌝ }
+{
+    match varint::decode_varint(&input[1..]) {
+        Number::Refused(r) => {
+            return refuse(r.number, 1 + r.place);
+        },
+        Number::Done { value, used } => {
+            return done(kind, narrow(kind, value), 0, 1 + used);
+        },
+    }
+}
+
+// The bits that an integer of this kind keeps of its number.
+fn narrow(kind: u64, n: u64) -> u64
+    requires { ⌜ (2 ≤ kind) × (kind < 6) ⌝ }
+    ensures { λ r. ⌜ ((w : Width) → shape kind ≡ integer w → r ≡ kept w n) ⌝ }
+{
+    if kind == 2 {
+        return sign_extend(n);
+    }
+    if kind == 3 {
+        return n % 0x1_0000_0000;
+    }
+    n
+}
+
+// The low 32 bits, the highest of them repeated above.
+fn sign_extend(n: u64) -> u64
+    ensures { λ r. ⌜ r ≡ signExtended n ⌝ }
+{
+    let low = n % 0x1_0000_0000;
+    if low < 0x8000_0000 {
+        return low;
+    }
+    low + 0xFFFF_FFFF_0000_0000
+}
+
+// Finds the address of len bytes behind the type byte.
+fn read_address(kind: u64, len: usize, input: &[u8]) -> Typed
+    requires { ⌜ 0 < length (now input) ⌝ }
+    requires { ⌜ shape kind ≡ address len ⌝ }
+    ensures { λ r. ⌜ ((flags : ℕ) → typedRead r ≡ behind moved 1 (content (shape kind) kind flags (drop 1 (now (input .entry))))) ⌝ }
+{
+    if input.len() - 1 < len {
+        return refuse(TOO_SOON, 1);
+    }
+    done(kind, 1, len as u64, 1 + len)
+}
+
+// Finds the bytes of a string or a binary behind the type byte.
+fn read_bytes(kind: u64, input: &[u8]) -> Typed
+    requires { ⌜ 0 < length (now input) ⌝ }
+    requires { ⌜ shape kind ≡ text ⌝ }
+    ensures { λ r. ⌜ ((flags : ℕ) → typedRead r ≡ behind moved 1 (content (shape kind) kind flags (drop 1 (now (input .entry))))) ⌝ }
+{
+    match read_string(&input[1..]) {
+        Text::Refused(r) => {
+            return refuse(r.number, 1 + r.place);
+        },
+        Text::Done { start, len, used } => {
+            return done(kind, (1 + start) as u64, len as u64, 1 + used);
+        },
+    }
+}
+
+fn done(kind: u64, a: u64, b: u64, used: usize) -> Typed
+    ensures { λ r. ⌜ typedRead r ≡ finished (value kind a b) used ⌝ }
+{
+    Typed::Done {
+        value: Value { kind, a, b },
+        used,
+    }
+}
+
+fn refuse(number: u64, place: usize) -> Typed
+    ensures { λ r. ⌜ typedRead r ≡ refused number place ⌝ }
+{
+    Typed::Refused(Refusal { number, place })
+}
