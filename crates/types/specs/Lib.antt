@@ -2,3 +2,4 @@
 pub mod Value
 pub mod Promise
 pub mod Reading
+pub mod Unique
