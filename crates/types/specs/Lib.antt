@@ -1,5 +1,7 @@
 -- Definitions first: what a string and a value are, read and written, and what the calls' own types mean. Then the laws.
 pub mod Value
+pub mod Form
 pub mod Promise
 pub mod Reading
+pub mod Writing
 pub mod Unique

@@ -1,18 +1,29 @@
 // Strings and typed data (SPOE.txt, section 3.1): one value on its own, read and written.
 //
 // No public call has a `requires`: each does its own refusing, and a refusal changes no byte.
+use varint::NO_ROOM;
 use varint::Number;
 use varint::Refusal;
 use varint::TOO_SOON;
+use varint::Written;
 ghost use mathlib.Core.Path.{_≡_};
-ghost use Prim.Native.Nat.{ℕ, _≤_, _<_};
+ghost use mathlib.Core.Bool.{true};
+ghost use mathlib.Core.List.{List};
+ghost use Prim.Native.Nat.{ℕ, _≤_, _<_, _^_};
 ghost use lib.ListN.{length, drop};
-ghost use Rattle.varint.specs.Answer.{done as finished, refused};
-ghost use Rattle.types.specs.Value.{Width, integer, address, text, shape, kept, signExtended, string, content, behind, moved, typed, value};
-ghost use Rattle.types.specs.Promise.{textRead, typedRead};
+ghost use Rattle.varint.specs.Answer.{done as finished, refused, written, within, leaves};
+ghost use Rattle.varint.specs.Number.{numberBytes};
+ghost use Rattle.varint.specs.Promise.{Writes};
+ghost use Rattle.types.specs.Value.{Width, integer, address, text, shape, kept, signExtended, inFields, string, content, behind, moved, typed, value};
+ghost use Rattle.types.specs.Form.{inside, stringBytes, formed, valueBytes, writableRecord, ranged, form, size};
+ghost use Rattle.types.specs.Promise.{textRead, recordOf, typedRead};
 
 // A data type is 10 to 15.
 pub const NO_TYPE: u64 = 8;
+// A record is not writable.
+pub const NOT_WRITABLE: u64 = 14;
+// A record points outside its buffer.
+pub const OUTSIDE: u64 = 16;
 
 // What the string reader answers: where the bytes are, and how many the string took with its length number.
 pub enum Text {
@@ -174,4 +185,109 @@ fn refuse(number: u64, place: usize) -> Typed
     ensures { λ r. ⌜ typedRead r ≡ refused number place ⌝ }
 {
     Typed::Refused(Refusal { number, place })
+}
+
+// Whether a value's numbers lie in their fields: where not, it is 14.
+pub fn writable(value: Value) -> bool
+    ensures { λ r. ⌜ r ≡ writableRecord (recordOf value) ⌝ }
+{
+    let kind = value.kind;
+    if kind < 6 {
+        if value.b != 0 {
+            return false;
+        }
+        return in_field(kind, value.a);
+    }
+    if kind == 6 {
+        return value.b == 4;
+    }
+    if kind == 7 {
+        return value.b == 16;
+    }
+    kind < 10
+}
+
+// Whether the number of a kind that points at no bytes lies in its field.
+fn in_field(kind: u64, a: u64) -> bool
+    requires { ⌜ kind < 6 ⌝ }
+    ensures { λ r. ⌜ r ≡ inFields (shape kind) a 0 ⌝ }
+{
+    if kind == 0 {
+        return a == 0;
+    }
+    if kind == 1 {
+        return a < 2;
+    }
+    if kind == 2 {
+        return a == sign_extend(a);
+    }
+    if kind == 3 {
+        return a < 0x1_0000_0000;
+    }
+    true
+}
+
+// Whether a value points inside the buffer, or at no bytes: where not, it is 16.
+pub fn in_range(value: Value, buffer: &[u8]) -> bool
+    ensures { λ r. ⌜ r ≡ ranged (now (buffer .entry)) (recordOf value) ⌝ }
+{
+    let kind = value.kind;
+    if kind < 6 {
+        return true;
+    }
+    if kind < 10 {
+        return part_inside(value.a, value.b, buffer);
+    }
+    true
+}
+
+// Whether len bytes from start on lie in the buffer.
+pub fn part_inside(start: u64, len: u64, buffer: &[u8]) -> bool
+    ensures { λ r. ⌜ r ≡ inside (now (buffer .entry)) start len ⌝ }
+{
+    let room = buffer.len() as u64;
+    if room < start {
+        return false;
+    }
+    len <= room - start
+}
+
+// How many bytes the written form of a string has.
+pub fn string_len(text: &[u8]) -> usize
+    ensures { λ r. ⌜ r ≡ length (stringBytes (now (text .entry))) ⌝ }
+{
+    varint::varint_len(text.len() as u64) + text.len()
+}
+
+// How many bytes the written form of a value has; 0 where it has none.
+pub fn value_len(value: Value, buffer: &[u8]) -> usize
+    ensures { λ r. ⌜ r ≡ size (form (now (buffer .entry)) (recordOf value)) ⌝ }
+{
+    if !writable(value) {
+        return 0;
+    }
+    if !in_range(value, buffer) {
+        return 0;
+    }
+    form_len(value)
+}
+
+// The same of a value that has one.
+fn form_len(value: Value) -> usize
+    requires { ⌜ writableRecord (recordOf value) ≡ true ⌝ }
+    requires { ⌜ value .b < 2 ^ 63 ⌝ }
+    ensures { λ r. ⌜ ((bytes : List ℕ) → length bytes ≡ value .b → r ≡ length (formed (shape (value .kind)) (value .kind) (value .a) bytes)) ⌝ }
+{
+    let kind = value.kind;
+    if kind < 2 {
+        return 1;
+    }
+    if kind < 6 {
+        return 1 + varint::varint_len(value.a);
+    }
+    let len = value.b as usize;
+    if kind < 8 {
+        return 1 + len;
+    }
+    1 + varint::varint_len(value.b) + len
 }
