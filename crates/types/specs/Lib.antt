@@ -4,4 +4,5 @@ pub mod Form
 pub mod Promise
 pub mod Reading
 pub mod Writing
+pub mod Output
 pub mod Unique

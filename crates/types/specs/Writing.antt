@@ -56,9 +56,12 @@ shape-address k l h f =
 
 -- ---- lengths
 
-pub string-length : (bytes : List ℕ) → length (stringBytes bytes) ≡ length (numberBytes (length bytes)) + length bytes
+pub string-bytes : (bytes : List ℕ) → stringBytes bytes ≡ numberBytes (length bytes) ++ bytes
 unfolding stringBytes
-string-length bytes = simp length-append
+string-bytes bytes = refl
+
+pub string-length : (bytes : List ℕ) → length (stringBytes bytes) ≡ length (numberBytes (length bytes)) + length bytes
+string-length bytes = ap length (string-bytes bytes) ∙ simp length-append
 
 pub part-length : (buffer : List ℕ) (start len : ℕ) → start + len ≤ length buffer → length (part buffer start len) ≡ len
 part-length buffer start len h = length-take-le len (drop start buffer) (simp length-drop (omega arith))
@@ -188,6 +191,47 @@ part-whole buffer kind a b h r =
 -- and no more than the buffer
 pub part-small : (buffer : List ℕ) (kind a b : ℕ) → inFields (shape kind) a b ≡ true → ranged buffer (value kind a b) ≡ true → length buffer < 2 ^ 63 → b < 2 ^ 63
 part-small buffer kind a b h r l = omega (arith, simp (length-take, length-drop) at (part-whole buffer kind a b h r))
+
+-- ---- the bytes, by the kind's number
+
+module _ (buffer : List ℕ) (k a b : ℕ) where
+  bytes-at : (sh : Shape) → shape k ≡ sh → valueBytes buffer (value k a b) ≡ formed sh k a (part buffer a b)
+  bytes-at sh is = value-bytes buffer k a b ∙ ap (λ (x : Shape). formed x k a (part buffer a b)) is
+
+  -- null, whose unused number is 0, and bool
+  pub plain-bytes : k < 2 → inFields (shape k) a b ≡ true → (a < 2) × (valueBytes buffer (value k a b) ≡ (k + 16 * a) ∷ [])
+  plain-bytes h f =
+      shape-plain k h
+      (λ e is. let z = fields-in nothing a b (sym (field-at k a b nothing is) ∙ f) in
+      (omega arith, bytes-at nothing is ∙ ap (λ (x : ℕ). x ∷ []) (omega arith)))
+      (λ e is. let z = fields-in flag a b (sym (field-at k a b flag is) ∙ f) in (z .0, bytes-at flag is))
+
+  pub integer-bytes : 2 ≤ k → k < 6 → valueBytes buffer (value k a b) ≡ k ∷ numberBytes a
+  integer-bytes l h = shape-integer k l h (λ w is. bytes-at (integer w) is)
+
+  pub address-bytes : 6 ≤ k → k < 8 → valueBytes buffer (value k a b) ≡ k ∷ part buffer a b
+  address-bytes l h = shape-address k l h (λ n is. bytes-at (address n) is)
+
+  pub text-bytes : 8 ≤ k → k < 10 → valueBytes buffer (value k a b) ≡ k ∷ stringBytes (part buffer a b)
+  text-bytes l h = bytes-at text (shape-text k l h)
+
+  -- a written value has its type byte
+  pub value-some : inFields (shape k) a b ≡ true → 1 ≤ length (valueBytes buffer (value k a b))
+  value-some f =
+      shape-cases k
+      (λ e is. rw (bytes-at nothing is) (omega arith))
+      (λ e is. rw (bytes-at flag is) (omega arith))
+      (λ w l g is. rw (bytes-at (integer w) is) (omega arith))
+      (λ n l g is. rw (bytes-at (address n) is) (omega arith))
+      (λ l g is. rw (bytes-at text is) (omega arith))
+      (λ l is. absurd (fields-in reserved a b (sym (field-at k a b reserved is) ∙ f)))
+
+-- a part that is lent, `&buffer[a..a + b]`
+pub part-lent : (buffer : List ℕ) (a b : ℕ) → take (a + b - a) (drop a buffer) ≡ part buffer a b
+part-lent buffer a b = ap (λ (n : ℕ). take n (drop a buffer)) same
+  where
+    same : a + b - a ≡ b
+    same = omega arith
 
 module _ (buffer : List ℕ) (v : Record) where
   pub form-unwritable : writableRecord v ≡ false → form buffer v ≡ refused 14 0

@@ -291,3 +291,107 @@ fn form_len(value: Value) -> usize
     }
     1 + varint::varint_len(value.b) + len
 }
+
+// Writes a string at the front of `out`: its length number and its bytes.
+pub fn write_string(text: &[u8], out: &mut [u8]) -> Written
+    ensures { λ r. ⌜ Writes (within (length (now (out .entry))) (written (stringBytes (now (text .entry))))) r (now (out .entry)) (now (out .exit)) ⌝ }
+{
+    if out.len() < string_len(text) {
+        return Written::Refused(Refusal {
+            number: NO_ROOM,
+            place: 0,
+        });
+    }
+    Written::Done(put_string(text, out))
+}
+
+// Writes a value at the front of `out`. It refuses what has no written form; whether a string is UTF-8 is not its to ask.
+pub fn write_value(value: Value, buffer: &[u8], out: &mut [u8]) -> Written
+    ensures { λ r. ⌜ Writes (within (length (now (out .entry))) (form (now (buffer .entry)) (recordOf value))) r (now (out .entry)) (now (out .exit)) ⌝ }
+{
+    if !writable(value) {
+        return Written::Refused(Refusal {
+            number: NOT_WRITABLE,
+            place: 0,
+        });
+    }
+    if !in_range(value, buffer) {
+        return Written::Refused(Refusal {
+            number: OUTSIDE,
+            place: 0,
+        });
+    }
+    if out.len() < form_len(value) {
+        return Written::Refused(Refusal {
+            number: NO_ROOM,
+            place: 0,
+        });
+    }
+    Written::Done(put_value(value, buffer, out))
+}
+
+// Writes a value that has a written form, where there is room.
+fn put_value(value: Value, buffer: &[u8], out: &mut [u8]) -> usize
+    requires { ⌜ writableRecord (recordOf value) ≡ true ⌝ }
+    requires { ⌜ ranged (now buffer) (recordOf value) ≡ true ⌝ }
+    requires { ⌜ length (valueBytes (now buffer) (recordOf value)) ≤ length (now out) ⌝ }
+    ensures { λ r. ⌜ r ≡ length (valueBytes (now (buffer .entry)) (recordOf value)) ⌝ }
+    ensures { λ r. ⌜ now (out .exit) ≡ leaves (written (valueBytes (now (buffer .entry)) (recordOf value))) (now (out .entry)) ⌝ }
+{
+    let kind = value.kind;
+    let a = value.a;
+    if kind < 2 {
+        out[0] = (kind + 16 * a) as u8;
+        return 1;
+    }
+    out[0] = kind as u8;
+    if kind < 6 {
+        return 1 + put_number(a, &mut out[1..]);
+    }
+    let from = a as usize;
+    let to = from + value.b as usize;
+    if kind < 8 {
+        return 1 + put_bytes(&buffer[from..to], &mut out[1..]);
+    }
+    1 + put_string(&buffer[from..to], &mut out[1..])
+}
+
+// Writes a string where there is room.
+fn put_string(text: &[u8], out: &mut [u8]) -> usize
+    requires { ⌜ length (stringBytes (now text)) ≤ length (now out) ⌝ }
+    ensures { λ r. ⌜ r ≡ length (stringBytes (now (text .entry))) ⌝ }
+    ensures { λ r. ⌜ now (out .exit) ≡ leaves (written (stringBytes (now (text .entry)))) (now (out .entry)) ⌝ }
+{
+    let n = put_number(text.len() as u64, out);
+    n + put_bytes(text, &mut out[n..])
+}
+
+// Writes a number where there is room.
+fn put_number(n: u64, out: &mut [u8]) -> usize
+    requires { ⌜ length (numberBytes n) ≤ length (now out) ⌝ }
+    ensures { λ r. ⌜ r ≡ length (numberBytes n) ⌝ }
+    ensures { λ r. ⌜ now (out .exit) ≡ leaves (written (numberBytes n)) (now (out .entry)) ⌝ }
+{
+    match varint::encode_varint(n, out) {
+        Written::Done(k) => {
+            return k;
+        },
+        Written::Refused(_) => {
+            return 0;
+        },
+    }
+}
+
+// Copies bytes where there is room.
+fn put_bytes(bytes: &[u8], out: &mut [u8]) -> usize
+    requires { ⌜ length (now bytes) ≤ length (now out) ⌝ }
+    ensures { λ r. ⌜ r ≡ length (now (bytes .entry)) ⌝ }
+    ensures { λ r. ⌜ now (out .exit) ≡ leaves (written (now (bytes .entry))) (now (out .entry)) ⌝ }
+{
+    let mut at = 0;
+    while at < bytes.len() {
+        out[at] = bytes[at];
+        at += 1;
+    }
+    at
+}
