@@ -48,3 +48,10 @@ form buffer v = cond (writableRecord v) (cond (ranged buffer v) (written (valueB
 abbrev pub size : Answer (List ℕ) → ℕ
 size (done bytes n) = n
 size (refused number place) = 0
+
+-- A value in the paper's sense: its kind, its number where it has one, and the bytes that it points at, wherever they stand.
+pub data Meaning : Type 0 where
+  means : ℕ → ℕ → List ℕ → Meaning
+
+abbrev pub meaning : List ℕ → Record → Meaning
+meaning buffer (value kind a b) = means kind (cond (points (shape kind)) 0 a) (cond (points (shape kind)) (part buffer a b) [])

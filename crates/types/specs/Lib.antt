@@ -4,5 +4,6 @@ pub mod Form
 pub mod Promise
 pub mod Reading
 pub mod Writing
+pub mod Roundtrip
 pub mod Output
 pub mod Unique

@@ -116,7 +116,7 @@ both-false true = refl
 both-false false = refl
 
 module _ (k a b : ℕ) where
-  field-at : (sh : Shape) → shape k ≡ sh → inFields (shape k) a b ≡ inFields sh a b
+  pub field-at : (sh : Shape) → shape k ≡ sh → inFields (shape k) a b ≡ inFields sh a b
   field-at sh is = ap (λ (x : Shape). inFields x a b) is
 
   pub unused : k < 6 → (b ≡ 0 → ⊥) → inFields (shape k) a b ≡ false
@@ -195,7 +195,7 @@ part-small buffer kind a b h r l = omega (arith, simp (length-take, length-drop)
 -- ---- the bytes, by the kind's number
 
 module _ (buffer : List ℕ) (k a b : ℕ) where
-  bytes-at : (sh : Shape) → shape k ≡ sh → valueBytes buffer (value k a b) ≡ formed sh k a (part buffer a b)
+  pub bytes-at : (sh : Shape) → shape k ≡ sh → valueBytes buffer (value k a b) ≡ formed sh k a (part buffer a b)
   bytes-at sh is = value-bytes buffer k a b ∙ ap (λ (x : Shape). formed x k a (part buffer a b)) is
 
   -- null, whose unused number is 0, and bool
