@@ -1,0 +1,96 @@
+-- Going on over several bytes at once: what every walk over a text needs of it.
+use mathlib.Core.Path.{_≡_, refl, sym, ap, _∙_}
+use mathlib.Core.Bool.{Bool, true, false, _&&_}
+use mathlib.Core.List.{List, [], _∷_, _++_}
+use Prim.Native.Nat.{ℕ, zero, suc, _+_, _-_, _≤_, _<_, zero-le}
+use native.Mathlib.Omega.{arith}
+use mathlib.Core.Logic.{⊎-elim}
+use lib.Dec.{leb}
+use borrow.Author.Tests.{le-leb, lt-leb}
+use Rattle.varint.specs.Writing.{lt-or-le}
+use lib.ListN.{length, take, drop, length-append, length-drop, take-append-drop}
+use lib.Seq.{drop-drop, length-take-le}
+use Rattle.utf8.specs.Text.{Step, ends, char, mark, step, size, whole, becomes, isUtf8, lossy}
+use Rattle.utf8.specs.Stepping.{Bounded, step-bounds}
+use Rattle.utf8.specs.Lossy.{lossy-none, lossy-on, isUtf8-on, lossy-front, isUtf8-front}
+
+-- As a step does, x takes some bytes off the front of s, and says what they become.
+pub record Advances (s : List ℕ) (x : Step) : Type 0 where
+  pub text : lossy s ≡ becomes x s ++ lossy (drop (size x) s)
+  pub well : isUtf8 s ≡ whole x && isUtf8 (drop (size x) s)
+  pub there : size x ≤ length s
+  pub moves : 1 ≤ length s → 1 ≤ size x
+
+-- a step does
+pub step-advances : (s : List ℕ) → Advances s (step s)
+step-advances s = record { text = lossy-on s; well = isUtf8-on s; there = go (step s) (step-bounds s) .0; moves = go (step s) (step-bounds s) .1 }
+  where
+    go : (x : Step) → Bounded x (length s) → (size x ≤ length s) × (1 ≤ length s → 1 ≤ size x)
+    go ends b = (omega arith, λ h. absurd (omega arith))
+    go (char n) b = (b .1, λ h. b .0)
+    go (mark n) b = (b .1, λ h. b .0)
+
+-- and so does a well-formed text at the front
+pub text-advances : (s : List ℕ) (n : ℕ) → 1 ≤ n → n ≤ length s → isUtf8 (take n s) ≡ true → Advances s (char n)
+text-advances s n some there e = record {
+  text = ap lossy (sym (take-append-drop n s)) ∙ lossy-front (drop n s) (take n s) e;
+  well = ap isUtf8 (sym (take-append-drop n s)) ∙ isUtf8-front (drop n s) (take n s) e;
+  there = there;
+  moves = λ h. some;
+}
+
+-- how many bytes it becomes
+abbrev pub textSize : Step → ℕ
+textSize ends = 0
+textSize (char n) = n
+textSize (mark n) = 3
+
+pub becomes-length : (s : List ℕ) (x : Step) → size x ≤ length s → length (becomes x s) ≡ textSize x
+becomes-length s ends h = refl
+becomes-length s (char n) h = length-take-le n s h
+becomes-length s (mark n) h = refl
+
+pub advances-length : (s : List ℕ) (x : Step) → Advances s x → length (lossy s) ≡ textSize x + length (lossy (drop (size x) s))
+advances-length s x a =
+    ap length (a .text)
+    ∙ length-append (becomes x s) (lossy (drop (size x) s))
+    ∙ ap (λ (n : ℕ). n + length (lossy (drop (size x) s))) (becomes-length s x (a .there))
+
+-- bytes become bytes
+pub lossy-some : (s : List ℕ) → 1 ≤ length s → 1 ≤ length (lossy s)
+lossy-some s h = let e = advances-length s (step s) (step-advances s) in omega (arith, go (step s) (step-bounds s))
+  where
+    go : (x : Step) → Bounded x (length s) → 1 ≤ textSize x
+    go ends b = absurd (omega arith)
+    go (char n) b = b .0
+    go (mark n) b = omega arith
+
+-- room for a text, less what it becomes, is room for the rest
+pub room-on : (s : List ℕ) (x : Step) (room : ℕ) → Advances s x → textSize x ≤ room
+    → leb (length (lossy s)) room ≡ leb (length (lossy (drop (size x) s))) (room - textSize x)
+room-on s x room a h =
+    let e = advances-length s x a in
+    let m = length (lossy (drop (size x) s)) in
+    ⊎-elim
+    (λ g. lt-leb (length (lossy s)) room (omega arith) ∙ sym (lt-leb m (room - textSize x) g))
+    (λ g. le-leb (length (lossy s)) room (omega arith) ∙ sym (le-leb m (room - textSize x) g))
+    (lt-or-le (room - textSize x) m)
+
+pub room-off : (s : List ℕ) (x : Step) (room : ℕ) → Advances s x → room < textSize x → leb (length (lossy s)) room ≡ false
+room-off s x room a h = lt-leb (length (lossy s)) room (omega (arith, advances-length s x a))
+
+pub room-none : (room : ℕ) → leb (length (lossy [])) room ≡ true
+room-none room = rw lossy-none (le-leb 0 room zero-le)
+
+-- one that takes no byte is at the end
+pub advances-end : (s : List ℕ) → Advances s ends → length s ≡ 0
+advances-end [] a = refl
+advances-end (b ∷ s) a = absurd (omega (arith, a .moves (omega arith)))
+
+-- What a loop learns that has come to `at`: the bytes from there on are s, and it goes on over n of them.
+module _ (bytes : List ℕ) (at : ℕ) where
+  pub rest-there : (n : ℕ) → n ≤ length (drop at bytes) → at ≤ length bytes → at + n ≤ length bytes
+  rest-there n h g = omega (arith, length-drop at bytes)
+
+  pub rest-some : at < length bytes → 1 ≤ length (drop at bytes)
+  rest-some h = omega (arith, length-drop at bytes)

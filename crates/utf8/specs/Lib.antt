@@ -1,0 +1,12 @@
+pub mod Text
+pub mod Leading
+pub mod Promise
+pub mod Table
+pub mod Stepping
+pub mod Lossy
+pub mod Ascii
+pub mod Same
+pub mod Advance
+pub mod Parts
+pub mod Walk
+pub mod Unique

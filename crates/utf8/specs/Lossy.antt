@@ -1,0 +1,212 @@
+-- Laws about well-formed text and lossy text.
+use mathlib.Core.Path.{_≡_, refl, sym, ap, ap₂, _∙_}
+use mathlib.Core.Logic.{_⊎_, inl, inr, ⊎-elim, _↔_}
+use mathlib.Core.Bool.{Bool, true, false, cond, _&&_}
+use mathlib.Core.List.{List, [], _∷_, _++_, append-assoc, append-nil}
+use Prim.Native.Nat.{ℕ, zero, suc, _+_, _-_, _*_, _≤_, _<_, zero-le, suc-le-suc}
+use native.Mathlib.Omega.{arith}
+use lib.ListN.{length, take, drop, length-append, length-take, length-drop, take-append-drop}
+use lib.Seq.{take-at, drop-at, length-take-le, take-append-le, drop-append-le}
+use Rattle.utf8.specs.Text.{Step, ends, char, mark, step, size, whole, replacement, becomes, isUtf8In, lossyIn, isUtf8, lossy}
+use Rattle.utf8.specs.Stepping.{Bounded, step-bounds, step-kept, step-none, step-replacement, step-ascii}
+
+-- ---- one step
+
+-- a step leaves fewer bytes, or there were none
+rest-length : (s : List ℕ) (left : ℕ) → length s ≤ suc left → length (drop (size (step s)) s) ≤ left
+rest-length s left h = simp length-drop (go (step s) (step-bounds s))
+  where
+    go : (x : Step) → Bounded x (length s) → length s - size x ≤ left
+    go ends b = omega arith
+    go (char n) b = omega arith
+    go (mark n) b = omega arith
+
+module _ (left : ℕ) where
+  lossyIn-on : (s : List ℕ) → lossyIn (suc left) s ≡ becomes (step s) s ++ lossyIn left (drop (size (step s)) s)
+  unfolding lossyIn
+  lossyIn-on s = refl
+
+  isUtf8In-on : (s : List ℕ) → isUtf8In (suc left) s ≡ whole (step s) && isUtf8In left (drop (size (step s)) s)
+  unfolding isUtf8In
+  isUtf8In-on s = refl
+
+lossyIn-none : (left : ℕ) → lossyIn left [] ≡ []
+unfolding lossyIn
+lossyIn-none zero = refl
+lossyIn-none (suc left) = simp (step-none, lossyIn-none left)
+
+isUtf8In-none : (left : ℕ) → isUtf8In left [] ≡ true
+unfolding isUtf8In
+isUtf8In-none zero = refl
+isUtf8In-none (suc left) = simp (step-none, isUtf8In-none left)
+
+-- no bytes
+pub empty : (s : List ℕ) → length s ≤ 0 → s ≡ []
+empty [] h = refl
+empty (b ∷ s) h = absurd (omega arith)
+
+-- Where the count down starts does not matter, as long as it is enough.
+lossyIn-enough : (j k : ℕ) (s : List ℕ) → length s ≤ j → length s ≤ k → lossyIn j s ≡ lossyIn k s
+lossyIn-enough zero k s h g = rw (empty s h) (lossyIn-none 0 ∙ sym (lossyIn-none k))
+lossyIn-enough (suc j) zero s h g = rw (empty s g) (lossyIn-none (suc j) ∙ sym (lossyIn-none 0))
+lossyIn-enough (suc j) (suc k) s h g =
+    lossyIn-on j s
+    ∙ ap (λ (l : List ℕ). becomes (step s) s ++ l)
+    (lossyIn-enough j k (drop (size (step s)) s) (rest-length s j h) (rest-length s k g))
+    ∙ sym (lossyIn-on k s)
+
+isUtf8In-enough : (j k : ℕ) (s : List ℕ) → length s ≤ j → length s ≤ k → isUtf8In j s ≡ isUtf8In k s
+isUtf8In-enough zero k s h g = rw (empty s h) (isUtf8In-none 0 ∙ sym (isUtf8In-none k))
+isUtf8In-enough (suc j) zero s h g = rw (empty s g) (isUtf8In-none (suc j) ∙ sym (isUtf8In-none 0))
+isUtf8In-enough (suc j) (suc k) s h g =
+    isUtf8In-on j s
+    ∙ ap (λ (l : Bool). whole (step s) && l)
+    (isUtf8In-enough j k (drop (size (step s)) s) (rest-length s j h) (rest-length s k g))
+    ∙ sym (isUtf8In-on k s)
+
+-- So both unroll without it.
+pub lossy-on : (s : List ℕ) → lossy s ≡ becomes (step s) s ++ lossy (drop (size (step s)) s)
+unfolding lossy
+lossy-on s =
+    let t = drop (size (step s)) s in
+    lossyIn-enough (length s) (suc (length s)) s (omega arith) (omega arith)
+    ∙ lossyIn-on (length s) s
+    ∙ ap (λ (l : List ℕ). becomes (step s) s ++ l) (lossyIn-enough (length s) (length t) t (rest-length s (length s) (omega arith)) (omega arith))
+
+pub isUtf8-on : (s : List ℕ) → isUtf8 s ≡ whole (step s) && isUtf8 (drop (size (step s)) s)
+unfolding isUtf8
+isUtf8-on s =
+    let t = drop (size (step s)) s in
+    isUtf8In-enough (length s) (suc (length s)) s (omega arith) (omega arith)
+    ∙ isUtf8In-on (length s) s
+    ∙ ap (λ (l : Bool). whole (step s) && l) (isUtf8In-enough (length s) (length t) t (rest-length s (length s) (omega arith)) (omega arith))
+
+pub lossy-none : lossy [] ≡ []
+unfolding lossy
+lossy-none = lossyIn-none 0
+
+pub isUtf8-none : isUtf8 [] ≡ true
+unfolding isUtf8
+isUtf8-none = isUtf8In-none 0
+
+module _ (s : List ℕ) (n : ℕ) where
+  pub lossy-char : step s ≡ char n → lossy s ≡ take n s ++ lossy (drop n s)
+  lossy-char is = rw is at (lossy-on s)
+
+  pub lossy-mark : step s ≡ mark n → lossy s ≡ replacement ++ lossy (drop n s)
+  lossy-mark is = rw is at (lossy-on s)
+
+  pub isUtf8-char : step s ≡ char n → isUtf8 s ≡ isUtf8 (drop n s)
+  isUtf8-char is = rw is at (isUtf8-on s)
+
+  pub isUtf8-mark : step s ≡ mark n → isUtf8 s ≡ false
+  isUtf8-mark is = rw is at (isUtf8-on s)
+
+  pub char-bounds : step s ≡ char n → (1 ≤ n) × (n ≤ length s) × (n ≤ 4)
+  char-bounds is = rw is at (step-bounds s)
+
+  pub mark-bounds : step s ≡ mark n → (1 ≤ n) × (n ≤ length s) × (n ≤ 3)
+  mark-bounds is = rw is at (step-bounds s)
+
+-- A law about a text goes step by step.
+module _ (P : List ℕ → Type 0) (none : P [])
+    (one : (s : List ℕ) (n : ℕ) → step s ≡ char n → P (drop n s) → P s)
+    (bad : (s : List ℕ) (n : ℕ) → step s ≡ mark n → P (drop n s) → P s) where
+  next : (s : List ℕ) (x : Step) → step s ≡ x → P (drop (size x) s) → P s
+  next s ends is p = p
+  next s (char n) is p = one s n is p
+  next s (mark n) is p = bad s n is p
+
+  within-steps : (left : ℕ) (s : List ℕ) → length s ≤ left → P s
+  within-steps zero s h = rw (empty s h) none
+  within-steps (suc left) s h = next s (step s) refl (within-steps left (drop (size (step s)) s) (rest-length s left h))
+
+  pub by-steps : (s : List ℕ) → P s
+  by-steps s = within-steps (length s) s (omega arith)
+
+-- ---- law: lossy text is well-formed, of a well-formed text it is that text, and so on
+
+-- true is not false
+pub not-both : {G : Type 0} {t : Bool} → t ≡ true → t ≡ false → G
+not-both p q = let z : _≡_ {A = ℕ} 0 1 = cc in absurd (omega arith)
+
+-- the first step of a lossy text
+module _ (s : List ℕ) (n : ℕ) where
+  pub lossy-step-char : step s ≡ char n → step (lossy s) ≡ char n
+  lossy-step-char is = rw (lossy-char s n is) (step-kept s (lossy (drop n s)) n is)
+
+  pub lossy-step-mark : step s ≡ mark n → step (lossy s) ≡ char 3
+  lossy-step-mark is = rw (lossy-mark s n is) (step-replacement (lossy (drop n s)))
+
+  lossy-rest-char : step s ≡ char n → drop n (lossy s) ≡ lossy (drop n s)
+  lossy-rest-char is = rw (lossy-char s n is) (drop-at (take n s) (lossy (drop n s)) n (length-take-le n s (char-bounds s n is .1)))
+
+  lossy-rest-mark : step s ≡ mark n → drop 3 (lossy s) ≡ lossy (drop n s)
+  lossy-rest-mark is = rw (lossy-mark s n is)
+
+pub lossy-well : (s : List ℕ) → isUtf8 (lossy s) ≡ true
+lossy-well =
+    by-steps (λ (s : List ℕ). isUtf8 (lossy s) ≡ true)
+    (ap isUtf8 lossy-none ∙ isUtf8-none)
+    (λ s n is p. isUtf8-char (lossy s) n (lossy-step-char s n is) ∙ ap isUtf8 (lossy-rest-char s n is) ∙ p)
+    (λ s n is p. isUtf8-char (lossy s) 3 (lossy-step-mark s n is) ∙ ap isUtf8 (lossy-rest-mark s n is) ∙ p)
+
+pub lossy-same : (s : List ℕ) → isUtf8 s ≡ true → lossy s ≡ s
+lossy-same =
+    by-steps (λ (s : List ℕ). isUtf8 s ≡ true → lossy s ≡ s)
+    (λ e. lossy-none)
+    (λ s n is p e.
+    lossy-char s n is
+    ∙ ap (λ (l : List ℕ). take n s ++ l) (p (sym (isUtf8-char s n is) ∙ e))
+    ∙ take-append-drop n s)
+    (λ s n is p e. not-both e (isUtf8-mark s n is))
+
+pub well-iff : (s : List ℕ) → (isUtf8 s ≡ true) ↔ (lossy s ≡ s)
+well-iff s = (lossy-same s, λ e. sym (ap isUtf8 e) ∙ lossy-well s)
+
+pub lossy-again : (s : List ℕ) → lossy (lossy s) ≡ lossy s
+lossy-again s = lossy-same (lossy s) (lossy-well s)
+
+-- ---- law: it is at most three times as long
+
+pub lossy-length : (s : List ℕ) → length (lossy s) ≤ 3 * length s
+lossy-length =
+    by-steps (λ (s : List ℕ). length (lossy s) ≤ 3 * length s)
+    (rw lossy-none zero-le)
+    (λ s n is p.
+    let b = char-bounds s n is in
+    let q = rw (length-drop n s) at p in
+    rw (lossy-char s n is) (rw (length-append (take n s) (lossy (drop n s)), length-take-le n s (b .1)) (omega arith)))
+    (λ s n is p.
+    let b = mark-bounds s n is in
+    let q = rw (length-drop n s) at p in
+    rw (lossy-mark s n is) (omega arith))
+
+-- ---- law: a well-formed text in front stays in front
+
+module _ (b : List ℕ) where
+  step-front : (a : List ℕ) (n : ℕ) → step a ≡ char n → step (a ++ b) ≡ char n
+  step-front a n is = rw (sym (take-append-drop n a)) (rw (append-assoc (take n a) (drop n a) b) (step-kept a (drop n a ++ b) n is))
+
+  pub lossy-front : (a : List ℕ) → isUtf8 a ≡ true → lossy (a ++ b) ≡ a ++ lossy b
+  lossy-front =
+      by-steps (λ (a : List ℕ). isUtf8 a ≡ true → lossy (a ++ b) ≡ a ++ lossy b)
+      (λ e. refl)
+      (λ a n is p e.
+      let le = char-bounds a n is .1 in
+      lossy-char (a ++ b) n (step-front a n is)
+      ∙ rw (take-append-le n a b le, drop-append-le n a b le)
+      (ap (λ (l : List ℕ). take n a ++ l) (p (sym (isUtf8-char a n is) ∙ e))
+      ∙ sym (append-assoc (take n a) (drop n a) (lossy b))
+      ∙ ap (λ (l : List ℕ). l ++ lossy b) (take-append-drop n a)))
+      (λ a n is p e. not-both e (isUtf8-mark a n is))
+
+  pub isUtf8-front : (a : List ℕ) → isUtf8 a ≡ true → isUtf8 (a ++ b) ≡ isUtf8 b
+  isUtf8-front =
+      by-steps (λ (a : List ℕ). isUtf8 a ≡ true → isUtf8 (a ++ b) ≡ isUtf8 b)
+      (λ e. refl)
+      (λ a n is p e.
+      isUtf8-char (a ++ b) n (step-front a n is)
+      ∙ ap isUtf8 (drop-append-le n a b (char-bounds a n is .1))
+      ∙ p (sym (isUtf8-char a n is) ∙ e))
+      (λ a n is p e. not-both e (isUtf8-mark a n is))

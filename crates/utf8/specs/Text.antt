@@ -1,0 +1,127 @@
+-- Well-formed UTF-8 and its repair: the Unicode standard, section 3.9, with table 3-7 and the definitions D92 and D93b.
+use mathlib.Core.Bool.{Bool, true, false, cond, _&&_}
+use mathlib.Core.List.{List, [], _∷_, _++_}
+use Prim.Native.Nat.{ℕ, zero, suc, _-_}
+use lib.Dec.{leb, eqb}
+use lib.ListN.{length, take, drop}
+
+infixl 20 _to_
+-- the bytes from the first to the last
+pub data Range : Type 0 where
+  _to_ : ℕ → ℕ → Range
+
+-- A row of the table: what the first byte may be, what the second, and how many bytes there are. A third and a fourth may be
+-- 80 to BF in every row. In the first row there is no second byte.
+pub data Row : Type 0 where
+  row : Range → Range → ℕ → Row
+
+-- Table 3-7, "Well-Formed UTF-8 Byte Sequences".
+unfoldable pub rows : List Row
+rows =
+    row (0x00 to 0x7F) (0x00 to 0x00) 1
+    ∷ row (0xC2 to 0xDF) (0x80 to 0xBF) 2
+    ∷ row (0xE0 to 0xE0) (0xA0 to 0xBF) 3
+    ∷ row (0xE1 to 0xEC) (0x80 to 0xBF) 3
+    ∷ row (0xED to 0xED) (0x80 to 0x9F) 3
+    ∷ row (0xEE to 0xEF) (0x80 to 0xBF) 3
+    ∷ row (0xF0 to 0xF0) (0x90 to 0xBF) 4
+    ∷ row (0xF1 to 0xF3) (0x80 to 0xBF) 4
+    ∷ row (0xF4 to 0xF4) (0x80 to 0x8F) 4
+    ∷ []
+
+-- the places after the first, as many as that: the next from its own range, the others from 80 to BF
+unfoldable pub follow : ℕ → Range → List Range
+follow zero next = []
+follow (suc left) next = next ∷ follow left (0x80 to 0xBF)
+
+-- what each byte of a row's sequences may be
+abbrev pub places : Row → List Range
+places (row lead second bytes) = lead ∷ follow (bytes - 1) second
+
+unfoldable pub inside : Range → ℕ → Bool
+inside (low to high) b = leb low b && leb b high
+
+-- the first byte is there and in the range
+abbrev pub starts : Range → List ℕ → Bool
+starts p [] = false
+starts p (b ∷ s) = inside p b
+
+-- how many bytes at the front are as these places say
+unfoldable pub front : List Range → List ℕ → ℕ
+front [] s = 0
+front (p ∷ ps) s = cond (starts p s) (suc (front ps (drop 1 s))) 0
+
+-- What stands at the front of some bytes: nothing, a well-formed sequence of so many bytes, or a maximal subpart of an
+-- ill-formed one.
+pub data Step : Type 0 where
+  ends : Step
+  char : ℕ → Step
+  mark : ℕ → Step
+
+-- A sequence that has all of its row's places is well-formed (D92), and one that has some is the start of a well-formed one.
+abbrev pub taken : ℕ → ℕ → Step
+taken all n = cond (eqb n all) (char n) (mark n)
+
+-- By the row in whose range the first byte is: no two rows share one. A maximal subpart is the longest start of a well-formed
+-- sequence, or one byte where there is none (D93b).
+unfoldable pub stepIn : List Row → List ℕ → Step
+stepIn [] s = mark 1
+stepIn (row lead second bytes ∷ rs) s =
+    cond (starts lead s)
+    (taken (length (places (row lead second bytes))) (front (places (row lead second bytes)) s))
+    (stepIn rs s)
+
+unfoldable pub step : List ℕ → Step
+step [] = ends
+step (b ∷ s) = stepIn rows (b ∷ s)
+
+-- how many bytes a step takes
+abbrev pub size : Step → ℕ
+size ends = 0
+size (char n) = n
+size (mark n) = n
+
+-- whether it is well-formed
+abbrev pub whole : Step → Bool
+whole ends = true
+whole (char n) = true
+whole (mark n) = false
+
+-- U+FFFD, the replacement character
+abbrev pub replacement : List ℕ
+replacement = 0xEF ∷ 0xBF ∷ 0xBD ∷ []
+
+-- what it becomes in the lossy text
+abbrev pub becomes : Step → List ℕ → List ℕ
+becomes ends s = []
+becomes (char n) s = take n s
+becomes (mark n) s = replacement
+
+-- Step after step, as many as are counted down.
+unfoldable pub isUtf8In : ℕ → List ℕ → Bool
+isUtf8In zero s = true
+isUtf8In (suc left) s = whole (step s) && isUtf8In left (drop (size (step s)) s)
+
+unfoldable pub lossyIn : ℕ → List ℕ → List ℕ
+lossyIn zero s = []
+lossyIn (suc left) s = becomes (step s) s ++ lossyIn left (drop (size (step s)) s)
+
+-- A step takes at least one byte, so there are no more steps than bytes.
+
+-- The bytes are well-formed UTF-8.
+unfoldable pub isUtf8 : List ℕ → Bool
+isUtf8 s = isUtf8In (length s) s
+
+-- The bytes with each maximal subpart of an ill-formed sequence replaced ("U+FFFD Substitution of Maximal Subparts").
+unfoldable pub lossy : List ℕ → List ℕ
+lossy s = lossyIn (length s) s
+
+-- The same bytes, and the same lossy text.
+unfoldable pub same : List ℕ → List ℕ → Bool
+same [] [] = true
+same [] (b ∷ t) = false
+same (a ∷ s) [] = false
+same (a ∷ s) (b ∷ t) = eqb a b && same s t
+
+unfoldable pub sameText : List ℕ → List ℕ → Bool
+sameText s t = same (lossy s) (lossy t)

@@ -1,0 +1,454 @@
+// Text: well-formed UTF-8, lossy text and texts that are the same (the Unicode standard, section 3.9).
+//
+// No public call has a `requires`, and a refusal changes no byte.
+use varint::NO_ROOM;
+use varint::Refusal;
+use varint::Written;
+ghost use mathlib.Core.Path.{_≡_};
+ghost use mathlib.Core.Bool.{_&&_};
+ghost use Prim.Native.Nat.{suc, _-_, _≤_};
+ghost use lib.ListN.{length, take, drop};
+ghost use lib.Dec.{leb};
+ghost use Rattle.varint.specs.Answer.{written, within, leaves};
+ghost use Rattle.varint.specs.Promise.{Writes};
+ghost use Rattle.utf8.specs.Text.{rows, inside, follow, front, taken, step, size, becomes, isUtf8, lossy, same, sameText};
+ghost use Rattle.utf8.specs.Promise.{asRange, seen, ledBy};
+ghost use Rattle.utf8.specs.Leading.{rowFor};
+ghost use Rattle.utf8.specs.Ascii.{ascii};
+ghost use Rattle.utf8.specs.Advance.{Advances, textSize};
+ghost use Rattle.utf8.specs.Walk.{Walks};
+
+// The bytes from the first to the last.
+struct Range {
+    low: u8,
+    high: u8,
+}
+
+// A row of table 3-7: what the first byte may be, what the second, and how many bytes there are.
+struct Row {
+    lead: Range,
+    second: Range,
+    bytes: usize,
+}
+
+const ROWS: [Row; 9] = [
+    Row {
+        lead: Range {
+            low: 0x00,
+            high: 0x7F,
+        },
+        second: Range {
+            low: 0x00,
+            high: 0x00,
+        },
+        bytes: 1,
+    },
+    Row {
+        lead: Range {
+            low: 0xC2,
+            high: 0xDF,
+        },
+        second: Range {
+            low: 0x80,
+            high: 0xBF,
+        },
+        bytes: 2,
+    },
+    Row {
+        lead: Range {
+            low: 0xE0,
+            high: 0xE0,
+        },
+        second: Range {
+            low: 0xA0,
+            high: 0xBF,
+        },
+        bytes: 3,
+    },
+    Row {
+        lead: Range {
+            low: 0xE1,
+            high: 0xEC,
+        },
+        second: Range {
+            low: 0x80,
+            high: 0xBF,
+        },
+        bytes: 3,
+    },
+    Row {
+        lead: Range {
+            low: 0xED,
+            high: 0xED,
+        },
+        second: Range {
+            low: 0x80,
+            high: 0x9F,
+        },
+        bytes: 3,
+    },
+    Row {
+        lead: Range {
+            low: 0xEE,
+            high: 0xEF,
+        },
+        second: Range {
+            low: 0x80,
+            high: 0xBF,
+        },
+        bytes: 3,
+    },
+    Row {
+        lead: Range {
+            low: 0xF0,
+            high: 0xF0,
+        },
+        second: Range {
+            low: 0x90,
+            high: 0xBF,
+        },
+        bytes: 4,
+    },
+    Row {
+        lead: Range {
+            low: 0xF1,
+            high: 0xF3,
+        },
+        second: Range {
+            low: 0x80,
+            high: 0xBF,
+        },
+        bytes: 4,
+    },
+    Row {
+        lead: Range {
+            low: 0xF4,
+            high: 0xF4,
+        },
+        second: Range {
+            low: 0x80,
+            high: 0x8F,
+        },
+        bytes: 4,
+    },
+];
+
+// What stands at the front of some bytes: nothing, a well-formed sequence, or a maximal subpart of an ill-formed one.
+enum Step {
+    End,
+    Char(usize),
+    Mark(usize),
+}
+
+// The step at the front of `s`, by the row in whose range its first byte is.
+fn front_step(s: &[u8]) -> Step
+    ensures { λ r. ⌜ seen r ≡ step (now (s .entry)) ⌝ }
+{
+    if s.len() == 0 {
+        return Step::End;
+    }
+    let lead = s[0];
+    // ASCII is the first row, and by far the most frequent.
+    if lead < 128 {
+        return Step::Char(1);
+    }
+    match lead_row(lead) {
+        Lead::Unused => Step::Mark(1),
+        Lead::In(r) => step_on(s, r.bytes, r.second),
+    }
+}
+
+// The row in whose range a first byte is, if there is one.
+enum Lead {
+    Unused,
+    In(Row),
+}
+
+fn lead_row(lead: u8) -> Lead
+    ensures { λ r. ⌜ ledBy r ≡ rowFor rows lead ⌝ }
+{
+    let mut i = 0;
+    while i < 9 {
+        let r = ROWS[i];
+        if in_range(lead, r.lead) {
+            return Lead::In(r);
+        }
+        i += 1;
+    }
+    Lead::Unused
+}
+
+fn in_range(byte: u8, range: Range) -> bool
+    ensures { λ r. ⌜ r ≡ inside (asRange range) byte ⌝ }
+{
+    range.low <= byte && byte <= range.high
+}
+
+// The step whose first byte is right, in a row of so many bytes and this range for the second.
+fn step_on(s: &[u8], bytes: usize, second: Range) -> Step
+    requires { ⌜ 1 ≤ length (now s) ⌝ }
+    ensures { λ r. ⌜ seen r ≡ taken (suc (bytes - 1)) (suc (front (follow (bytes - 1) (asRange second)) (drop 1 (now (s .entry))))) ⌝ }
+{
+    let mut at = 1;
+    let mut low = second.low;
+    let mut high = second.high;
+    while at < bytes {
+        if s.len() <= at {
+            return Step::Mark(at);
+        }
+        let byte = s[at];
+        if byte < low {
+            return Step::Mark(at);
+        }
+        if high < byte {
+            return Step::Mark(at);
+        }
+        low = 0x80;
+        high = 0xBF;
+        at += 1;
+    }
+    Step::Char(at)
+}
+
+// How far one can go on at once from the front of `s`: over eight bytes of ASCII, or over a step.
+fn stride(s: &[u8]) -> Step
+    ensures { λ r. ⌜ Advances (now (s .entry)) (seen r) ⌝ }
+{
+    if 8 <= s.len() {
+        if eight_ascii(s) {
+            return Step::Char(8);
+        }
+    }
+    front_step(s)
+}
+
+// Whether the first eight bytes are ASCII. No test waits for the one before, so the compiler can take them together.
+fn eight_ascii(s: &[u8]) -> bool
+    requires { ⌜ 8 ≤ length (now s) ⌝ }
+    ensures { λ r. ⌜ r ≡ ascii (take 8 (now (s .entry))) ⌝ }
+{
+    (s[0] < 128)
+        & (s[1] < 128)
+        & (s[2] < 128)
+        & (s[3] < 128)
+        & (s[4] < 128)
+        & (s[5] < 128)
+        & (s[6] < 128)
+        & (s[7] < 128)
+}
+
+// Whether the bytes are well-formed UTF-8.
+pub fn is_utf8(bytes: &[u8]) -> bool
+    ensures { λ r. ⌜ r ≡ isUtf8 (now (bytes .entry)) ⌝ }
+{
+    let mut at = 0;
+    while at < bytes.len() {
+        let Step::Char(n) = stride(&bytes[at..]) else {
+            return false;
+        };
+        at += n;
+    }
+    true
+}
+
+// Writes the lossy text of the bytes at the front of `out`.
+pub fn lossy_text(bytes: &[u8], out: &mut [u8]) -> Written
+    ensures { λ r. ⌜ Writes (within (length (now (out .entry))) (written (lossy (now (bytes .entry))))) r (now (out .entry)) (now (out .exit)) ⌝ }
+{
+    if !has_room(bytes, out.len()) {
+        return Written::Refused(Refusal {
+            number: NO_ROOM,
+            place: 0,
+        });
+    }
+    let n = write_lossy(bytes, out);
+    Written::Done(n)
+}
+
+// Whether so many bytes are enough for the lossy text.
+fn has_room(bytes: &[u8], room: usize) -> bool
+    ensures { λ r. ⌜ r ≡ leb (length (lossy (now (bytes .entry)))) room ⌝ }
+{
+    let mut at = 0;
+    let mut left = room;
+    while at < bytes.len() {
+        let x = stride(&bytes[at..]);
+        let needs = text_len(x);
+        if left < needs {
+            return false;
+        }
+        left -= needs;
+        at += step_len(x);
+    }
+    true
+}
+
+// Writes the lossy text, where there is room.
+fn write_lossy(bytes: &[u8], out: &mut [u8]) -> usize
+    requires { ⌜ length (lossy (now bytes)) ≤ length (now out) ⌝ }
+    ensures { λ r. ⌜ r ≡ length (lossy (now (bytes .entry))) ⌝ }
+    ensures { λ r. ⌜ now (out .exit) ≡ leaves (written (lossy (now (bytes .entry)))) (now (out .entry)) ⌝ }
+{
+    let mut at = 0;
+    let mut n = 0;
+    while at < bytes.len() {
+        let x = stride(&bytes[at..]);
+        put(&bytes[at..], x, &mut out[n..]);
+        n += text_len(x);
+        at += step_len(x);
+    }
+    n
+}
+
+// How many bytes a step takes, and how many it becomes.
+fn step_len(x: Step) -> usize
+    ensures { λ r. ⌜ r ≡ size (seen x) ⌝ }
+{
+    match x {
+        Step::End => 0,
+        Step::Char(n) => n,
+        Step::Mark(n) => n,
+    }
+}
+
+fn text_len(x: Step) -> usize
+    ensures { λ r. ⌜ r ≡ textSize (seen x) ⌝ }
+{
+    match x {
+        Step::End => 0,
+        Step::Char(n) => n,
+        Step::Mark(_) => 3,
+    }
+}
+
+// Writes what a step at the front of `s` becomes, where there is room.
+fn put(s: &[u8], x: Step, out: &mut [u8])
+    requires { ⌜ size (seen x) ≤ length (now s) ⌝ }
+    requires { ⌜ textSize (seen x) ≤ length (now out) ⌝ }
+    ensures { λ r. ⌜ now (out .exit) ≡ leaves (written (becomes (seen x) (now (s .entry)))) (now (out .entry)) ⌝ }
+{
+    match x {
+        Step::End => {}
+        Step::Char(n) => copy(&s[..n], out),
+        Step::Mark(_) => {
+            out[0] = 0xEF;
+            out[1] = 0xBF;
+            out[2] = 0xBD;
+        }
+    }
+}
+
+fn copy(s: &[u8], out: &mut [u8])
+    requires { ⌜ length (now s) ≤ length (now out) ⌝ }
+    ensures { λ r. ⌜ now (out .exit) ≡ leaves (written (now (s .entry))) (now (out .entry)) ⌝ }
+{
+    let mut i = 0;
+    while i < s.len() {
+        out[i] = s[i];
+        i += 1;
+    }
+}
+
+// Whether the lossy texts are the same, by walking both at once.
+pub fn same_text(a: &[u8], b: &[u8]) -> bool
+    ensures { λ r. ⌜ r ≡ sameText (now (a .entry)) (now (b .entry)) ⌝ }
+{
+    let mut i = 0;
+    let mut j = 0;
+    while i < a.len() {
+        let Both::On(m, n) = both_stride(&a[i..], &b[j..]) else {
+            return false;
+        };
+        i += m;
+        j += n;
+    }
+    j == b.len()
+}
+
+// How far one can go on at once in two texts that start in the same way.
+enum Both {
+    Apart,
+    On(usize, usize),
+}
+
+fn both_stride(a: &[u8], b: &[u8]) -> Both
+    ensures { λ r. ⌜ Walks (now (a .entry)) (now (b .entry)) r ⌝ }
+{
+    if 8 <= a.len() {
+        if 8 <= b.len() {
+            if eight_same(a, b) {
+                return Both::On(8, 8);
+            }
+        }
+    }
+    both_step(a, b)
+}
+
+// Whether the first eight bytes are ASCII and the same.
+fn eight_same(a: &[u8], b: &[u8]) -> bool
+    requires { ⌜ 8 ≤ length (now a) ⌝ }
+    requires { ⌜ 8 ≤ length (now b) ⌝ }
+    ensures { λ r. ⌜ r ≡ ascii (take 8 (now (a .entry))) && same (take 8 (now (a .entry))) (take 8 (now (b .entry))) ⌝ }
+{
+    eight_ascii(a)
+        & (a[0] == b[0])
+        & (a[1] == b[1])
+        & (a[2] == b[2])
+        & (a[3] == b[3])
+        & (a[4] == b[4])
+        & (a[5] == b[5])
+        & (a[6] == b[6])
+        & (a[7] == b[7])
+}
+
+// A step of each.
+fn both_step(a: &[u8], b: &[u8]) -> Both
+    ensures { λ r. ⌜ Walks (now (a .entry)) (now (b .entry)) r ⌝ }
+{
+    let x = front_step(a);
+    let y = front_step(b);
+    if !same_start(a, x, b, y) {
+        return Both::Apart;
+    }
+    Both::On(step_len(x), step_len(y))
+}
+
+// Whether two steps at the front of `a` and `b` become the same.
+fn same_start(a: &[u8], x: Step, b: &[u8], y: Step) -> bool
+    requires { ⌜ size (seen x) ≤ length (now a) ⌝ }
+    requires { ⌜ size (seen y) ≤ length (now b) ⌝ }
+    ensures { λ r. ⌜ r ≡ same (becomes (seen x) (now (a .entry))) (becomes (seen y) (now (b .entry))) ⌝ }
+{
+    match x {
+        Step::End => starts_as(&[], b, y),
+        Step::Char(n) => starts_as(&a[..n], b, y),
+        Step::Mark(_) => starts_as(&[0xEF, 0xBF, 0xBD], b, y),
+    }
+}
+
+fn starts_as(text: &[u8], b: &[u8], y: Step) -> bool
+    requires { ⌜ size (seen y) ≤ length (now b) ⌝ }
+    ensures { λ r. ⌜ r ≡ same (now (text .entry)) (becomes (seen y) (now (b .entry))) ⌝ }
+{
+    match y {
+        Step::End => same_bytes(text, &[]),
+        Step::Char(n) => same_bytes(text, &b[..n]),
+        Step::Mark(_) => same_bytes(text, &[0xEF, 0xBF, 0xBD]),
+    }
+}
+
+fn same_bytes(a: &[u8], b: &[u8]) -> bool
+    ensures { λ r. ⌜ r ≡ same (now (a .entry)) (now (b .entry)) ⌝ }
+{
+    if a.len() != b.len() {
+        return false;
+    }
+    let mut i = 0;
+    while i < a.len() {
+        if a[i] != b[i] {
+            return false;
+        }
+        i += 1;
+    }
+    true
+}
