@@ -16,12 +16,15 @@ ghost use Rattle.varint.specs.Number.{numberBytes};
 ghost use Rattle.varint.specs.Promise.{Writes};
 ghost use Rattle.types.specs.Value.{Width, integer, address, text, shape, kept, signExtended, inFields, string, content, behind, moved, typed, value};
 ghost use Rattle.types.specs.Form.{inside, stringBytes, formed, valueBytes, writableRecord, ranged, form, size};
+ghost use Rattle.types.specs.Check.{stringRefusal, partRefusal, refusal};
 ghost use Rattle.types.specs.Promise.{textRead, recordOf, typedRead};
 
 // A data type is 10 to 15.
 pub const NO_TYPE: u64 = 8;
 // A record is not writable.
 pub const NOT_WRITABLE: u64 = 14;
+// A text is not UTF-8.
+pub const NOT_TEXT: u64 = 15;
 // A record points outside its buffer.
 pub const OUTSIDE: u64 = 16;
 
@@ -250,6 +253,44 @@ pub fn part_inside(start: u64, len: u64, buffer: &[u8]) -> bool
         return false;
     }
     len <= room - start
+}
+
+// What a string that a record points at is refused with: 16 outside the buffer, 15 where it is not UTF-8; else 0.
+pub fn check_string(start: u64, len: u64, buffer: &[u8]) -> u64
+    ensures { λ r. ⌜ r ≡ stringRefusal (now (buffer .entry)) start len ⌝ }
+{
+    if !part_inside(start, len, buffer) {
+        return OUTSIDE;
+    }
+    let from = start as usize;
+    let to = from + len as usize;
+    if !utf8::is_utf8(&buffer[from..to]) {
+        return NOT_TEXT;
+    }
+    0
+}
+
+// What a value is refused with past 14: its range, and the text of a string.
+pub fn check_part(value: Value, buffer: &[u8]) -> u64
+    ensures { λ r. ⌜ r ≡ partRefusal (now (buffer .entry)) (recordOf value) ⌝ }
+{
+    if value.kind == 8 {
+        return check_string(value.a, value.b, buffer);
+    }
+    if !in_range(value, buffer) {
+        return OUTSIDE;
+    }
+    0
+}
+
+// What a value is refused with: 14, 16 or 15, the first of these that holds; else 0.
+pub fn check_value(value: Value, buffer: &[u8]) -> u64
+    ensures { λ r. ⌜ r ≡ refusal (now (buffer .entry)) (recordOf value) ⌝ }
+{
+    if !writable(value) {
+        return NOT_WRITABLE;
+    }
+    check_part(value, buffer)
 }
 
 // How many bytes the written form of a string has.
