@@ -1,5 +1,4 @@
 -- What the calls' own types mean: for each case the number and the values of document 01.
-use Prim.Native.Nat.{ℕ}
 use Rattle.types.specs.declared.Text.{Text}
 use Rattle.types.specs.declared.Text.the-variants as t
 use Rattle.types.specs.declared.Value.{Value}

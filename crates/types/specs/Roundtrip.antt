@@ -1,20 +1,20 @@
 -- Laws about both ways: what was written is read back, at the front of any bytes, and so two values with one written form are
 -- the same.
 use mathlib.Core.Path.{_≡_, refl, sym, ap, ap₂, _∙_}
-use mathlib.Core.Bool.{Bool, true, false, cond, true≢false}
+use mathlib.Core.Bool.{true, false}
 use mathlib.Core.List.{List, [], _∷_, _++_, append-assoc}
-use Prim.Native.Nat.{ℕ, suc, _+_, _-_, _*_, _/_, _%_, _^_, _≤_, _<_}
+use Prim.Native.Nat.{ℕ, _+_, _*_, _/_, _%_, _^_, _≤_, _<_}
 use native.Mathlib.Omega.{arith}
 use native.Mathlib.Nat.{mod-eq-of-lt}
 use lib.ListN.{length, take, drop, length-append}
 use lib.Seq.{drop-drop, take-at, drop-at}
-use Rattle.varint.specs.Answer.{Answer, done, refused}
-use Rattle.varint.specs.Number.{number, numberBytes}
+use Rattle.varint.specs.Answer.{done}
+use Rattle.varint.specs.Number.{numberBytes}
 use Rattle.varint.specs.Reading.{reads-back}
-use Rattle.types.specs.Value.{Span, span, string, Shape, nothing, flag, integer, address, text, reserved, Width, signed32, unsigned32, whole64, shape, Record, value, points, moved, behind, kept, content, typed, inFields}
-use Rattle.types.specs.Form.{part, stringBytes, valueBytes, writableRecord, ranged, Meaning, means, meaning}
-use Rattle.types.specs.Reading.{string-whole, typed-some, integer-whole, address-whole, text-whole, behind-plain, behind-start, signed-below, InWidth, Fields, fields-in, shape-listed}
-use Rattle.types.specs.Writing.{shape-cases, writable-kind, string-bytes, string-length, part-length, part-whole, field-at, bytes-at}
+use Rattle.types.specs.Value.{span, string, Shape, nothing, flag, integer, address, text, reserved, Width, signed32, unsigned32, whole64, shape, Record, value, points, moved, behind, kept, content, typed}
+use Rattle.types.specs.Form.{part, stringBytes, valueBytes, writableRecord, ranged, means, meaning}
+use Rattle.types.specs.Reading.{string-whole, typed-some, integer-whole, address-whole, text-whole, behind-plain, behind-start, signed-below, InWidth, Fields, fields-in}
+use Rattle.types.specs.Writing.{shape-cases, writable-kind, string-bytes, string-length, part-whole, field-at, bytes-at}
 
 -- ---- strings
 
@@ -56,11 +56,17 @@ strings-apart p q t u hp hq e =
 
 -- ---- values
 
--- The written form of v, at the front of these bytes and t, reads as a value of the same meaning and takes its own bytes.
+-- a value's second number: a length, or 0
+abbrev pub second : Record → ℕ
+second (value kind a b) = b
+
+-- The written form of v, at the front of these bytes and t, reads as a value of the same meaning and length and takes its own
+-- bytes.
 pub record ReadsBack (buffer : List ℕ) (v : Record) (bytes t : List ℕ) : Type 0 where
   pub found : Record
   pub reads : typed (bytes ++ t) ≡ done found (length bytes)
   pub same : meaning (bytes ++ t) found ≡ meaning buffer v
+  pub long : second found ≡ second v
 
 -- the type byte picks the kind again
 typed-kind : (x k : ℕ) (s : List ℕ) → x % 16 ≡ k → typed (x ∷ s) ≡ behind moved 1 (content (shape k) k (x / 16) s)
@@ -85,21 +91,22 @@ width-kept whole64 a h = (refl, h)
 
 module _ (buffer t : List ℕ) (k a b : ℕ) (low : k < 16) where
   -- a number, or none, is the same wherever it stands
-  plain-back : (x : ℕ) (rest : List ℕ) (sh : Shape) → shape k ≡ sh → points sh ≡ false → x % 16 ≡ k
+  plain-back : (x : ℕ) (rest : List ℕ) (sh : Shape) → shape k ≡ sh → points sh ≡ false → x % 16 ≡ k → b ≡ 0
       → content sh k (x / 16) (rest ++ t) ≡ done (value k a 0) (length rest)
       → ReadsBack buffer (value k a b) (x ∷ rest) t
-  plain-back x rest sh is p e c = record {
+  plain-back x rest sh is p e z c = record {
     found = value k a 0;
     reads = typed-kind x k (rest ++ t) e ∙ behind-plain k (x / 16) (rest ++ t) sh is a 0 (length rest) p c ∙ ap (done (value k a 0)) (omega arith);
     same = plain-meaning (x ∷ rest ++ t) k a 0 (ap points is ∙ p) ∙ sym (plain-meaning buffer k a b (ap points is ∙ p));
+    long = sym z;
   }
 
   -- bytes are found where they were written
-  part-back : (rest : List ℕ) (sh : Shape) (start n : ℕ) → shape k ≡ sh → points sh ≡ true
+  part-back : (rest : List ℕ) (sh : Shape) (start n : ℕ) → shape k ≡ sh → points sh ≡ true → n ≡ b
       → content sh k (k / 16) (rest ++ t) ≡ done (value k start n) (length rest)
       → part (rest ++ t) start n ≡ part buffer a b
       → ReadsBack buffer (value k a b) (k ∷ rest) t
-  part-back rest sh start n is p c same = record {
+  part-back rest sh start n is p l c same = record {
     found = value k (1 + start) n;
     reads =
         typed-kind k k (rest ++ t) (omega arith)
@@ -109,13 +116,14 @@ module _ (buffer t : List ℕ) (k a b : ℕ) (low : k < 16) where
         part-meaning (k ∷ rest ++ t) k (1 + start) n (ap points is ∙ p)
         ∙ ap (means k 0) (part-behind k start n (rest ++ t) ∙ same)
         ∙ sym (part-meaning buffer k a b (ap points is ∙ p));
+    long = l;
   }
 
   null-back : k ≡ 0 → shape k ≡ nothing → Fields nothing a b → ReadsBack buffer (value k a b) (k ∷ []) t
-  null-back e is f = plain-back k [] nothing is refl (omega arith) (ap (λ (n : ℕ). done (value k n 0) 0) (sym (f .0)))
+  null-back e is f = plain-back k [] nothing is refl (omega arith) (f .1) (ap (λ (n : ℕ). done (value k n 0) 0) (sym (f .0)))
 
   bool-back : k ≡ 1 → shape k ≡ flag → Fields flag a b → ReadsBack buffer (value k a b) ((k + 16 * a) ∷ []) t
-  bool-back e is f = plain-back (k + 16 * a) [] flag is refl (omega arith) (ap (λ (n : ℕ). done (value k n 0) 0) bit)
+  bool-back e is f = plain-back (k + 16 * a) [] flag is refl (omega arith) (f .1) (ap (λ (n : ℕ). done (value k n 0) 0) bit)
     where
       bit : (k + 16 * a) / 16 % 2 ≡ a
       bit = omega arith
@@ -123,13 +131,13 @@ module _ (buffer t : List ℕ) (k a b : ℕ) (low : k < 16) where
   integer-back : (w : Width) → shape k ≡ integer w → Fields (integer w) a b → ReadsBack buffer (value k a b) (k ∷ numberBytes a) t
   integer-back w is f =
       let o = width-kept w a (f .0) in
-      plain-back k (numberBytes a) (integer w) is refl (omega arith)
+      plain-back k (numberBytes a) (integer w) is refl (omega arith) (f .1)
       (integer-whole k (k / 16) (numberBytes a ++ t) w a (length (numberBytes a)) (reads-back a t (o .1))
       ∙ ap (λ (n : ℕ). done (value k n 0) (length (numberBytes a))) (o .0))
 
   address-back : (n : ℕ) → shape k ≡ address n → Fields (address n) a b → length (part buffer a b) ≡ b → ReadsBack buffer (value k a b) (k ∷ part buffer a b) t
   address-back n is f l =
-      part-back (part buffer a b) (address n) 0 n is refl
+      part-back (part buffer a b) (address n) 0 n is refl (sym f)
       (address-whole k (k / 16) (part buffer a b ++ t) n (simp length-append (omega arith)) ∙ ap (done (value k 0 n)) (omega arith))
       (take-at (part buffer a b) t n (omega arith))
 
@@ -137,7 +145,7 @@ module _ (buffer t : List ℕ) (k a b : ℕ) (low : k < 16) where
   text-back is f l =
       let p = part buffer a b in
       let o = string-reads-back p t (omega arith) in
-      part-back (stringBytes p) text (ahead p) (length p) is refl
+      part-back (stringBytes p) text (ahead p) (length p) is refl l
       (text-whole k (k / 16) (stringBytes p ++ t) (ahead p) (length p) (length (stringBytes p)) (o .0))
       (o .1)
 

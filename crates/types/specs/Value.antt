@@ -15,7 +15,8 @@
 --     Binary                     |  9  |  BINARY : <9><LENGTH:varint><BYTES>
 --     10 -> 15  unused/reserved
 --
--- The type is the low half of the first byte and the flags are the high half. A boolean is the lowest flag.
+-- (The line of 5 is misprinted there as 32 bits, UNIT64.) The type is the low half of the first byte and the flags are the high
+-- half, as the Rust has them. A boolean is the lowest flag.
 use mathlib.Core.Bool.{Bool, true, false, cond}
 use mathlib.Core.List.{List, [], _∷_}
 use Prim.Native.Nat.{ℕ, _+_, _-_, _/_, _%_, _^_}

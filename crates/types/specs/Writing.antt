@@ -1,20 +1,20 @@
 -- Laws about the written form of strings and values: how it unrolls and how long it is, and what the tests before it say.
-use mathlib.Core.Path.{_≡_, refl, sym, ap, ap₂, _∙_}
-use mathlib.Core.Bool.{Bool, true, false, cond, true≢false}
+use mathlib.Core.Path.{_≡_, refl, sym, ap, _∙_}
+use mathlib.Core.Bool.{Bool, true, false, cond}
 use mathlib.Core.Logic.{⊎-elim}
 use mathlib.Core.List.{List, [], _∷_, _++_}
-use Prim.Native.Nat.{ℕ, zero, suc, _+_, _-_, _*_, _/_, _%_, _^_, _≤_, _<_}
+use Prim.Native.Nat.{ℕ, _+_, _-_, _*_, _^_, _≤_, _<_}
 use native.Mathlib.Omega.{arith}
 use lib.Dec.{ltb, leb, eqb}
 use lib.ListN.{length, take, drop, length-append, length-take, length-drop}
 use lib.Seq.{length-take-le}
-use borrow.Author.Tests.{lt-ltb, le-ltb, le-leb, lt-leb, eq-eqb, ne-eqb, leb-true, leb-false}
-use Rattle.varint.specs.Answer.{Answer, done, refused, written}
+use borrow.Author.Tests.{lt-ltb, le-ltb, le-leb, lt-leb, ne-eqb, leb-true}
+use Rattle.varint.specs.Answer.{refused, written}
 use Rattle.varint.specs.Number.{numberBytes}
-use Rattle.varint.specs.Writing.{lt-or-le, length-bounds}
+use Rattle.varint.specs.Writing.{lt-or-le}
 use Rattle.types.specs.Value.{Shape, nothing, flag, integer, address, text, reserved, Width, whole64, shape, Record, value, points, both, inWidth, inFields}
-use Rattle.types.specs.Form.{part, inside, stringBytes, formed, valueBytes, writableRecord, ranged, form, size}
-use Rattle.types.specs.Reading.{shape-is, shape-reserved, shape-listed, shape-integer, shape-text, Fields, in-fields, fields-in}
+use Rattle.types.specs.Form.{part, inside, stringBytes, formed, valueBytes, writableRecord, ranged, form}
+use Rattle.types.specs.Reading.{shape-is, shape-reserved, shape-listed, shape-integer, shape-text, in-fields, fields-in}
 
 -- a law about a kind goes by the table's lines
 pub shape-cases : {G : Type 0} (k : ℕ)

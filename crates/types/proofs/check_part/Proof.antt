@@ -1,7 +1,7 @@
 -- `types::check_part` meets its contract: a string by its range and text, any other by its range.
 -- Assumes nothing.
 use borrow.Author.Needs.{needs}
-use mathlib.Core.Path.{_≡_, sym, _∙_}
+use mathlib.Core.Path.{sym, _∙_}
 use borrow.Author.Tests.{not-true, not-false}
 use Rattle.types.specs.Checking.{part-string, part-outside, part-within}
 use Rattle.types.proofs.check_part.Statement.{statement}

@@ -1,7 +1,7 @@
 -- `types::check_value` meets its contract: the fields first, and then the part.
 -- Assumes nothing.
 use borrow.Author.Needs.{needs}
-use mathlib.Core.Path.{_≡_, sym, _∙_}
+use mathlib.Core.Path.{sym, _∙_}
 use borrow.Author.Tests.{not-true, not-false}
 use Rattle.types.specs.Promise.{recordOf}
 use Rattle.types.specs.Checking.{refusal-fields, refusal-part}

@@ -1,15 +1,11 @@
 -- `types::in_field` meets its contract: each kind's line of the table has its own test.
 -- Assumes nothing.
 use borrow.Author.Needs.{needs}
-use Prim.Native.Nat.{ℕ, _≤_, _<_, _^_}
+use Prim.Native.Nat.{ℕ, _≤_}
 use mathlib.Core.Path.{_≡_, refl, sym, ap, _∙_}
-use mathlib.Core.Bool.{true}
-use mathlib.Core.Logic.{⊎-elim}
 use native.Mathlib.Omega.{arith}
-use lib.Dec.{eqb, ltb}
-use borrow.Author.Tests.{lt-ltb}
-use Rattle.varint.specs.Writing.{lt-or-le}
-use Rattle.types.specs.Value.{Shape, nothing, flag, integer, signed32, unsigned32, whole64, shape, inFields}
+use lib.Dec.{eqb}
+use Rattle.types.specs.Value.{Shape, nothing, flag, integer, signed32, unsigned32, shape, inFields}
 use Rattle.types.specs.Reading.{shape-is}
 use Rattle.types.specs.Writing.{firstField, first-field, whole-field}
 use Rattle.types.proofs.in_field.Statement.{statement}

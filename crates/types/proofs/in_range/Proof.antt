@@ -1,7 +1,7 @@
 -- `types::in_range` meets its contract: kinds 6 to 9 point, and the others are in range as they are.
 -- Assumes nothing.
 use borrow.Author.Needs.{needs}
-use mathlib.Core.Path.{_≡_, refl, _∙_}
+use mathlib.Core.Path.{_∙_}
 use Rattle.types.specs.Writing.{points-no, points-yes, points-reserved}
 use Rattle.types.proofs.in_range.Statement.{statement}
 use Rattle.types.proofs.in_range.Tie as tie

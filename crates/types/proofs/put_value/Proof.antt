@@ -2,15 +2,15 @@
 -- address or the string leaves in the tail behind it.
 -- Assumes nothing.
 use borrow.Author.Needs.{needs}
-use Prim.Native.Nat.{ℕ, _+_, _-_, _*_, _≤_, _<_}
-use mathlib.Core.Path.{_≡_, refl, sym, ap, _∙_}
-use mathlib.Core.List.{List, [], _∷_}
+use Prim.Native.Nat.{_+_, _-_, _*_, _≤_, _<_}
+use mathlib.Core.Path.{_≡_, refl, ap}
+use mathlib.Core.List.{[], _∷_}
 use native.Mathlib.Omega.{arith}
-use lib.ListN.{length, take, drop, set, length-set}
+use lib.ListN.{length, take, drop}
 use Rattle.varint.specs.Number.{numberBytes}
 use Rattle.varint.specs.Output.{leaves-byte}
 use Rattle.types.specs.Value.{value}
-use Rattle.types.specs.Form.{valueBytes, stringBytes, part}
+use Rattle.types.specs.Form.{valueBytes, stringBytes}
 use Rattle.types.specs.Promise.{recordOf}
 use Rattle.types.specs.Writing.{writable-kind, plain-bytes, integer-bytes, address-bytes, text-bytes, part-lent, points-yes, ranged-inside, value-some}
 use Rattle.types.specs.Output.{byte-start, byte-room, byte-count, byte-leaves, byte-length}

@@ -1,11 +1,9 @@
 -- `types::read_string` meets its contract: each answer is what `string` gives for what the number reader answered.
 -- Assumes nothing.
 use borrow.Author.Needs.{needs}
-use Prim.Native.Nat.{_≤_, _<_}
 use mathlib.Core.Path.{_≡_, sym, ap, _∙_}
 use native.Mathlib.Omega.{arith}
-use lib.ListN.{length}
-use Rattle.varint.specs.Answer.{done, refused}
+use Rattle.varint.specs.Answer.{done}
 use Rattle.varint.specs.Number.{number}
 use Rattle.varint.specs.Promise.{numberRead}
 use Rattle.varint.specs.Reading.{accepted}

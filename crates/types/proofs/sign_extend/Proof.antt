@@ -1,7 +1,7 @@
 -- `types::sign_extend` meets its contract: the two cases of `signExtended`, by the test.
 -- Assumes nothing.
 use borrow.Author.Needs.{needs}
-use mathlib.Core.Path.{_≡_, sym}
+use mathlib.Core.Path.{sym}
 use Rattle.types.specs.Reading.{signed-plus, signed-minus}
 use Rattle.types.proofs.sign_extend.Statement.{statement}
 use Rattle.types.proofs.sign_extend.Tie as tie

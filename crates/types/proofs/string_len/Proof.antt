@@ -1,7 +1,6 @@
 -- `types::string_len` meets its contract: the length number and the bytes.
 -- Assumes nothing.
 use borrow.Author.Needs.{needs}
-use mathlib.Core.Path.{_≡_}
 use native.Mathlib.Omega.{arith}
 use lib.ListN.{length}
 use Rattle.varint.specs.Writing.{length-bounds}

@@ -1,13 +1,13 @@
 -- `types::typed_data` meets its contract: there is no type byte, or its low half picks the line of the table.
 -- Assumes nothing.
 use borrow.Author.Needs.{needs}
-use Prim.Native.Nat.{ℕ, _+_, _-_, _/_, _%_, _≤_, _<_}
-use mathlib.Core.Path.{_≡_, refl, sym, ap, _∙_}
+use Prim.Native.Nat.{ℕ, _/_, _%_, _≤_, _<_}
+use mathlib.Core.Path.{_≡_, refl, sym, _∙_}
 use mathlib.Core.List.{List}
 use native.Mathlib.Omega.{arith}
 use lib.ListN.{length, drop}
 use Rattle.varint.specs.Answer.{done, refused}
-use Rattle.types.specs.Value.{nothing, flag, reserved, shape, value, behind, moved, content, typed}
+use Rattle.types.specs.Value.{nothing, flag, reserved, value, typed}
 use Rattle.types.specs.Reading.{first, typed-empty, typed-front, shape-is, shape-text, shape-reserved, behind-refused, behind-plain}
 use Rattle.types.proofs.typed_data.Statement.{statement}
 use Rattle.types.proofs.typed_data.Tie as tie

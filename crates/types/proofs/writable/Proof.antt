@@ -1,7 +1,7 @@
 -- `types::writable` meets its contract: each kind's line of the table has its own test.
 -- Assumes nothing.
 use borrow.Author.Needs.{needs}
-use mathlib.Core.Path.{_≡_, sym, ap, _∙_}
+use mathlib.Core.Path.{sym, ap, _∙_}
 use native.Mathlib.Omega.{arith}
 use Rattle.types.specs.Value.{shape, inFields}
 use Rattle.types.specs.Reading.{shape-is}
