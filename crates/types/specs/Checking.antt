@@ -1,0 +1,89 @@
+-- Laws about the checks: how they unroll, and that a value which passes them has its written form.
+use mathlib.Core.Path.{_≡_, refl, sym, ap, _∙_}
+use mathlib.Core.Bool.{Bool, true, false}
+use mathlib.Core.List.{List}
+use Prim.Native.Nat.{ℕ}
+use native.Mathlib.Omega.{arith}
+use lib.Dec.{eqb}
+use borrow.Author.Tests.{eq-eqb, ne-eqb, eqb-true, eqb-false}
+use Rattle.varint.specs.Answer.{written}
+use Rattle.utf8.specs.Text.{isUtf8}
+use Rattle.types.specs.Value.{Record, value, shape, points}
+use Rattle.types.specs.Form.{part, inside, valueBytes, writableRecord, ranged, form}
+use Rattle.types.specs.Check.{stringRefusal, partRefusal, refusal}
+use Rattle.types.specs.Reading.{shape-is}
+use Rattle.types.specs.Writing.{form-whole}
+
+-- a test is one or the other
+test-cases : {G : Type 0} (p : Bool) → (p ≡ true → G) → (p ≡ false → G) → G
+test-cases true f g = f refl
+test-cases false f g = g refl
+
+module _ (buffer : List ℕ) (start len : ℕ) where
+  pub string-outside : inside buffer start len ≡ false → stringRefusal buffer start len ≡ 16
+  unfolding stringRefusal
+  string-outside h = rw h
+
+  pub string-ill : inside buffer start len ≡ true → isUtf8 (part buffer start len) ≡ false → stringRefusal buffer start len ≡ 15
+  unfolding stringRefusal
+  string-ill h u = rw (h, u)
+
+  pub string-well : inside buffer start len ≡ true → isUtf8 (part buffer start len) ≡ true → stringRefusal buffer start len ≡ 0
+  unfolding stringRefusal
+  string-well h u = rw (h, u)
+
+  -- a string that passes lies inside and is UTF-8
+  pub string-passed : stringRefusal buffer start len ≡ 0 → (inside buffer start len ≡ true) × (isUtf8 (part buffer start len) ≡ true)
+  string-passed e =
+      test-cases (inside buffer start len)
+      (λ h. test-cases (isUtf8 (part buffer start len)) (λ u. (h, u)) (λ u. absurd (omega (arith, string-ill h u))))
+      (λ h. absurd (omega (arith, string-outside h)))
+
+module _ (buffer : List ℕ) (kind a b : ℕ) where
+  pub part-string : kind ≡ 8 → partRefusal buffer (value kind a b) ≡ stringRefusal buffer a b
+  unfolding partRefusal
+  part-string e = simp (eq-eqb kind 8 e)
+
+  pub part-outside : (kind ≡ 8 → ⊥) → ranged buffer (value kind a b) ≡ false → partRefusal buffer (value kind a b) ≡ 16
+  unfolding partRefusal
+  part-outside e h = simp (ne-eqb kind 8 e, h)
+
+  pub part-within : (kind ≡ 8 → ⊥) → ranged buffer (value kind a b) ≡ true → partRefusal buffer (value kind a b) ≡ 0
+  unfolding partRefusal
+  part-within e h = simp (ne-eqb kind 8 e, h)
+
+module _ (buffer : List ℕ) (v : Record) where
+  pub refusal-fields : writableRecord v ≡ false → refusal buffer v ≡ 14
+  unfolding refusal
+  refusal-fields h = rw h
+
+  pub refusal-part : writableRecord v ≡ true → refusal buffer v ≡ partRefusal buffer v
+  unfolding refusal
+  refusal-part h = rw h
+
+-- Law: what passes the second check is in range, and a string's text is UTF-8.
+pub part-passed : (buffer : List ℕ) (kind a b : ℕ) → partRefusal buffer (value kind a b) ≡ 0
+    → (ranged buffer (value kind a b) ≡ true) × (kind ≡ 8 → isUtf8 (part buffer a b) ≡ true)
+part-passed buffer kind a b e =
+    test-cases (eqb kind 8)
+    (λ t.
+    let k = eqb-true kind 8 t in
+    let o = string-passed buffer a b (sym (part-string buffer kind a b k) ∙ e) in
+    (pointed k (o .0), λ h. o .1))
+    (λ t.
+    let k = eqb-false kind 8 t in
+    (test-cases (ranged buffer (value kind a b)) (λ r. r) (λ r. absurd (omega (arith, part-outside buffer kind a b k r))), λ h. absurd (k h)))
+  where
+    pointed : kind ≡ 8 → inside buffer a b ≡ true → ranged buffer (value kind a b) ≡ true
+    pointed k h = rw (ap points (ap shape k ∙ shape-is .8)) h
+
+-- Law: a value that passes has its written form, and a string's text is UTF-8.
+pub passed : (buffer : List ℕ) (kind a b : ℕ) → refusal buffer (value kind a b) ≡ 0
+    → (writableRecord (value kind a b) ≡ true) × (ranged buffer (value kind a b) ≡ true)
+    × (form buffer (value kind a b) ≡ written (valueBytes buffer (value kind a b))) × (kind ≡ 8 → isUtf8 (part buffer a b) ≡ true)
+passed buffer kind a b e =
+    test-cases (writableRecord (value kind a b))
+    (λ h.
+    let o = part-passed buffer kind a b (sym (refusal-part buffer (value kind a b) h) ∙ e) in
+    (h, o .0, form-whole buffer (value kind a b) h (o .0), o .1))
+    (λ h. absurd (omega (arith, refusal-fields buffer (value kind a b) h)))

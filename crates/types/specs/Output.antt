@@ -1,0 +1,109 @@
+-- Laws about what writers leave: a writer that has room, one that refuses, and a part copied byte by byte.
+use mathlib.Core.Path.{_≡_, refl, sym, ap, _∙_}
+use mathlib.Core.List.{List, [], _∷_, _++_}
+use Prim.Native.Nat.{ℕ, suc, _+_, _-_, _≤_, _<_}
+use native.Mathlib.Numerals.{add-one}
+use native.Mathlib.Omega.{arith}
+use lib.ListN.{length, take, drop, getD, set, length-append, length-drop, drop-of-length-le}
+use lib.Seq.{drop-cons}
+use borrow.Rule.Slice.PartMut.{putMid}
+use borrow.Author.Tests.{le-leb}
+use Rattle.varint.specs.declared.Refusal.{Refusal}
+use Rattle.varint.specs.declared.Written.{Written}
+use Rattle.varint.specs.declared.Written.the-variants as w
+use Rattle.varint.specs.Answer.{Answer, done, refused, written, within, leaves}
+use Rattle.varint.specs.Promise.{count, Writes}
+use Rattle.varint.specs.Output.{Partly, partly-next, partly-place, lent-tail, leaves-length, leaves-byte, leaves-tail, writes-none, writes-all}
+
+-- where there is room, all is written
+module _ (bytes : List ℕ) {old new : List ℕ} {r : Written} (p : Writes (within (length old) (written bytes)) r old new) (room : length bytes ≤ length old) where
+  pub room-count : count r ≡ done tt (length bytes)
+  room-count = simp (le-leb (length bytes) (length old) room) at (p .says)
+
+  pub room-leaves : new ≡ leaves (written bytes) old
+  room-leaves = simp (le-leb (length bytes) (length old) room) at (p .holds)
+
+  pub room-done : (n : ℕ) → r ≡ w.Done n → n ≡ length bytes
+  room-done n is = let e : done tt n ≡ done tt (length bytes) = sym (ap count is) ∙ room-count in cc
+
+  pub room-refused : {G : Type 0} (x : Refusal) → r ≡ w.Refused x → G
+  room-refused x is =
+      let e : refused (x .number) (x .place) ≡ done tt (length bytes) = sym (ap count is) ∙ room-count in
+      let z : _≡_ {A = ℕ} 0 1 = cc in
+      absurd (omega arith)
+
+-- what has no written form is not written
+pub writes-refusal : {a : Answer (List ℕ)} (room n place : ℕ) (old : List ℕ) → a ≡ refused n place
+    → Writes (within room a) (w.Refused (record { number = n; place = place })) old old
+writes-refusal room n place old e = rw e (record { says = refl; holds = refl })
+
+-- what has one is written, or finds no room
+module _ {a : Answer (List ℕ)} (bytes old : List ℕ) (is : a ≡ written bytes) where
+  pub writes-short : length old < length bytes → Writes (within (length old) a) (w.Refused (record { number = 11; place = 0 })) old old
+  writes-short h = rw is (writes-none bytes old h)
+
+  pub writes-whole : (new : List ℕ) (n : ℕ) → length bytes ≤ length old → n ≡ length bytes → new ≡ leaves (written bytes) old
+      → Writes (within (length old) a) (w.Done n) old new
+  writes-whole new n h count e = rw is (writes-all bytes old new n h count e)
+
+-- a copy, one byte more
+module _ {bytes old out : List ℕ} {at : ℕ} (p : Partly bytes old at (drop at bytes) out) (h : at < length bytes) where
+  copied : Partly bytes old at (getD bytes at 0 ∷ drop (suc at) bytes) out
+  copied = rw (drop-cons bytes at 0 h) at p
+
+  pub copy-place : at < length out
+  copy-place = partly-place copied
+
+  pub copy-next : Partly bytes old (at + 1) (drop (at + 1) bytes) (set out at (getD bytes at 0))
+  copy-next = rw (add-one at) (rw (add-one at) at (partly-next copied))
+
+-- and at its end
+pub copy-all : {bytes old out : List ℕ} {at : ℕ} → Partly bytes old at (drop at bytes) out → length bytes ≤ at → Partly bytes old at [] out
+copy-all {bytes} p h = rw (drop-of-length-le bytes h) at p
+
+-- Two parts: `front` is written, which made out of old, and n bytes long; `rest` goes behind it, by whoever is lent `&mut out[n..]`.
+module _ (front rest old out : List ℕ) (n : ℕ) (count : n ≡ length front) (first : out ≡ leaves (written front) old)
+    (room : length (front ++ rest) ≤ length old) where
+  long : length front + length rest ≤ length old
+  long = omega (arith, length-append front rest)
+
+  pub both-length : length out ≡ length old
+  both-length = ap length first ∙ leaves-length front old (omega (arith, long))
+
+  pub both-start : n ≤ length out
+  both-start = omega (arith, long, both-length)
+
+  pub both-room : length rest ≤ length (take (length out - n) (drop n out))
+  both-room = rw (lent-tail n out) (simp length-drop (omega (arith, long, both-length)))
+
+  pub both-count : (k : ℕ) → k ≡ length rest → n + k ≡ length (front ++ rest)
+  both-count k e = omega (arith, length-append front rest)
+
+  pub both-leaves : (tail : List ℕ) → tail ≡ leaves (written rest) (take (length out - n) (drop n out))
+      → putMid n (length out - n) out tail ≡ leaves (written (front ++ rest)) old
+  both-leaves tail e = leaves-tail front rest old out tail n (sym count) first e
+
+-- Such a front of one byte, as a store leaves it.
+module _ (b : ℕ) (rest bytes old : List ℕ) (is : bytes ≡ b ∷ rest) (room : length bytes ≤ length old) where
+  room-for : length (b ∷ rest) ≤ length old
+  room-for = rw is at room
+
+  stored : set old 0 b ≡ leaves (written (b ∷ [])) old
+  stored = leaves-byte b old (omega (arith, room-for))
+
+  pub byte-start : 1 ≤ length (set old 0 b)
+  byte-start = both-start (b ∷ []) rest old (set old 0 b) 1 refl stored room-for
+
+  pub byte-room : length rest ≤ length (take (length (set old 0 b) - 1) (drop 1 (set old 0 b)))
+  byte-room = both-room (b ∷ []) rest old (set old 0 b) 1 refl stored room-for
+
+  pub byte-count : (k : ℕ) → k ≡ length rest → 1 + k ≡ length bytes
+  byte-count k e = rw is (both-count (b ∷ []) rest old (set old 0 b) 1 refl stored room-for k e)
+
+  pub byte-leaves : (tail : List ℕ) → tail ≡ leaves (written rest) (take (length (set old 0 b) - 1) (drop 1 (set old 0 b)))
+      → putMid 1 (length (set old 0 b) - 1) (set old 0 b) tail ≡ leaves (written bytes) old
+  byte-leaves tail e = rw is (both-leaves (b ∷ []) rest old (set old 0 b) 1 refl stored room-for tail e)
+
+  pub byte-length : (tail : List ℕ) → tail ≡ leaves (written rest) (take (length (set old 0 b) - 1) (drop 1 (set old 0 b)))
+      → length (putMid 1 (length (set old 0 b) - 1) (set old 0 b) tail) ≡ length old
+  byte-length tail e = ap length (byte-leaves tail e) ∙ leaves-length bytes old room

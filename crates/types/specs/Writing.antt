@@ -1,0 +1,247 @@
+-- Laws about the written form of strings and values: how it unrolls and how long it is, and what the tests before it say.
+use mathlib.Core.Path.{_≡_, refl, sym, ap, _∙_}
+use mathlib.Core.Bool.{Bool, true, false, cond}
+use mathlib.Core.Logic.{⊎-elim}
+use mathlib.Core.List.{List, [], _∷_, _++_}
+use Prim.Native.Nat.{ℕ, _+_, _-_, _*_, _^_, _≤_, _<_}
+use native.Mathlib.Omega.{arith}
+use lib.Dec.{ltb, leb, eqb}
+use lib.ListN.{length, take, drop, length-append, length-take, length-drop}
+use lib.Seq.{length-take-le}
+use borrow.Author.Tests.{lt-ltb, le-ltb, le-leb, lt-leb, ne-eqb, leb-true}
+use Rattle.varint.specs.Answer.{refused, written}
+use Rattle.varint.specs.Number.{numberBytes}
+use Rattle.varint.specs.Writing.{lt-or-le}
+use Rattle.types.specs.Value.{Shape, nothing, flag, integer, address, text, reserved, Width, whole64, shape, Record, value, points, both, inWidth, inFields}
+use Rattle.types.specs.Form.{part, inside, stringBytes, formed, valueBytes, writableRecord, ranged, form}
+use Rattle.types.specs.Reading.{shape-is, shape-reserved, shape-listed, shape-integer, shape-text, in-fields, fields-in}
+
+-- a law about a kind goes by the table's lines
+pub shape-cases : {G : Type 0} (k : ℕ)
+    → (k ≡ 0 → shape k ≡ nothing → G)
+    → (k ≡ 1 → shape k ≡ flag → G)
+    → ((w : Width) → 2 ≤ k → k < 6 → shape k ≡ integer w → G)
+    → ((n : ℕ) → 6 ≤ k → k < 8 → shape k ≡ address n → G)
+    → (8 ≤ k → k < 10 → shape k ≡ text → G)
+    → (10 ≤ k → shape k ≡ reserved → G)
+    → G
+shape-cases k null bool int addr txt none =
+    ⊎-elim
+    (λ a. null (omega arith) (at 0 (omega arith) ∙ shape-is .0))
+    (λ a. ⊎-elim (λ b. bool (omega arith) (at 1 (omega arith) ∙ shape-is .1))
+    (λ b. ⊎-elim (λ c. shape-integer k b c (λ w e. int w b c e))
+    (λ c. ⊎-elim (λ d. addr 4 c (omega arith) (at 6 (omega arith) ∙ shape-is .6))
+    (λ d. ⊎-elim (λ e. addr 16 c e (at 7 (omega arith) ∙ shape-is .7))
+    (λ e. ⊎-elim (λ f. txt e f (shape-text k e f)) (λ f. none f (shape-reserved k f)) (lt-or-le k 10))
+    (lt-or-le k 8))
+    (lt-or-le k 7))
+    (lt-or-le k 6))
+    (lt-or-le k 2))
+    (lt-or-le k 1)
+  where
+    at : (n : ℕ) → k ≡ n → shape k ≡ shape n
+    at n e = ap shape e
+
+-- a writable value's kind is at most 9
+pub writable-kind : (k a b : ℕ) → inFields (shape k) a b ≡ true → k ≤ 9
+writable-kind k a b h = shape-listed k (λ r. fields-in reserved a b (sym (ap (λ (x : Shape). inFields x a b) r) ∙ h))
+
+pub shape-plain : {G : Type 0} (k : ℕ) → k < 2 → (k ≡ 0 → shape k ≡ nothing → G) → (k ≡ 1 → shape k ≡ flag → G) → G
+shape-plain k h f g =
+    ⊎-elim (λ l. let e : k ≡ 0 = omega arith in f e (ap shape e ∙ shape-is .0)) (λ l. let e : k ≡ 1 = omega arith in g e (ap shape e ∙ shape-is .1)) (lt-or-le k 1)
+
+pub shape-address : {G : Type 0} (k : ℕ) → 6 ≤ k → k < 8 → ((n : ℕ) → shape k ≡ address n → G) → G
+shape-address k l h f =
+    ⊎-elim (λ m. let e : k ≡ 6 = omega arith in f 4 (ap shape e ∙ shape-is .6)) (λ m. let e : k ≡ 7 = omega arith in f 16 (ap shape e ∙ shape-is .7)) (lt-or-le k 7)
+
+-- ---- lengths
+
+pub string-bytes : (bytes : List ℕ) → stringBytes bytes ≡ numberBytes (length bytes) ++ bytes
+unfolding stringBytes
+string-bytes bytes = refl
+
+pub string-length : (bytes : List ℕ) → length (stringBytes bytes) ≡ length (numberBytes (length bytes)) + length bytes
+string-length bytes = ap length (string-bytes bytes) ∙ simp length-append
+
+pub part-length : (buffer : List ℕ) (start len : ℕ) → start + len ≤ length buffer → length (part buffer start len) ≡ len
+part-length buffer start len h = length-take-le len (drop start buffer) (simp length-drop (omega arith))
+
+pub value-bytes : (buffer : List ℕ) (kind a b : ℕ) → valueBytes buffer (value kind a b) ≡ formed (shape kind) kind a (part buffer a b)
+unfolding valueBytes
+value-bytes buffer kind a b = refl
+
+-- each line's length, in the code's terms
+module _ (k a : ℕ) (bytes : List ℕ) where
+  formed-at : (sh : Shape) → shape k ≡ sh → length (formed sh k a bytes) ≡ length (formed (shape k) k a bytes)
+  formed-at sh is = ap (λ (x : Shape). length (formed x k a bytes)) (sym is)
+
+  pub length-plain : k < 2 → 1 ≡ length (formed (shape k) k a bytes)
+  length-plain h = shape-plain k h (λ e is. formed-at nothing is) (λ e is. formed-at flag is)
+
+  pub length-integer : 2 ≤ k → k < 6 → 1 + length (numberBytes a) ≡ length (formed (shape k) k a bytes)
+  length-integer l h = shape-integer k l h (λ w is. omega (arith, formed-at (integer w) is))
+
+  pub length-address : 6 ≤ k → k < 8 → 1 + length bytes ≡ length (formed (shape k) k a bytes)
+  length-address l h = shape-address k l h (λ n is. omega (arith, formed-at (address n) is))
+
+  pub length-text : 8 ≤ k → k < 10 → 1 + length (numberBytes (length bytes)) + length bytes ≡ length (formed (shape k) k a bytes)
+  length-text l h = let e = formed-at text (shape-text k l h) in omega (arith, string-length bytes)
+
+-- ---- the tests
+
+pub test-same : (p : Bool) → cond p true false ≡ p
+test-same true = refl
+test-same false = refl
+
+-- the test of a first number, beside an unused one that is 0
+abbrev pub firstField : Shape → ℕ → Bool
+firstField nothing a = eqb a 0
+firstField flag a = ltb a 2
+firstField (integer w) a = inWidth w a
+firstField (address n) a = eqb 0 n
+firstField text a = ltb 0 (2 ^ 64)
+firstField reserved a = false
+
+pub first-field : (sh : Shape) (a : ℕ) → inFields sh a 0 ≡ firstField sh a
+first-field nothing a = test-same (eqb a 0)
+first-field flag a = test-same (ltb a 2)
+first-field (integer w) a = test-same (inWidth w a)
+first-field (address n) a = refl
+first-field text a = refl
+first-field reserved a = refl
+
+-- where the second number is unused it is 0
+both-false : (p : Bool) → both p false ≡ false
+both-false true = refl
+both-false false = refl
+
+module _ (k a b : ℕ) where
+  pub field-at : (sh : Shape) → shape k ≡ sh → inFields (shape k) a b ≡ inFields sh a b
+  field-at sh is = ap (λ (x : Shape). inFields x a b) is
+
+  pub unused : k < 6 → (b ≡ 0 → ⊥) → inFields (shape k) a b ≡ false
+  unused h no0 =
+      shape-cases k
+      (λ e is. field-at nothing is ∙ rw (ne-eqb b 0 no0) (both-false (eqb a 0)))
+      (λ e is. field-at flag is ∙ rw (ne-eqb b 0 no0) (both-false (ltb a 2)))
+      (λ w l g is. field-at (integer w) is ∙ rw (ne-eqb b 0 no0) (both-false (inWidth w a)))
+      (λ n l g is. absurd (omega arith))
+      (λ l g is. absurd (omega arith))
+      (λ l is. absurd (omega arith))
+
+  pub whole-field : 4 ≤ k → k < 6 → b ≡ 0 → a < 2 ^ 64 → inFields (shape k) a b ≡ true
+  whole-field l h z f = ⊎-elim (λ m. row (omega arith) (shape-is .4)) (λ m. row (omega arith) (shape-is .5)) (lt-or-le k 5)
+    where
+      row : {j : ℕ} → k ≡ j → shape j ≡ integer whole64 → inFields (shape k) a b ≡ true
+      row e is = field-at (integer whole64) (ap shape e ∙ is) ∙ in-fields (integer whole64) a b (f, z)
+
+  pub address-field : (j n : ℕ) → k ≡ j → shape j ≡ address n → inFields (shape k) a b ≡ eqb b n
+  address-field j n e is = field-at (address n) (ap shape e ∙ is)
+
+  pub text-field : 8 ≤ k → b < 2 ^ 64 → inFields (shape k) a b ≡ ltb k 10
+  text-field l f =
+      ⊎-elim
+      (λ h. field-at text (shape-text k l h) ∙ lt-ltb b (2 ^ 64) f ∙ sym (lt-ltb k 10 h))
+      (λ h. field-at reserved (shape-reserved k h) ∙ sym (le-ltb k 10 h))
+      (lt-or-le k 10)
+
+-- whether a kind points, by its number
+pub points-no : (k : ℕ) → k < 6 → points (shape k) ≡ false
+points-no k h =
+    shape-cases k (λ e is. ap points is) (λ e is. ap points is) (λ w l g is. ap points is)
+    (λ n l g is. absurd (omega arith)) (λ l g is. absurd (omega arith)) (λ l is. absurd (omega arith))
+
+pub points-yes : (k : ℕ) → 6 ≤ k → k < 10 → points (shape k) ≡ true
+points-yes k l h =
+    shape-cases k (λ e is. absurd (omega arith)) (λ e is. absurd (omega arith)) (λ w m g is. absurd (omega arith))
+    (λ n m g is. ap points is) (λ m g is. ap points is) (λ m is. absurd (omega arith))
+
+pub points-reserved : (k : ℕ) → 10 ≤ k → points (shape k) ≡ false
+points-reserved k h = ap points (shape-reserved k h)
+
+-- the test of a range without a sum that could wrap
+pub inside-not : (buffer : List ℕ) (start len : ℕ) → length buffer < start → inside buffer start len ≡ false
+inside-not buffer start len h = lt-leb (start + len) (length buffer) (omega arith)
+
+pub inside-rest : (buffer : List ℕ) (start len : ℕ) → start ≤ length buffer → leb len (length buffer - start) ≡ inside buffer start len
+inside-rest buffer start len h =
+    ⊎-elim
+    (λ l. lt-leb len (length buffer - start) l ∙ sym (lt-leb (start + len) (length buffer) (omega arith)))
+    (λ l. le-leb len (length buffer - start) l ∙ sym (le-leb (start + len) (length buffer) (omega arith)))
+    (lt-or-le (length buffer - start) len)
+
+-- a value that points and is in range points inside
+pub ranged-inside : (buffer : List ℕ) (kind a b : ℕ) → points (shape kind) ≡ true → ranged buffer (value kind a b) ≡ true → a + b ≤ length buffer
+ranged-inside buffer kind a b p h = leb-true (a + b) (length buffer) (rw p at h)
+
+-- a writable value in range has as many bytes as it says
+pub part-whole : (buffer : List ℕ) (kind a b : ℕ) → inFields (shape kind) a b ≡ true → ranged buffer (value kind a b) ≡ true → length (part buffer a b) ≡ b
+part-whole buffer kind a b h r =
+    shape-cases kind
+    (λ e is. unpointed (fields-in nothing a b (sym (field-at kind a b nothing is) ∙ h) .1))
+    (λ e is. unpointed (fields-in flag a b (sym (field-at kind a b flag is) ∙ h) .1))
+    (λ w l g is. unpointed (fields-in (integer w) a b (sym (field-at kind a b (integer w) is) ∙ h) .1))
+    (λ n l g is. part-length buffer a b (ranged-inside buffer kind a b (ap points is) r))
+    (λ l g is. part-length buffer a b (ranged-inside buffer kind a b (ap points is) r))
+    (λ l is. absurd (fields-in reserved a b (sym (field-at kind a b reserved is) ∙ h)))
+  where
+    unpointed : b ≡ 0 → length (part buffer a b) ≡ b
+    unpointed z = rw z
+
+-- and no more than the buffer
+pub part-small : (buffer : List ℕ) (kind a b : ℕ) → inFields (shape kind) a b ≡ true → ranged buffer (value kind a b) ≡ true → length buffer < 2 ^ 63 → b < 2 ^ 63
+part-small buffer kind a b h r l = omega (arith, simp (length-take, length-drop) at (part-whole buffer kind a b h r))
+
+-- ---- the bytes, by the kind's number
+
+module _ (buffer : List ℕ) (k a b : ℕ) where
+  pub bytes-at : (sh : Shape) → shape k ≡ sh → valueBytes buffer (value k a b) ≡ formed sh k a (part buffer a b)
+  bytes-at sh is = value-bytes buffer k a b ∙ ap (λ (x : Shape). formed x k a (part buffer a b)) is
+
+  -- null, whose unused number is 0, and bool
+  pub plain-bytes : k < 2 → inFields (shape k) a b ≡ true → (a < 2) × (valueBytes buffer (value k a b) ≡ (k + 16 * a) ∷ [])
+  plain-bytes h f =
+      shape-plain k h
+      (λ e is. let z = fields-in nothing a b (sym (field-at k a b nothing is) ∙ f) in
+      (omega arith, bytes-at nothing is ∙ ap (λ (x : ℕ). x ∷ []) (omega arith)))
+      (λ e is. let z = fields-in flag a b (sym (field-at k a b flag is) ∙ f) in (z .0, bytes-at flag is))
+
+  pub integer-bytes : 2 ≤ k → k < 6 → valueBytes buffer (value k a b) ≡ k ∷ numberBytes a
+  integer-bytes l h = shape-integer k l h (λ w is. bytes-at (integer w) is)
+
+  pub address-bytes : 6 ≤ k → k < 8 → valueBytes buffer (value k a b) ≡ k ∷ part buffer a b
+  address-bytes l h = shape-address k l h (λ n is. bytes-at (address n) is)
+
+  pub text-bytes : 8 ≤ k → k < 10 → valueBytes buffer (value k a b) ≡ k ∷ stringBytes (part buffer a b)
+  text-bytes l h = bytes-at text (shape-text k l h)
+
+  -- a written value has its type byte
+  pub value-some : inFields (shape k) a b ≡ true → 1 ≤ length (valueBytes buffer (value k a b))
+  value-some f =
+      shape-cases k
+      (λ e is. rw (bytes-at nothing is) (omega arith))
+      (λ e is. rw (bytes-at flag is) (omega arith))
+      (λ w l g is. rw (bytes-at (integer w) is) (omega arith))
+      (λ n l g is. rw (bytes-at (address n) is) (omega arith))
+      (λ l g is. rw (bytes-at text is) (omega arith))
+      (λ l is. absurd (fields-in reserved a b (sym (field-at k a b reserved is) ∙ f)))
+
+-- a part that is lent, `&buffer[a..a + b]`
+pub part-lent : (buffer : List ℕ) (a b : ℕ) → take (a + b - a) (drop a buffer) ≡ part buffer a b
+part-lent buffer a b = ap (λ (n : ℕ). take n (drop a buffer)) same
+  where
+    same : a + b - a ≡ b
+    same = omega arith
+
+module _ (buffer : List ℕ) (v : Record) where
+  pub form-unwritable : writableRecord v ≡ false → form buffer v ≡ refused 14 0
+  unfolding form
+  form-unwritable h = rw h
+
+  pub form-outside : writableRecord v ≡ true → ranged buffer v ≡ false → form buffer v ≡ refused 16 0
+  unfolding form
+  form-outside h r = rw (h, r)
+
+  pub form-whole : writableRecord v ≡ true → ranged buffer v ≡ true → form buffer v ≡ written (valueBytes buffer v)
+  unfolding form
+  form-whole h r = rw (h, r)
