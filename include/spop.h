@@ -3,10 +3,15 @@
  * Every call takes every input, ends, and does its own refusing. Unless its line says otherwise it answers a number:
  *
  *    0  done            *at: the bytes used or written
- *    3  too soon        the bytes end inside what is read; *at: for a number, the end of the input
+ *    3  too soon        the bytes end inside what is read; *at: the end of the input, or for a string or address that is too
+ *                       short, right after its length number or type byte
  *    7  too large       a number over 2^64-1 or of more than ten bytes; *at: right after the byte that broke it
+ *    8  no such type    a data type from 10 to 15; *at: right after the type byte
  *   11  no room         the output is too short; *at: 0
  *   13  size too small  a frame size is under 256; *at: 0
+ *   14  not writable    a number outside its field; *at: the record's index, 0 for a value on its own
+ *   15  not UTF-8       a text is not well-formed; *at: the same
+ *   16  outside         a record points outside the buffer; *at: the same
  *
  * *at is always set. Whatever else is lent changes only after 0, and of an output only the bytes that are written.
  *
@@ -43,6 +48,24 @@ bool spop_same_text(const uint8_t *a, size_t a_len, const uint8_t *b, size_t b_l
 
 /* Writes the lossy text of the bytes at the front of out. 0 with its length, at most 3 * len, or 11. */
 uint64_t spop_lossy_text(const uint8_t *bytes, size_t len, uint8_t *out, size_t out_len, uint64_t *at);
+
+/* A value is three numbers, kind, a and b:
+ *
+ *    0 null     0, 0               1 bool    0 or 1, 0
+ *    2 i32      the number, 0      3 u32     the number, 0        (signed numbers are sign-extended to 64 bits)
+ *    4 i64      the number, 0      5 u64     the number, 0
+ *    6 IPv4     start, 4           7 IPv6    start, 16
+ *    8 string   start, length      9 binary  start, length
+ */
+
+/* Reads the value at the front of input; a start counts from its first byte. 0 with value set and the bytes used, or 3, 7, 8. */
+uint64_t spop_typed_data(const uint8_t *input, size_t input_len, uint64_t value[3], uint64_t *at);
+
+/* Answers how many bytes the written form of a value has, whose start counts in buffer; 0 where it has none. */
+uint64_t spop_value_len(const uint64_t value[3], const uint8_t *buffer, size_t buffer_len);
+
+/* Writes a value at the front of out. 0 with its length, or 14, 16, 15, 11, the first of these that holds. */
+uint64_t spop_write_value(const uint64_t value[3], const uint8_t *buffer, size_t buffer_len, uint8_t *out, size_t out_len, uint64_t *at);
 
 /* The frame size that both sides can keep to: 0 with *at the smaller one, or 13 where either is under 256. */
 uint64_t spop_negotiate_max_frame_size(uint32_t theirs, uint32_t ours, uint64_t *at);

@@ -7,8 +7,11 @@ use lib.ListN.{length}
 use Rattle.varint.specs.Answer.{Answer, written, within, leaves}
 use Rattle.varint.specs.Number.{number, numberBytes}
 use Rattle.utf8.specs.Text.{isUtf8, lossy, sameText}
+use Rattle.types.specs.Value.{typed}
+use Rattle.types.specs.Form.{form, size}
 use Rattle.hello.specs.Hello.{frameSize, announced, choice}
 use Rattle.spop.specs.Told.{Told, valueOf, chosenOf}
+use Rattle.spop.specs.Values.{recordIn, numbersOf, checkedForm}
 
 -- what two results that meet the same equations have in common
 one-only : {A : Type 0} {x y z : A} → x ≡ z → y ≡ z → x ≡ y
@@ -66,3 +69,18 @@ pub spop-negotiate-version-unique : (versions before new other : List ℕ) (r q 
     → (q ≡ announced versions) × (other ≡ chosenOf (choice versions) before)
     → (r ≡ q) × (new ≡ other)
 spop-negotiate-version-unique versions before new other r q p s = (one-only (p .0) (s .0), one-only (p .1) (s .1))
+
+pub spop-typed-data-unique : (input before new other : List ℕ) (r q at also : ℕ)
+    → Told (typed input) r at × (new ≡ numbersOf (typed input) before)
+    → Told (typed input) q also × (other ≡ numbersOf (typed input) before)
+    → (r ≡ q) × (at ≡ also) × (new ≡ other)
+spop-typed-data-unique input before new other r q at also p s = call-unique p s
+
+pub spop-value-len-unique : (l buffer : List ℕ) (r q : ℕ) → r ≡ size (form buffer (recordIn l)) → q ≡ size (form buffer (recordIn l)) → r ≡ q
+spop-value-len-unique l buffer r q p s = one-only p s
+
+pub spop-write-value-unique : (l buffer old new other : List ℕ) (r q at also : ℕ)
+    → Told (within (length old) (checkedForm buffer (recordIn l))) r at × (new ≡ leaves (within (length old) (checkedForm buffer (recordIn l))) old)
+    → Told (within (length old) (checkedForm buffer (recordIn l))) q also × (other ≡ leaves (within (length old) (checkedForm buffer (recordIn l))) old)
+    → (r ≡ q) × (at ≡ also) × (new ≡ other)
+spop-write-value-unique l buffer old new other r q at also p s = call-unique p s

@@ -10,9 +10,15 @@ ghost use Rattle.varint.specs.Number.{number, numberBytes};
 ghost use Rattle.varint.specs.Promise.{count, numberRead};
 ghost use Rattle.utf8.specs.Text.{isUtf8, lossy, sameText};
 ghost use Rattle.hello.specs.Hello.{frameSize, announced, choice};
+ghost use Rattle.types.specs.Value.{typed};
+ghost use Rattle.types.specs.Form.{form, size};
+ghost use Rattle.types.specs.Promise.{recordOf};
 ghost use Rattle.spop.specs.Told.{Told, valueOf, chosenOf};
+ghost use Rattle.spop.specs.Values.{recordIn, numbersOf, checkedForm};
 use hello::Chosen;
 use hello::Size;
+use types::Typed;
+use types::Value;
 use varint::Number;
 use varint::Refusal;
 use varint::Written;
@@ -71,6 +77,59 @@ pub extern "C" fn spop_lossy_text(bytes: &[u8], out: &mut [u8], at: &mut u64) ->
 {
     let answer = utf8::lossy_text(bytes, out);
     tell(answer, at)
+}
+
+#[no_mangle]
+pub extern "C" fn spop_typed_data(input: &[u8], value: &mut [u64; 3], at: &mut u64) -> u64
+    ensures { λ r. ⌜ Told (typed (now (input .entry))) r (now (at .exit)) ⌝ }
+    ensures { λ r. ⌜ now (value .exit) ≡ numbersOf (typed (now (input .entry))) (now (value .entry)) ⌝ }
+{
+    match types::typed_data(input) {
+        Typed::Done { value: v, used } => {
+            *value = [v.kind, v.a, v.b];
+            *at = used as u64;
+            DONE
+        },
+        Typed::Refused(r) => refuse(r, at),
+    }
+}
+
+#[no_mangle]
+pub extern "C" fn spop_value_len(value: &[u64; 3], buffer: &[u8]) -> u64
+    ensures { λ r. ⌜ r ≡ size (form (now (buffer .entry)) (recordIn (now (value .entry)))) ⌝ }
+{
+    types::value_len(value_of(value), buffer) as u64
+}
+
+#[no_mangle]
+pub extern "C" fn spop_write_value(
+    value: &[u64; 3],
+    buffer: &[u8],
+    out: &mut [u8],
+    at: &mut u64,
+) -> u64
+    ensures { λ r. ⌜ Told (within (length (now (out .entry))) (checkedForm (now (buffer .entry)) (recordIn (now (value .entry))))) r (now (at .exit)) ⌝ }
+    ensures { λ r. ⌜ now (out .exit) ≡ leaves (within (length (now (out .entry))) (checkedForm (now (buffer .entry)) (recordIn (now (value .entry))))) (now (out .entry)) ⌝ }
+{
+    let v = value_of(value);
+    let number = types::check_value(v, buffer);
+    if number != DONE {
+        *at = 0;
+        return number;
+    }
+    let answer = types::write_value(v, buffer, out);
+    tell(answer, at)
+}
+
+// The record that three lent numbers are.
+fn value_of(value: &[u64; 3]) -> Value
+    ensures { λ r. ⌜ recordOf r ≡ recordIn (now (value .entry)) ⌝ }
+{
+    Value {
+        kind: value[0],
+        a: value[1],
+        b: value[2],
+    }
 }
 
 #[no_mangle]
