@@ -2,16 +2,17 @@
 use mathlib.Core.Path.{_≡_, refl, sym, ap, _∙_}
 use mathlib.Core.Bool.{Bool, true, false}
 use mathlib.Core.List.{List}
-use Prim.Native.Nat.{ℕ}
+use Prim.Native.Nat.{ℕ, _+_, _≤_}
 use native.Mathlib.Omega.{arith}
 use lib.Dec.{eqb}
-use borrow.Author.Tests.{eq-eqb, ne-eqb, eqb-true, eqb-false}
-use Rattle.varint.specs.Answer.{written}
+use lib.ListN.{length}
+use borrow.Author.Tests.{le-leb, eq-eqb, ne-eqb, eqb-true, eqb-false}
+use Rattle.varint.specs.Answer.{done, written}
 use Rattle.utf8.specs.Text.{isUtf8}
-use Rattle.types.specs.Value.{Record, value, shape, points}
+use Rattle.types.specs.Value.{Record, value, shape, points, typed}
 use Rattle.types.specs.Form.{part, inside, valueBytes, writableRecord, ranged, form}
 use Rattle.types.specs.Check.{stringRefusal, partRefusal, refusal}
-use Rattle.types.specs.Reading.{shape-is}
+use Rattle.types.specs.Reading.{shape-is, in-fields, typed-accepted}
 use Rattle.types.specs.Writing.{form-whole}
 
 -- a test is one or the other
@@ -87,3 +88,12 @@ passed buffer kind a b e =
     let o = part-passed buffer kind a b (sym (refusal-part buffer (value kind a b) h) ∙ e) in
     (h, o .0, form-whole buffer (value kind a b) h (o .0), o .1))
     (λ h. absurd (omega (arith, refusal-fields buffer (value kind a b) h)))
+
+-- Law: an accepted value is writable, and where it points, points into the bytes that it was read from.
+pub accepted-writable : (s : List ℕ) (v : Record) (used : ℕ) → typed s ≡ done v used → (writableRecord v ≡ true) × (ranged s v ≡ true)
+accepted-writable s (value kind a b) used e =
+    let o = typed-accepted s kind a b used e in
+    (in-fields (shape kind) a b (o .3), test-cases (points (shape kind)) (λ p. rw p (within (o .1) (o .4 p .1))) (λ p. rw p))
+  where
+    within : used ≤ length s → a + b ≤ used → inside s a b ≡ true
+    within h l = le-leb (a + b) (length s) (omega arith)

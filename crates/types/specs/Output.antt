@@ -83,27 +83,31 @@ module _ (front rest old out : List ℕ) (n : ℕ) (count : n ≡ length front) 
       → putMid n (length out - n) out tail ≡ leaves (written (front ++ rest)) old
   both-leaves tail e = leaves-tail front rest old out tail n (sym count) first e
 
--- Such a front of one byte, as a store leaves it.
-module _ (b : ℕ) (rest bytes old : List ℕ) (is : bytes ≡ b ∷ rest) (room : length bytes ≤ length old) where
+-- Such a front of one byte, as a store leaves it: `bytes`, which old has room for, are b and what goes behind it.
+pub record Tagged (b : ℕ) (rest bytes old : List ℕ) : Type 0 where
+  pub is : bytes ≡ b ∷ rest
+  pub room : length bytes ≤ length old
+
+module _ {b : ℕ} {rest bytes old : List ℕ} (t : Tagged b rest bytes old) where
   room-for : length (b ∷ rest) ≤ length old
-  room-for = rw is at room
+  room-for = rw (t .is) at (t .room)
 
   stored : set old 0 b ≡ leaves (written (b ∷ [])) old
   stored = leaves-byte b old (omega (arith, room-for))
 
-  pub byte-start : 1 ≤ length (set old 0 b)
-  byte-start = both-start (b ∷ []) rest old (set old 0 b) 1 refl stored room-for
+  pub tagged-start : 1 ≤ length (set old 0 b)
+  tagged-start = both-start (b ∷ []) rest old (set old 0 b) 1 refl stored room-for
 
-  pub byte-room : length rest ≤ length (take (length (set old 0 b) - 1) (drop 1 (set old 0 b)))
-  byte-room = both-room (b ∷ []) rest old (set old 0 b) 1 refl stored room-for
+  pub tagged-room : length rest ≤ length (take (length (set old 0 b) - 1) (drop 1 (set old 0 b)))
+  tagged-room = both-room (b ∷ []) rest old (set old 0 b) 1 refl stored room-for
 
-  pub byte-count : (k : ℕ) → k ≡ length rest → 1 + k ≡ length bytes
-  byte-count k e = rw is (both-count (b ∷ []) rest old (set old 0 b) 1 refl stored room-for k e)
+  pub tagged-count : (k : ℕ) → k ≡ length rest → 1 + k ≡ length bytes
+  tagged-count k e = rw (t .is) (both-count (b ∷ []) rest old (set old 0 b) 1 refl stored room-for k e)
 
-  pub byte-leaves : (tail : List ℕ) → tail ≡ leaves (written rest) (take (length (set old 0 b) - 1) (drop 1 (set old 0 b)))
+  pub tagged-leaves : (tail : List ℕ) → tail ≡ leaves (written rest) (take (length (set old 0 b) - 1) (drop 1 (set old 0 b)))
       → putMid 1 (length (set old 0 b) - 1) (set old 0 b) tail ≡ leaves (written bytes) old
-  byte-leaves tail e = rw is (both-leaves (b ∷ []) rest old (set old 0 b) 1 refl stored room-for tail e)
+  tagged-leaves tail e = rw (t .is) (both-leaves (b ∷ []) rest old (set old 0 b) 1 refl stored room-for tail e)
 
-  pub byte-length : (tail : List ℕ) → tail ≡ leaves (written rest) (take (length (set old 0 b) - 1) (drop 1 (set old 0 b)))
+  pub tagged-length : (tail : List ℕ) → tail ≡ leaves (written rest) (take (length (set old 0 b) - 1) (drop 1 (set old 0 b)))
       → length (putMid 1 (length (set old 0 b) - 1) (set old 0 b) tail) ≡ length old
-  byte-length tail e = ap length (byte-leaves tail e) ∙ leaves-length bytes old room
+  tagged-length tail e = ap length (tagged-leaves tail e) ∙ leaves-length bytes old (t .room)
