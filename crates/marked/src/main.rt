@@ -6,6 +6,7 @@ ghost use Prim.Native.Nat.{_≤_};
 ghost use lib.ListN.{length};
 use hello::Size;
 use libc::STDOUT_FILENO;
+use types::Typed;
 use varint::Number;
 use varint::Refusal;
 use varint::Written;
@@ -23,6 +24,7 @@ struct Answer {
 fn main() {
     numbers();
     texts();
+    values();
     sizes();
 }
 
@@ -113,6 +115,68 @@ fn texts() {
         ],
         &[0x61, 0xFF, 0xFF, 0xFF, 0x62, 0xFF, 0x63, 0xFF, 0xFF, 0x64],
     );
+}
+
+// Values on their own.
+fn values() {
+    value(
+        &[0x02, 0xF0, 0xF1, 0xFE, 0xFE, 0x7E],
+        2,
+        Answer {
+            number: 0,
+            at: 6,
+            value: 0,
+        },
+    );
+    value(
+        &[0x21],
+        1,
+        Answer {
+            number: 0,
+            at: 1,
+            value: 0,
+        },
+    );
+    value(
+        &[0xF1],
+        1,
+        Answer {
+            number: 0,
+            at: 1,
+            value: 1,
+        },
+    );
+    value(
+        &[0x0A],
+        0,
+        Answer {
+            number: 8,
+            at: 1,
+            value: 0,
+        },
+    );
+}
+
+fn value(input: &[u8], kind: u64, marked: Answer) {
+    io::write_all(STDOUT_FILENO, b"value ");
+    print_bytes(input);
+    io::write_all(STDOUT_FILENO, b": ");
+    match types::typed_data(input) {
+        Typed::Done { value, used } => {
+            io::write_all(STDOUT_FILENO, b"kind ");
+            io::print_decimal(STDOUT_FILENO, value.kind);
+            io::write_all(STDOUT_FILENO, b" number ");
+            io::print_decimal(STDOUT_FILENO, value.a);
+            io::write_all(STDOUT_FILENO, b" from ");
+            io::print_decimal(STDOUT_FILENO, used as u64);
+            let same = value.kind == kind && value.a == marked.value && value.b == 0;
+            verdict(same && marked.number == 0 && marked.at == used);
+        },
+        Typed::Refused(r) => {
+            refused(r);
+            verdict(marked.number == r.number && marked.at == r.place);
+        },
+    }
 }
 
 // Frame sizes of both sides, and what they settle on.

@@ -8,6 +8,8 @@ ghost use lib.ListN.{length};
 use hello::Chosen;
 use hello::Size;
 use libc::STDOUT_FILENO;
+use types::Typed;
+use types::Value;
 use varint::Number;
 use varint::Written;
 
@@ -28,6 +30,7 @@ struct Counts {
 fn main() {
     replay(b"numbers.txt");
     replay(b"text.txt");
+    replay(b"values.txt");
     replay(b"hello.txt");
 }
 
@@ -134,6 +137,7 @@ fn judge(line: &[u8]) -> Verdict {
         b't' => lossy_line(fields),
         b'u' => form_line(fields),
         b's' => same_line(fields),
+        b'v' => value_line(fields),
         b'z' => size_line(fields),
         b'n' => version_line(fields),
         _ => Verdict::Unread,
@@ -245,6 +249,37 @@ fn same_fields(yes: bool, fields: &[u8]) -> Verdict {
     let mut b = [0u8; 192];
     let n = bytes_of(&fields[gap + 1..], &mut b);
     agreed(utf8::same_text(&a[0..m], &b[0..n]) == yes)
+}
+
+// INPUT ANSWER AT KIND A B
+fn value_line(fields: &[u8]) -> Verdict {
+    if fields.len() < 86 {
+        return Verdict::Unread;
+    }
+    let end = fields.len() - 85;
+    let mut input = [0u8; 64];
+    let length = bytes_of(&fields[0..end], &mut input);
+    let mut want = [0u64; 5];
+    let n = numbers_of(&fields[end..], &mut want);
+    if n != 5 {
+        return Verdict::Unread;
+    }
+    let value = Value {
+        kind: want[2],
+        a: want[3],
+        b: want[4],
+    };
+    valued(&input[0..length], want[0], want[1], value)
+}
+
+fn valued(input: &[u8], answer: u64, at: u64, want: Value) -> Verdict {
+    match types::typed_data(input) {
+        Typed::Done { value, used } => {
+            let same = value.kind == want.kind && value.a == want.a && value.b == want.b;
+            agreed(same && answer == 0 && at == used as u64)
+        },
+        Typed::Refused(r) => agreed(answer == r.number && at == r.place as u64),
+    }
 }
 
 // THEIRS OURS ANSWER AT
