@@ -1,3 +1,5 @@
+-- Definitions first: the table, a step, well-formed text and lossy text; what the code's own types mean. Then the laws about
+-- them, and what each walk over a text needs.
 pub mod Text
 pub mod Leading
 pub mod Promise

@@ -16,7 +16,7 @@ inCode (row (a to b) (c to d) n) = record { lead = record { low = a; high = b };
 abbrev pub noRow : Row
 noRow = row (0 to 0) (0 to 0) 0
 
--- The code's table is this list (`front_step`'s proof says so, where it reads a row), so code and definition hold the same rows.
+-- The code's table is this list (`lead_row`'s proof says so, where it reads a row), so code and definition hold the same rows.
 abbrev pub codeRows : List r.Row
 codeRows = map inCode rows
 
