@@ -64,7 +64,11 @@ uint64_t spop_typed_data(const uint8_t *input, size_t input_len, uint64_t value[
 /* Answers how many bytes the written form of a value has, whose start counts in buffer; 0 where it has none. */
 uint64_t spop_value_len(const uint64_t value[3], const uint8_t *buffer, size_t buffer_len);
 
-/* Writes a value at the front of out. 0 with its length, or 14, 16, 15, 11, the first of these that holds. */
+/* What a value is refused with before it is written: 14, 16 or, for a string, 15, the first of these that holds; else 0. */
+uint64_t spop_check_value(const uint64_t value[3], const uint8_t *buffer, size_t buffer_len);
+
+/* Writes a value at the front of out. 0 with its length, or 14, 16, 11, the first of these that holds. Whether a string is UTF-8
+ * is spop_check_value's to say. */
 uint64_t spop_write_value(const uint64_t value[3], const uint8_t *buffer, size_t buffer_len, uint8_t *out, size_t out_len, uint64_t *at);
 
 /* The frame size that both sides can keep to: 0 with *at the smaller one, or 13 where either is under 256. */

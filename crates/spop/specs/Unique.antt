@@ -9,9 +9,10 @@ use Rattle.varint.specs.Number.{number, numberBytes}
 use Rattle.utf8.specs.Text.{isUtf8, lossy, sameText}
 use Rattle.types.specs.Value.{typed}
 use Rattle.types.specs.Form.{form, size}
+use Rattle.types.specs.Check.{refusal}
 use Rattle.hello.specs.Hello.{frameSize, announced, choice}
 use Rattle.spop.specs.Told.{Told, valueOf, chosenOf}
-use Rattle.spop.specs.Values.{recordIn, numbersOf, checkedForm}
+use Rattle.spop.specs.Values.{recordIn, numbersOf}
 
 -- what two results that meet the same equations have in common
 one-only : {A : Type 0} {x y z : A} → x ≡ z → y ≡ z → x ≡ y
@@ -79,8 +80,11 @@ spop-typed-data-unique input before new other r q at also p s = call-unique p s
 pub spop-value-len-unique : (l buffer : List ℕ) (r q : ℕ) → r ≡ size (form buffer (recordIn l)) → q ≡ size (form buffer (recordIn l)) → r ≡ q
 spop-value-len-unique l buffer r q p s = one-only p s
 
+pub spop-check-value-unique : (l buffer : List ℕ) (r q : ℕ) → r ≡ refusal buffer (recordIn l) → q ≡ refusal buffer (recordIn l) → r ≡ q
+spop-check-value-unique l buffer r q p s = one-only p s
+
 pub spop-write-value-unique : (l buffer old new other : List ℕ) (r q at also : ℕ)
-    → Told (within (length old) (checkedForm buffer (recordIn l))) r at × (new ≡ leaves (within (length old) (checkedForm buffer (recordIn l))) old)
-    → Told (within (length old) (checkedForm buffer (recordIn l))) q also × (other ≡ leaves (within (length old) (checkedForm buffer (recordIn l))) old)
+    → Told (within (length old) (form buffer (recordIn l))) r at × (new ≡ leaves (within (length old) (form buffer (recordIn l))) old)
+    → Told (within (length old) (form buffer (recordIn l))) q also × (other ≡ leaves (within (length old) (form buffer (recordIn l))) old)
     → (r ≡ q) × (at ≡ also) × (new ≡ other)
 spop-write-value-unique l buffer old new other r q at also p s = call-unique p s

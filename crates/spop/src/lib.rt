@@ -12,9 +12,10 @@ ghost use Rattle.utf8.specs.Text.{isUtf8, lossy, sameText};
 ghost use Rattle.hello.specs.Hello.{frameSize, announced, choice};
 ghost use Rattle.types.specs.Value.{typed};
 ghost use Rattle.types.specs.Form.{form, size};
+ghost use Rattle.types.specs.Check.{refusal};
 ghost use Rattle.types.specs.Promise.{recordOf};
 ghost use Rattle.spop.specs.Told.{Told, valueOf, chosenOf};
-ghost use Rattle.spop.specs.Values.{recordIn, numbersOf, checkedForm};
+ghost use Rattle.spop.specs.Values.{recordIn, numbersOf};
 use hello::Chosen;
 use hello::Size;
 use types::Typed;
@@ -102,22 +103,23 @@ pub extern "C" fn spop_value_len(value: &[u64; 3], buffer: &[u8]) -> u64
 }
 
 #[no_mangle]
+pub extern "C" fn spop_check_value(value: &[u64; 3], buffer: &[u8]) -> u64
+    ensures { λ r. ⌜ r ≡ refusal (now (buffer .entry)) (recordIn (now (value .entry))) ⌝ }
+{
+    types::check_value(value_of(value), buffer)
+}
+
+#[no_mangle]
 pub extern "C" fn spop_write_value(
     value: &[u64; 3],
     buffer: &[u8],
     out: &mut [u8],
     at: &mut u64,
 ) -> u64
-    ensures { λ r. ⌜ Told (within (length (now (out .entry))) (checkedForm (now (buffer .entry)) (recordIn (now (value .entry))))) r (now (at .exit)) ⌝ }
-    ensures { λ r. ⌜ now (out .exit) ≡ leaves (within (length (now (out .entry))) (checkedForm (now (buffer .entry)) (recordIn (now (value .entry))))) (now (out .entry)) ⌝ }
+    ensures { λ r. ⌜ Told (within (length (now (out .entry))) (form (now (buffer .entry)) (recordIn (now (value .entry))))) r (now (at .exit)) ⌝ }
+    ensures { λ r. ⌜ now (out .exit) ≡ leaves (within (length (now (out .entry))) (form (now (buffer .entry)) (recordIn (now (value .entry))))) (now (out .entry)) ⌝ }
 {
-    let v = value_of(value);
-    let number = types::check_value(v, buffer);
-    if number != DONE {
-        *at = 0;
-        return number;
-    }
-    let answer = types::write_value(v, buffer, out);
+    let answer = types::write_value(value_of(value), buffer, out);
     tell(answer, at)
 }
 

@@ -25,6 +25,7 @@ c_calls! {
     fn spop_lossy_text(bytes: *const u8, len: usize, out: *mut u8, out_len: usize, at: *mut u64) -> u64;
     fn spop_typed_data(input: *const u8, input_len: usize, value: *mut u64, at: *mut u64) -> u64;
     fn spop_value_len(value: *const u64, buffer: *const u8, buffer_len: usize) -> u64;
+    fn spop_check_value(value: *const u64, buffer: *const u8, buffer_len: usize) -> u64;
     fn spop_write_value(value: *const u64, buffer: *const u8, buffer_len: usize, out: *mut u8, out_len: usize, at: *mut u64) -> u64;
     fn spop_negotiate_max_frame_size(theirs: u32, ours: u32, at: *mut u64) -> u64;
     fn spop_negotiate_version(versions: *const u64, versions_len: usize, version: *mut u64) -> bool;
@@ -68,6 +69,11 @@ pub fn typed_data(input: &[u8], value: &mut [u64; 3], at: &mut u64) -> u64 {
 pub fn value_len(value: &[u64; 3], buffer: &[u8]) -> u64 {
     // SAFETY: the record has three numbers, and the slice is lent with its length.
     unsafe { spop_value_len(value.as_ptr(), buffer.as_ptr(), buffer.len()) }
+}
+
+pub fn check_value(value: &[u64; 3], buffer: &[u8]) -> u64 {
+    // SAFETY: the record has three numbers, and the slice is lent with its length.
+    unsafe { spop_check_value(value.as_ptr(), buffer.as_ptr(), buffer.len()) }
 }
 
 pub fn write_value(value: &[u64; 3], buffer: &[u8], out: &mut [u8], at: &mut u64) -> u64 {

@@ -130,8 +130,14 @@ impl Write {
     fn by_port(&self) -> Wrote {
         let (mut area, mut at) = ([FILL; AREA], UNTOUCHED);
         let length = port::value_len(&self.record, &self.buffer);
-        let number = port::write_value(&self.record, &self.buffer, &mut area[..self.room], &mut at);
-        let answer = Answer::new(number, at);
+        let answer = match port::check_value(&self.record, &self.buffer) {
+            answers::DONE => {
+                let out = &mut area[..self.room];
+                let number = port::write_value(&self.record, &self.buffer, out, &mut at);
+                Answer::new(number, at)
+            }
+            number => Answer::new(number, 0),
+        };
         Wrote {
             length,
             answer,

@@ -1,0 +1,19 @@
+-- `spop::spop_check_value` meets its contract: the record is the three lent numbers.
+-- Assumes nothing.
+use mathlib.Core.Path.{ap, _∙_}
+use borrow.Author.Needs.{needs}
+use Rattle.types.specs.Check.{refusal}
+use Rattle.spop.proofs.spop_check_value.Statement.{statement}
+use Rattle.spop.proofs.spop_check_value.Tie as tie
+
+value-of-requires : tie.Need-value-of-requires
+value-of-requires c κs = search needs
+
+check-value-requires : tie.Need-check-value-requires
+check-value-requires c κs = search needs
+
+returns : tie.Need-returns
+returns c = c .check-value .ensures ∙ ap (refusal (c .before .before .before .args .buffer .now)) (c .before .value-of .ensures)
+
+pub spop-check-value-spec : {M : Type 1} → statement M
+spop-check-value-spec = tie.close (tie.spec value-of-requires check-value-requires returns)
