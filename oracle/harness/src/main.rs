@@ -4,6 +4,7 @@ mod answers;
 mod inputs;
 mod parts;
 mod port;
+mod records;
 mod shrink;
 mod text;
 mod timing;
@@ -89,6 +90,9 @@ fn vectors(folder: &Path) -> ExitCode {
 
 fn write_list(part: &Part, folder: &Path) -> Result<(), String> {
     let lines = (part.list)(&mut Random::new(SEED))?;
+    if lines.is_empty() {
+        return Ok(());
+    }
     let name = format!("{}.txt", part.name);
     save(&folder.join(&name), &lines).map_err(|error| error.to_string())?;
     println!("{name}: {} lines", lines.len());

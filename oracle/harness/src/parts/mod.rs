@@ -32,6 +32,5 @@ parts! {
     numbers,
     text,
     values,
-
     hello,
 }

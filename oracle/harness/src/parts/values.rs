@@ -3,7 +3,9 @@
 use crate::{
     answers::{self, Answer, TOO_SHORT_OUT},
     inputs::{self, Random},
-    port, shrink,
+    port,
+    records::{self, NOT_TEXT, Value as Record},
+    shrink,
     text::{Difference, hex},
     timing,
 };
@@ -11,26 +13,14 @@ use spop::{
     types::{TypedData, typed_data},
     varint::{decode_varint, encode_varint_into},
 };
-use std::{
-    hint::black_box,
-    net::{Ipv4Addr, Ipv6Addr},
-};
-
-/// The longest bytes that a value is drawn with.
-const LONGEST: usize = 40;
+use std::{hint::black_box, net::Ipv4Addr};
 
 /// The memory that a lent output stands at the front of, so that a call that goes past its end shows.
-const AREA: usize = LONGEST + 20;
+const AREA: usize = records::LONGEST + 20;
 
 const UNTOUCHED: u64 = 0xa5c3_96e1_5a3c_691e;
 const FILL: u8 = 0x6b;
 
-const NOT_WRITABLE: u64 = 14;
-const NOT_TEXT: u64 = 15;
-const OUTSIDE: u64 = 16;
-
-/// Kind, a, b.
-type Record = [u64; 3];
 
 // ---------------------------------------------------------------- reading, both sides
 
@@ -182,51 +172,13 @@ impl Write {
 
     /// A text that is not UTF-8 is as long as a binary of the same bytes.
     fn binary_length(&self) -> u64 {
-        let bytes = self.bytes().unwrap_or_default().to_vec();
+        let part = records::part(&self.buffer, self.record[1], self.record[2]);
+        let bytes = part.unwrap_or_default().to_vec();
         TypedData::Binary(bytes).serialized_len() as u64
     }
 
-    fn bytes(&self) -> Option<&[u8]> {
-        let start = usize::try_from(self.record[1]).ok()?;
-        let end = start.checked_add(usize::try_from(self.record[2]).ok()?)?;
-        self.buffer.get(start..end)
-    }
-
     fn value(&self) -> Result<TypedData, u64> {
-        let [kind, a, b] = self.record;
-        let field = |right: bool| {
-            if right { Ok(()) } else { Err(NOT_WRITABLE) }
-        };
-        match kind {
-            0 => field(a == 0 && b == 0).map(|()| TypedData::Null),
-            1 => field(a < 2 && b == 0).map(|()| TypedData::Bool(a == 1)),
-            2 => field(i64::from(a as i32) as u64 == a && b == 0)
-                .map(|()| TypedData::Int32(a as i32)),
-            3 => field(u64::from(a as u32) == a && b == 0).map(|()| TypedData::UInt32(a as u32)),
-            4 => field(b == 0).map(|()| TypedData::Int64(a as i64)),
-            5 => field(b == 0).map(|()| TypedData::UInt64(a)),
-            6 => {
-                field(b == 4)?;
-                let bytes: [u8; 4] = self.bytes().ok_or(OUTSIDE)?.try_into().expect("four bytes");
-                Ok(TypedData::IPv4(Ipv4Addr::from(bytes)))
-            }
-            7 => {
-                field(b == 16)?;
-                let bytes: [u8; 16] = self
-                    .bytes()
-                    .ok_or(OUTSIDE)?
-                    .try_into()
-                    .expect("sixteen bytes");
-                Ok(TypedData::IPv6(Ipv6Addr::from(bytes)))
-            }
-            8 => {
-                let bytes = self.bytes().ok_or(OUTSIDE)?;
-                let text = String::from_utf8(bytes.to_vec()).map_err(|_| NOT_TEXT)?;
-                Ok(TypedData::String(text))
-            }
-            9 => Ok(TypedData::Binary(self.bytes().ok_or(OUTSIDE)?.to_vec())),
-            _ => Err(NOT_WRITABLE),
-        }
+        records::value(self.record, &self.buffer)
     }
 
     fn differs(&self) -> bool {
@@ -343,7 +295,7 @@ fn encoded(random: &mut Random) -> Vec<u8> {
         6 => bytes.extend((0..random.within(3, 5)).map(|_| random.byte())),
         7 => bytes.extend((0..random.within(15, 17)).map(|_| random.byte())),
         8 | 9 => {
-            let content = contents(random);
+            let content = records::contents(random);
             let length = match random.below(8) {
                 0 => inputs::number(random),
                 1 => content.len() as u64 + 1,
@@ -357,67 +309,12 @@ fn encoded(random: &mut Random) -> Vec<u8> {
     bytes
 }
 
-/// Text, most of the time; a byte of it changed, or any bytes.
-fn contents(random: &mut Random) -> Vec<u8> {
-    let length = random.index(LONGEST - 12);
-    let mut bytes: Vec<u8> = (0..length).map(|_| b' ' + random.below(95) as u8).collect();
-    match random.below(4) {
-        0 if length > 0 => inputs::damage(random, &mut bytes),
-        1 => bytes.iter_mut().for_each(|byte| *byte = random.byte()),
-        2 if length > 3 => bytes[..3].copy_from_slice("€".as_bytes()),
-        _ => {}
-    }
-    bytes
-}
-
 fn drawn_write(random: &mut Random) -> Write {
-    let buffer = contents(random);
-    let kind = random.below(12);
-    let record = match kind {
-        0 | 1 => [kind, random.below(3), small(random)],
-        2 => [
-            kind,
-            i64::from(random.next() as i32) as u64 ^ small(random) << 40,
-            small(random),
-        ],
-        3 => [kind, random.next() >> random.within(30, 63), small(random)],
-        4 | 5 => [kind, inputs::number(random), small(random)],
-        6..=9 => {
-            let length = match (kind, random.below(8)) {
-                (_, 0) => inputs::number(random),
-                (6, _) => 4,
-                (7, _) => 16,
-                _ => random.below(buffer.len() as u64 + 2),
-            };
-            let start = match random.below(8) {
-                0 => inputs::number(random),
-                1 => buffer.len() as u64 + random.below(2),
-                _ => (buffer.len() as u64 + 1).saturating_sub(length.min(64)),
-            };
-            [
-                kind,
-                random
-                    .below(start.saturating_add(1).min(1 << 20))
-                    .min(start),
-                length,
-            ]
-        }
-        _ => [kind, small(random), small(random)],
-    };
-    let room = random.index(AREA - 6);
+    let buffer = records::contents(random);
     Write {
-        record,
+        record: records::drawn_value(random, buffer.len() as u64),
         buffer,
-        room,
-    }
-}
-
-/// 0 but for one time in eight: what an unused number has to be.
-fn small(random: &mut Random) -> u64 {
-    if random.below(8) == 0 {
-        1 + random.below(3)
-    } else {
-        0
+        room: random.index(AREA - 6),
     }
 }
 
