@@ -1,0 +1,338 @@
+// KV frames and action frames, written (SPOE.txt, sections 3.2 and 3.4).
+//
+// Every writer checks all records first, measures, and then writes. No public call has a `requires`: each does its own refusing,
+// and a refusal changes no byte.
+use frame::Head;
+use types::NOT_WRITABLE;
+use types::OUTSIDE;
+use types::Value;
+use varint::NO_ROOM;
+use varint::Refusal;
+use varint::Written;
+ghost use mathlib.Core.Path.{_≡_};
+ghost use mathlib.Core.Bool.{true};
+ghost use mathlib.Core.List.{[]};
+ghost use Prim.Native.Nat.{_+_, _*_, _≤_, _<_};
+ghost use lib.ListN.{length};
+ghost use Rattle.varint.specs.Answer.{written, within, leaves};
+ghost use Rattle.varint.specs.Promise.{Writes};
+ghost use Rattle.types.specs.Form.{inside, stringBytes, valueBytes, writableRecord, ranged};
+ghost use Rattle.types.specs.Promise.{recordOf};
+ghost use Rattle.writer.specs.Table.{records, joined, some, firstRefused, capped};
+ghost use Rattle.writer.specs.Pair.{pairAt, pairBytes, pairRefusal, sameKey, kvRefusal};
+ghost use Rattle.writer.specs.Frame.{refusedWith, headOf, finAlone, agentAllowed, limited, kvAllowed, kvAnswer};
+ghost use Rattle.writer.specs.Pairs.{Sound};
+
+// A key is met twice.
+pub const MET_TWICE: u64 = 9;
+// A frame is over the limit.
+pub const OVER_LIMIT: u64 = 12;
+
+// A pair as the tables have it: where its key stands in the buffer, and its value.
+pub struct Pair {
+    pub start: u64,
+    pub len: u64,
+    pub value: Value,
+}
+
+// Record i of a table of pairs.
+fn pair_at(pairs: &[u64], i: usize) -> Pair
+    requires { ⌜ i * 5 + 5 ≤ length (now pairs) ⌝ }
+    ensures { λ r. ⌜ r ≡ pairAt (now (pairs .entry)) i ⌝ }
+{
+    let at = i * 5;
+    Pair {
+        start: pairs[at],
+        len: pairs[at + 1],
+        value: Value {
+            kind: pairs[at + 2],
+            a: pairs[at + 3],
+            b: pairs[at + 4],
+        },
+    }
+}
+
+// What a pair on its own is refused with: 14, 16 or 15, the first that holds; else 0.
+pub fn check_pair(pair: Pair, buffer: &[u8]) -> u64
+    ensures { λ r. ⌜ r ≡ pairRefusal (now (buffer .entry)) pair ⌝ }
+{
+    if !types::writable(pair.value) {
+        return NOT_WRITABLE;
+    }
+    let key = types::check_string(pair.start, pair.len, buffer);
+    if key != 0 {
+        return key;
+    }
+    types::check_part(pair.value, buffer)
+}
+
+// Whether two keys are the same text.
+fn same_key(p: Pair, q: Pair, buffer: &[u8]) -> bool
+    requires { ⌜ pairRefusal (now buffer) p ≡ 0 ⌝ }
+    requires { ⌜ pairRefusal (now buffer) q ≡ 0 ⌝ }
+    ensures { λ r. ⌜ r ≡ sameKey (now (buffer .entry)) p q ⌝ }
+{
+    let from = p.start as usize;
+    let to = from + p.len as usize;
+    let other = q.start as usize;
+    let other_to = other + q.len as usize;
+    utf8::same_text(&buffer[from..to], &buffer[other..other_to])
+}
+
+// Whether the key of record i is that of an earlier record.
+fn key_met(pairs: &[u64], i: usize, buffer: &[u8]) -> bool
+    requires { ⌜ i * 5 + 5 ≤ length (now pairs) ⌝ }
+    requires { ⌜ Sound (now buffer) (now pairs) (i + 1) ⌝ }
+    ensures { λ r. ⌜ r ≡ some (sameKey (now (buffer .entry)) (pairAt (now (pairs .entry)) i)) (records (pairAt (now (pairs .entry))) 0 i) ⌝ }
+{
+    let pair = pair_at(pairs, i);
+    let mut j = 0;
+    while j < i {
+        if same_key(pair, pair_at(pairs, j), buffer) {
+            return true;
+        }
+        j += 1;
+    }
+    false
+}
+
+// The first of the records of a KV list that is refused, and its index; 0 where none is.
+fn check_pairs(pairs: &[u64], count: usize, buffer: &[u8]) -> Refusal
+    requires { ⌜ count * 5 ≤ length (now pairs) ⌝ }
+    ensures { λ r. ⌜ r ≡ firstRefused (kvRefusal (now (buffer .entry))) 0 [] (records (pairAt (now (pairs .entry))) 0 count) ⌝ }
+    ensures { λ r. ⌜ (r .number ≡ 0 → Sound (now (buffer .entry)) (now (pairs .entry)) count) ⌝ }
+{
+    let mut i = 0;
+    while i < count {
+        let number = check_pair(pair_at(pairs, i), buffer);
+        if number != 0 {
+            return Refusal { number, place: i };
+        }
+        if key_met(pairs, i, buffer) {
+            return Refusal {
+                number: MET_TWICE,
+                place: i,
+            };
+        }
+        i += 1;
+    }
+    Refusal {
+        number: 0,
+        place: 0,
+    }
+}
+
+// A length as far as it matters: all that is over `most` is one more than it.
+fn cap(n: u64, most: u32) -> u64
+    ensures { λ r. ⌜ r ≡ capped most n ⌝ }
+{
+    if n <= most as u64 {
+        return n;
+    }
+    most as u64 + 1
+}
+
+// How many bytes the written form of a pair has.
+fn pair_len(pair: Pair, buffer: &[u8], most: u32) -> u64
+    requires { ⌜ pairRefusal (now buffer) pair ≡ 0 ⌝ }
+    ensures { λ r. ⌜ r ≡ capped most (length (pairBytes (now (buffer .entry)) pair)) ⌝ }
+{
+    let key = cap(varint::varint_len(pair.len) as u64 + pair.len, most);
+    cap(key + types::value_len(pair.value, buffer) as u64, most)
+}
+
+// How many bytes the first records of a table have.
+fn pairs_len(pairs: &[u64], count: usize, buffer: &[u8], most: u32) -> u64
+    requires { ⌜ count * 5 ≤ length (now pairs) ⌝ }
+    requires { ⌜ Sound (now buffer) (now pairs) count ⌝ }
+    ensures { λ r. ⌜ r ≡ capped most (length (joined (pairBytes (now (buffer .entry))) (records (pairAt (now (pairs .entry))) 0 count))) ⌝ }
+{
+    let mut len = 0;
+    let mut i = 0;
+    while i < count {
+        len = cap(len + pair_len(pair_at(pairs, i), buffer, most), most);
+        i += 1;
+    }
+    len
+}
+
+// Writes a string where there is room.
+fn put_string(text: &[u8], out: &mut [u8]) -> usize
+    requires { ⌜ length (stringBytes (now text)) ≤ length (now out) ⌝ }
+    ensures { λ r. ⌜ r ≡ length (stringBytes (now (text .entry))) ⌝ }
+    ensures { λ r. ⌜ now (out .exit) ≡ leaves (written (stringBytes (now (text .entry)))) (now (out .entry)) ⌝ }
+{
+    match types::write_string(text, out) {
+        Written::Done(n) => {
+            return n;
+        },
+        Written::Refused(_) => {
+            return 0;
+        },
+    }
+}
+
+// Writes a value that has a written form, where there is room.
+fn put_value(value: Value, buffer: &[u8], out: &mut [u8]) -> usize
+    requires { ⌜ writableRecord (recordOf value) ≡ true ⌝ }
+    requires { ⌜ ranged (now buffer) (recordOf value) ≡ true ⌝ }
+    requires { ⌜ length (valueBytes (now buffer) (recordOf value)) ≤ length (now out) ⌝ }
+    ensures { λ r. ⌜ r ≡ length (valueBytes (now (buffer .entry)) (recordOf value)) ⌝ }
+    ensures { λ r. ⌜ now (out .exit) ≡ leaves (written (valueBytes (now (buffer .entry)) (recordOf value))) (now (out .entry)) ⌝ }
+{
+    match types::write_value(value, buffer, out) {
+        Written::Done(n) => {
+            return n;
+        },
+        Written::Refused(_) => {
+            return 0;
+        },
+    }
+}
+
+// Writes a pair where there is room.
+fn put_pair(pair: Pair, buffer: &[u8], out: &mut [u8]) -> usize
+    requires { ⌜ pairRefusal (now buffer) pair ≡ 0 ⌝ }
+    requires { ⌜ length (pairBytes (now buffer) pair) ≤ length (now out) ⌝ }
+    ensures { λ r. ⌜ r ≡ length (pairBytes (now (buffer .entry)) pair) ⌝ }
+    ensures { λ r. ⌜ now (out .exit) ≡ leaves (written (pairBytes (now (buffer .entry)) pair)) (now (out .entry)) ⌝ }
+{
+    let from = pair.start as usize;
+    let to = from + pair.len as usize;
+    let n = put_string(&buffer[from..to], out);
+    n + put_value(pair.value, buffer, &mut out[n..])
+}
+
+// Writes the first records of a table, one after the other, where there is room.
+fn put_pairs(pairs: &[u64], count: usize, buffer: &[u8], out: &mut [u8]) -> usize
+    requires { ⌜ count * 5 ≤ length (now pairs) ⌝ }
+    requires { ⌜ Sound (now buffer) (now pairs) count ⌝ }
+    requires { ⌜ length (joined (pairBytes (now buffer)) (records (pairAt (now pairs)) 0 count)) ≤ length (now out) ⌝ }
+    ensures { λ r. ⌜ r ≡ length (joined (pairBytes (now (buffer .entry))) (records (pairAt (now (pairs .entry))) 0 count)) ⌝ }
+    ensures { λ r. ⌜ now (out .exit) ≡ leaves (written (joined (pairBytes (now (buffer .entry))) (records (pairAt (now (pairs .entry))) 0 count))) (now (out .entry)) ⌝ }
+{
+    let mut at = 0;
+    let mut i = 0;
+    while i < count {
+        at += put_pair(pair_at(pairs, i), buffer, &mut out[at..]);
+        i += 1;
+    }
+    at
+}
+
+// Whether FIN is set and ABORT is not.
+fn fin_alone(fin: bool, abort: bool) -> bool
+    ensures { λ r. ⌜ r ≡ finAlone fin abort ⌝ }
+{
+    if !fin {
+        return false;
+    }
+    !abort
+}
+
+// Whether the metadata of an AGENT-HELLO or an AGENT-DISCONNECT is writable.
+fn agent_allowed(kind: u64, fin: bool, abort: bool, stream_id: u64, frame_id: u64) -> bool
+    ensures { λ r. ⌜ r ≡ agentAllowed (headOf kind fin abort «stream_id» «frame_id») ⌝ }
+{
+    if !fin_alone(fin, abort) {
+        return false;
+    }
+    if stream_id != 0 {
+        return false;
+    }
+    frame_id == 0
+}
+
+// Whether the metadata of a KV frame is writable.
+fn kv_allowed(kind: u64, fin: bool, abort: bool, stream_id: u64, frame_id: u64) -> bool
+    ensures { λ r. ⌜ r ≡ kvAllowed (headOf kind fin abort «stream_id» «frame_id») ⌝ }
+{
+    if kind == frame::HAPROXY_HELLO {
+        return true;
+    }
+    if kind == frame::HAPROXY_DISCONNECT {
+        return true;
+    }
+    if kind == frame::AGENT_HELLO {
+        return agent_allowed(kind, fin, abort, stream_id, frame_id);
+    }
+    if kind == frame::AGENT_DISCONNECT {
+        return agent_allowed(kind, fin, abort, stream_id, frame_id);
+    }
+    false
+}
+
+// Writes a KV frame at the front of `out`: its head, and its pairs in their order.
+pub fn write_kv(
+    kind: u64,
+    fin: bool,
+    abort: bool,
+    stream_id: u64,
+    frame_id: u64,
+    limit: u32,
+    buffer: &[u8],
+    pairs: &[u64],
+    pair_count: u64,
+    out: &mut [u8],
+) -> Written
+    ensures { λ r. ⌜ Writes (within (length (now (out .entry))) (kvAnswer (headOf kind fin abort «stream_id» «frame_id») limit (now (buffer .entry)) (now (pairs .entry)) «pair_count»)) r (now (out .entry)) (now (out .exit)) ⌝ }
+{
+    if !kv_allowed(kind, fin, abort, stream_id, frame_id) {
+        return refuse(NOT_WRITABLE);
+    }
+    if ((pairs.len() / 5) as u64) < pair_count {
+        return refuse(OUTSIDE);
+    }
+    let count = pair_count as usize;
+    let bad = check_pairs(pairs, count, buffer);
+    if bad.number != 0 {
+        return Written::Refused(bad);
+    }
+    let head = Head {
+        kind: kind as u8,
+        fin,
+        abort,
+        stream: stream_id,
+        frame: frame_id,
+    };
+    kv_frame(head, limit, buffer, pairs, count, out)
+}
+
+// The same of records that are not refused.
+fn kv_frame(
+    head: Head,
+    limit: u32,
+    buffer: &[u8],
+    pairs: &[u64],
+    count: usize,
+    out: &mut [u8],
+) -> Written
+    requires { ⌜ count * 5 ≤ length (now pairs) ⌝ }
+    requires { ⌜ Sound (now buffer) (now pairs) count ⌝ }
+    ensures { λ r. ⌜ Writes (within (length (now (out .entry))) (limited limit head (joined (pairBytes (now (buffer .entry))) (records (pairAt (now (pairs .entry))) 0 count)))) r (now (out .entry)) (now (out .exit)) ⌝ }
+{
+    let n = frame::head_len(head);
+    if (limit as usize) < n {
+        return refuse(OVER_LIMIT);
+    }
+    let most = limit - n as u32;
+    let len = pairs_len(pairs, count, buffer, most);
+    if (most as u64) < len {
+        return refuse(OVER_LIMIT);
+    }
+    let behind = n + len as usize;
+    if out.len() < 4 + behind {
+        return refuse(NO_ROOM);
+    }
+    frame::write_head(behind as u32, head, out);
+    let start = 4 + n;
+    put_pairs(pairs, count, buffer, &mut out[start..]);
+    Written::Done(4 + behind)
+}
+
+// A refusal at place 0.
+fn refuse(number: u64) -> Written
+    ensures { λ r. ⌜ r ≡ refusedWith number 0 ⌝ }
+{
+    Written::Refused(Refusal { number, place: 0 })
+}
