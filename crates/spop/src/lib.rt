@@ -9,6 +9,7 @@ ghost use Rattle.varint.specs.Answer.{written, within, leaves};
 ghost use Rattle.varint.specs.Number.{number, numberBytes};
 ghost use Rattle.varint.specs.Promise.{count, numberRead};
 ghost use Rattle.utf8.specs.Text.{isUtf8, lossy, sameText};
+ghost use Rattle.writer.specs.Frame.{headOf, kvAnswer};
 ghost use Rattle.hello.specs.Hello.{frameSize, announced, choice};
 ghost use Rattle.types.specs.Value.{typed};
 ghost use Rattle.types.specs.Form.{form, size};
@@ -132,6 +133,38 @@ fn value_of(value: &[u64; 3]) -> Value
         a: value[1],
         b: value[2],
     }
+}
+
+#[no_mangle]
+pub extern "C" fn spop_write_kv(
+    kind: u64,
+    fin: bool,
+    abort: bool,
+    stream_id: u64,
+    frame_id: u64,
+    limit: u32,
+    buffer: &[u8],
+    pairs: &[u64],
+    pair_count: u64,
+    out: &mut [u8],
+    at: &mut u64,
+) -> u64
+    ensures { λ r. ⌜ Told (within (length (now (out .entry))) (kvAnswer (headOf kind fin abort «stream_id» «frame_id») limit (now (buffer .entry)) (now (pairs .entry)) «pair_count»)) r (now (at .exit)) ⌝ }
+    ensures { λ r. ⌜ now (out .exit) ≡ leaves (within (length (now (out .entry))) (kvAnswer (headOf kind fin abort «stream_id» «frame_id») limit (now (buffer .entry)) (now (pairs .entry)) «pair_count»)) (now (out .entry)) ⌝ }
+{
+    let answer = writer::write_kv(
+        kind,
+        fin,
+        abort,
+        stream_id,
+        frame_id,
+        limit,
+        buffer,
+        pairs,
+        pair_count,
+        out,
+    );
+    tell(answer, at)
 }
 
 #[no_mangle]

@@ -29,6 +29,22 @@ c_calls! {
     fn spop_write_value(value: *const u64, buffer: *const u8, buffer_len: usize, out: *mut u8, out_len: usize, at: *mut u64) -> u64;
     fn spop_negotiate_max_frame_size(theirs: u32, ours: u32, at: *mut u64) -> u64;
     fn spop_negotiate_version(versions: *const u64, versions_len: usize, version: *mut u64) -> bool;
+    fn spop_write_kv(
+        kind: u64,
+        fin: bool,
+        abort: bool,
+        stream_id: u64,
+        frame_id: u64,
+        limit: u32,
+        buffer: *const u8,
+        buffer_len: usize,
+        pairs: *const u64,
+        pairs_len: usize,
+        pair_count: u64,
+        out: *mut u8,
+        out_len: usize,
+        at: *mut u64
+    ) -> u64;
 }
 
 pub fn varint_len(n: u64) -> u64 {
@@ -98,4 +114,38 @@ pub fn negotiate_max_frame_size(theirs: u32, ours: u32, at: &mut u64) -> u64 {
 pub fn negotiate_version(versions: &[u64], version: &mut [u64; 3]) -> bool {
     // SAFETY: the slice is lent with its length, the version has three numbers, and nothing lent overlaps.
     unsafe { spop_negotiate_version(versions.as_ptr(), versions.len(), version.as_mut_ptr()) }
+}
+
+/// FIN and ABORT are `flags`, the stream's and the frame's number are `ids`.
+#[allow(clippy::too_many_arguments)]
+pub fn write_kv(
+    kind: u64,
+    flags: [bool; 2],
+    ids: [u64; 2],
+    limit: u32,
+    buffer: &[u8],
+    pairs: &[u64],
+    count: u64,
+    out: &mut [u8],
+    at: &mut u64,
+) -> u64 {
+    // SAFETY: each slice is lent with its length, and nothing lent overlaps.
+    unsafe {
+        spop_write_kv(
+            kind,
+            flags[0],
+            flags[1],
+            ids[0],
+            ids[1],
+            limit,
+            buffer.as_ptr(),
+            buffer.len(),
+            pairs.as_ptr(),
+            pairs.len(),
+            count,
+            out.as_mut_ptr(),
+            out.len(),
+            at,
+        )
+    }
 }

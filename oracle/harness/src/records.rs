@@ -1,9 +1,21 @@
 //! Records in a lent buffer, as the paper has them: what they stand for in the Rust, and what they are refused with.
 
 use crate::inputs::{self, Random};
-use spop::types::TypedData;
-use std::net::{Ipv4Addr, Ipv6Addr};
+use spop::{
+    SpopFrame,
+    actions::Action,
+    frame::{FramePayload, FrameType, Metadata},
+    types::TypedData,
+};
+use std::{
+    borrow::Cow,
+    collections::HashMap,
+    net::{Ipv4Addr, Ipv6Addr},
+};
 
+pub const REPEATED: u64 = 9;
+pub const NO_ROOM: u64 = 11;
+pub const OVER_LIMIT: u64 = 12;
 pub const NOT_WRITABLE: u64 = 14;
 pub const NOT_TEXT: u64 = 15;
 pub const OUTSIDE: u64 = 16;
@@ -63,6 +75,39 @@ pub fn value(record: Value, buffer: &[u8]) -> Result<TypedData, u64> {
         8 => TypedData::String(text(buffer, a, b)?),
         _ => TypedData::Binary(part(buffer, a, b)?.to_vec()),
     })
+}
+
+// ---------------------------------------------------------------- frames
+
+#[derive(Debug)]
+pub enum Payload {
+    Pairs(HashMap<String, TypedData>),
+    Actions(Vec<Action>),
+}
+
+/// A frame of any type and metadata, which the Rust writes as it writes its own.
+#[derive(Debug)]
+pub struct Frame {
+    pub kind: FrameType,
+    pub metadata: Metadata,
+    pub payload: Payload,
+}
+
+impl SpopFrame for Frame {
+    fn frame_type(&self) -> &FrameType {
+        &self.kind
+    }
+
+    fn metadata(&self) -> Cow<'_, Metadata> {
+        Cow::Borrowed(&self.metadata)
+    }
+
+    fn payload(&self) -> FramePayload<'_> {
+        match &self.payload {
+            Payload::Pairs(pairs) => FramePayload::KVList(pairs.clone()),
+            Payload::Actions(actions) => FramePayload::ListOfActions(actions),
+        }
+    }
 }
 
 // ---------------------------------------------------------------- drawing

@@ -32,5 +32,6 @@ parts! {
     numbers,
     text,
     values,
+    kv,
     hello,
 }

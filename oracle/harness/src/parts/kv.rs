@@ -1,0 +1,298 @@
+//! KV frames: the port's pairs in their order, the Rust's as the set that its map holds.
+
+use crate::{
+    answers::Answer,
+    inputs::{self, Random},
+    port,
+    records::{self, Frame, NO_ROOM, NOT_WRITABLE, OUTSIDE, OVER_LIMIT, Payload, REPEATED},
+    text::{Difference, hex},
+    timing,
+};
+use spop::{
+    SpopFrame,
+    frame::{FrameFlags, FrameType, Metadata},
+    types::TypedData,
+    varint::encode_varint_into,
+};
+use std::{collections::HashMap, hint::black_box};
+
+const UNTOUCHED: u64 = 0xa5c3_96e1_5a3c_691e;
+const FILL: u8 = 0x6b;
+
+/// The most pairs that are drawn.
+const MOST: usize = 6;
+
+#[derive(Clone, Debug)]
+struct Call {
+    kind: u64,
+    fin: bool,
+    abort: bool,
+    stream: u64,
+    frame: u64,
+    limit: u32,
+    buffer: Vec<u8>,
+    pairs: Vec<u64>,
+    count: u64,
+    room: usize,
+}
+
+#[derive(PartialEq)]
+struct Wrote {
+    answer: Answer,
+    area: Vec<u8>,
+}
+
+impl Call {
+    fn by_port(&self) -> Wrote {
+        let (mut area, mut at) = (vec![FILL; self.room + 8], UNTOUCHED);
+        let number = port::write_kv(
+            self.kind,
+            [self.fin, self.abort],
+            [self.stream, self.frame],
+            self.limit,
+            &self.buffer,
+            &self.pairs,
+            self.count,
+            &mut area[..self.room],
+            &mut at,
+        );
+        let answer = Answer::new(number, at);
+        Wrote { answer, area }
+    }
+
+    /// Refusals are a plain reading of the paper; the bytes are the Rust's, a pair's after the other.
+    fn by_rust(&self) -> Wrote {
+        let mut area = vec![FILL; self.room + 8];
+        let answer = match self.expected() {
+            Err((number, index)) => Answer::new(number, index),
+            Ok(bytes) if bytes.len() as u64 - 4 > u64::from(self.limit) => {
+                Answer::new(OVER_LIMIT, 0)
+            }
+            Ok(bytes) if bytes.len() > self.room => Answer::new(NO_ROOM, 0),
+            Ok(bytes) => {
+                area[..bytes.len()].copy_from_slice(&bytes);
+                Answer::done(bytes.len())
+            }
+        };
+        Wrote { answer, area }
+    }
+
+    fn frame_type(&self) -> Result<FrameType, (u64, u64)> {
+        let handshake = self.fin && !self.abort && self.stream == 0 && self.frame == 0;
+        match self.kind {
+            1 => Ok(FrameType::HaproxyHello),
+            2 => Ok(FrameType::HaproxyDisconnect),
+            101 if handshake => Ok(FrameType::AgentHello),
+            102 if handshake => Ok(FrameType::AgentDisconnect),
+            _ => Err((NOT_WRITABLE, 0)),
+        }
+    }
+
+    fn expected(&self) -> Result<Vec<u8>, (u64, u64)> {
+        let kind = self.frame_type()?;
+        if self.count > self.pairs.len() as u64 / 5 {
+            return Err((OUTSIDE, 0));
+        }
+        let mut pairs: Vec<(String, TypedData)> = Vec::new();
+        for (index, record) in self.pairs.chunks_exact(5).take(self.count as usize).enumerate() {
+            let pair = self.pair(record, &pairs);
+            pairs.push(pair.map_err(|number| (number, index as u64))?);
+        }
+        Ok(self.written(kind, pairs))
+    }
+
+    fn pair(&self, record: &[u64], earlier: &[(String, TypedData)]) -> Result<(String, TypedData), u64> {
+        let value = [record[2], record[3], record[4]];
+        records::writable(value)?;
+        let key = records::text(&self.buffer, record[0], record[1])?;
+        let value = records::value(value, &self.buffer)?;
+        if earlier.iter().any(|(other, _)| *other == key) {
+            return Err(REPEATED);
+        }
+        Ok((key, value))
+    }
+
+    /// The Rust's header, and the encodings of the pairs in the records' order. The Rust's own payload has to be
+    /// the same encodings in its map's order.
+    fn written(&self, kind: FrameType, pairs: Vec<(String, TypedData)>) -> Vec<u8> {
+        let encodings: Vec<Vec<u8>> = pairs.iter().map(|(key, value)| encoding(key, value)).collect();
+        let map: HashMap<String, TypedData> = pairs.into_iter().collect();
+        let order: Vec<Vec<u8>> = map.iter().map(|(key, value)| encoding(key, value)).collect();
+        let frame = Frame {
+            kind,
+            metadata: Metadata {
+                flags: FrameFlags::new(self.fin, self.abort),
+                stream_id: self.stream,
+                frame_id: self.frame,
+            },
+            payload: Payload::Pairs(map),
+        };
+        let mut whole = frame.serialize().expect("the Rust writes KV frames");
+        let payload: usize = encodings.iter().map(Vec::len).sum();
+        let head = whole.len() - payload;
+        let mut sides = [encodings.clone(), order];
+        sides.iter_mut().for_each(|side| side.sort());
+        let parts = cut(&whole[head..], &encodings);
+        assert!(
+            sides[0] == sides[1] && parts,
+            "the Rust's payload is not its pairs"
+        );
+        whole.truncate(head);
+        whole.extend(encodings.concat());
+        whole
+    }
+}
+
+/// Whether the bytes are these encodings in some order. Keys differ, so no encoding starts another.
+fn cut(mut bytes: &[u8], encodings: &[Vec<u8>]) -> bool {
+    let mut left: Vec<&Vec<u8>> = encodings.iter().collect();
+    while !bytes.is_empty() {
+        let Some(place) = left.iter().position(|one| bytes.starts_with(one)) else {
+            return false;
+        };
+        bytes = &bytes[left.swap_remove(place).len()..];
+    }
+    left.is_empty()
+}
+
+fn encoding(key: &str, value: &TypedData) -> Vec<u8> {
+    let mut bytes = Vec::new();
+    encode_varint_into(key.len() as u64, &mut bytes);
+    bytes.extend_from_slice(key.as_bytes());
+    value.to_bytes(&mut bytes);
+    bytes
+}
+
+// ---------------------------------------------------------------- comparing
+
+fn compare(call: &Call) -> Result<(), Difference> {
+    let (port, rust) = (call.by_port(), call.by_rust());
+    if port == rust {
+        return Ok(());
+    }
+    Err(Difference::in_call("write_kv")
+        .row("with", format!("{call:?}"))
+        .row("port", port.answer)
+        .row("", hex(&port.area))
+        .row("rust", rust.answer)
+        .row("", hex(&rust.area)))
+}
+
+pub fn diff(random: &mut Random, rounds: u64) -> Result<String, Difference> {
+    let mut done = 0;
+    for _ in 0..rounds {
+        let mut call = drawn(random);
+        compare(&call)?;
+        if let Answer::Paper { number: 0, at } = call.by_port().answer {
+            done += 1;
+            // The edges of limit and room, one each time.
+            match random.below(4) {
+                0 => call.room = at as usize,
+                1 => call.room = at as usize - 1,
+                2 => call.limit = at as u32 - 4,
+                _ => call.limit = at as u32 - 5,
+            }
+            compare(&call)?;
+        }
+    }
+    Ok(format!("{rounds} rounds, {done} of them with a frame written"))
+}
+
+fn drawn(random: &mut Random) -> Call {
+    let buffer = records::contents(random);
+    let room = buffer.len() as u64;
+    let rows = random.index(MOST + 1);
+    let mut pairs = Vec::new();
+    for _ in 0..rows {
+        let (start, length) = records::drawn_part(random, room);
+        pairs.extend([start, length]);
+        pairs.extend(records::drawn_value(random, room));
+    }
+    pairs.extend((0..random.index(5)).map(|_| random.below(3)));
+    let kind = [1, 1, 2, 101, 102, 3, 103, 0, 256][random.index(9)];
+    let plain = random.below(4) > 0;
+    Call {
+        kind,
+        fin: plain || random.below(2) == 0,
+        abort: !plain && random.below(2) == 0,
+        stream: if plain && kind > 100 { 0 } else { inputs::number(random) },
+        frame: if plain && kind > 100 { 0 } else { inputs::number(random) },
+        limit: match random.below(8) {
+            0 => random.below(60) as u32,
+            1 => u32::MAX,
+            _ => 16_384,
+        },
+        buffer,
+        count: match random.below(16) {
+            0 => inputs::number(random),
+            1 => rows as u64 + 1,
+            _ => random.below(rows as u64 + 1).max(rows as u64 / 2),
+        },
+        pairs,
+        room: match random.below(8) {
+            0 => random.index(60),
+            _ => 400,
+        },
+    }
+}
+
+// ---------------------------------------------------------------- timing
+
+pub fn bench(_: &mut Random) {
+    let call = Call {
+        kind: 101,
+        fin: true,
+        abort: false,
+        stream: 0,
+        frame: 0,
+        limit: 16_384,
+        buffer: b"versionmax-frame-sizecapabilities2.0".to_vec(),
+        pairs: vec![0, 7, 8, 33, 3, 7, 14, 3, 16_380, 0, 21, 12, 8, 0, 0],
+        count: 3,
+        room: 256,
+    };
+    let (mut lent, mut at) = (vec![0; call.room], 0);
+    let port = || {
+        let call = black_box(&call);
+        black_box(port::write_kv(
+            call.kind,
+            [call.fin, call.abort],
+            [call.stream, call.frame],
+            call.limit,
+            &call.buffer,
+            &call.pairs,
+            call.count,
+            &mut lent,
+            &mut at,
+        ));
+        black_box((&lent, &at));
+    };
+    let map = HashMap::from([
+        ("version".to_string(), TypedData::String("2.0".into())),
+        ("max-frame-size".to_string(), TypedData::UInt32(16_380)),
+        ("capabilities".to_string(), TypedData::String(String::new())),
+    ]);
+    let frame = Frame {
+        kind: FrameType::AgentHello,
+        metadata: Metadata {
+            flags: FrameFlags::new(true, false),
+            stream_id: 0,
+            frame_id: 0,
+        },
+        payload: Payload::Pairs(map),
+    };
+    let mut grown = Vec::with_capacity(256);
+    let rust = || {
+        grown.clear();
+        black_box(&frame)
+            .serialize_into(&mut grown)
+            .expect("the Rust writes KV frames");
+        black_box(&grown);
+    };
+    timing::race("write_kv, AGENT-HELLO", 1, port, rust);
+}
+
+/// The writers' answers are the paper's and the Rust's map has no order, so there is no list of them.
+pub fn list(_: &mut Random) -> Result<Vec<String>, String> {
+    Ok(Vec::new())
+}
