@@ -7,11 +7,13 @@
  *                       short, right after its length number or type byte
  *    7  too large       a number over 2^64-1 or of more than ten bytes; *at: right after the byte that broke it
  *    8  no such type    a data type from 10 to 15; *at: right after the type byte
+ *    9  repeated        a key that an earlier record has; *at: the record's index
  *   11  no room         the output is too short; *at: 0
+ *   12  over the limit  the frame is longer than the limit allows; *at: 0
  *   13  size too small  a frame size is under 256; *at: 0
- *   14  not writable    a number outside its field; *at: the record's index, 0 for a value on its own
+ *   14  not writable    a number outside its field; *at: the record's index, 0 for metadata and for a value on its own
  *   15  not UTF-8       a text is not well-formed; *at: the same
- *   16  outside         a record points outside the buffer; *at: the same
+ *   16  outside         a record points outside the buffer, or the table has fewer; *at: the record's index, or 0
  *
  * *at is always set. Whatever else is lent changes only after 0, and of an output only the bytes that are written.
  *
@@ -70,6 +72,18 @@ uint64_t spop_check_value(const uint64_t value[3], const uint8_t *buffer, size_t
 /* Writes a value at the front of out. 0 with its length, or 14, 16, 11, the first of these that holds. Whether a string is UTF-8
  * is spop_check_value's to say. */
 uint64_t spop_write_value(const uint64_t value[3], const uint8_t *buffer, size_t buffer_len, uint8_t *out, size_t out_len, uint64_t *at);
+
+/* The writers of frames take records in a table of numbers, so many of them, whose starts count in buffer; and a limit for the
+ * frame's length without its four length bytes. They answer, the first of these that holds: 14 for the metadata (type, flags and
+ * numbers of stream and frame); 16 for more records than the table has; for the first record that is refused its number, with its
+ * index in *at; 12; 11. The records are written in their order. */
+
+/* Writes a KV frame: type 1 or 2, or 101 or 102 with FIN alone and both numbers 0. A pair has five numbers: key start, key length,
+ * and a value's kind, a and b. A pair's refusals, in this order: 14; 16 and 15 for its key; 16 and 15 for its value; 9 where an
+ * earlier key is the same text. */
+uint64_t spop_write_kv(uint64_t type, bool fin, bool abort, uint64_t stream_id, uint64_t frame_id, uint32_t limit,
+                       const uint8_t *buffer, size_t buffer_len, const uint64_t *pairs, size_t pairs_len, uint64_t pair_count,
+                       uint8_t *out, size_t out_len, uint64_t *at);
 
 /* The frame size that both sides can keep to: 0 with *at the smaller one, or 13 where either is under 256. */
 uint64_t spop_negotiate_max_frame_size(uint32_t theirs, uint32_t ours, uint64_t *at);

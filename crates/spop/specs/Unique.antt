@@ -10,6 +10,8 @@ use Rattle.utf8.specs.Text.{isUtf8, lossy, sameText}
 use Rattle.types.specs.Value.{typed}
 use Rattle.types.specs.Form.{form, size}
 use Rattle.types.specs.Check.{refusal}
+use Rattle.frame.specs.declared.Head.{Head}
+use Rattle.writer.specs.Frame.{kvAnswer}
 use Rattle.hello.specs.Hello.{frameSize, announced, choice}
 use Rattle.spop.specs.Told.{Told, valueOf, chosenOf}
 use Rattle.spop.specs.Values.{recordIn, numbersOf}
@@ -88,3 +90,12 @@ pub spop-write-value-unique : (l buffer old new other : List ℕ) (r q at also :
     → Told (within (length old) (form buffer (recordIn l))) q also × (other ≡ leaves (within (length old) (form buffer (recordIn l))) old)
     → (r ≡ q) × (at ≡ also) × (new ≡ other)
 spop-write-value-unique l buffer old new other r q at also p s = call-unique p s
+
+module _ (h : Head) (limit : ℕ) (buffer pairs : List ℕ) (count : ℕ) (old : List ℕ) where
+  abbrev kv : Answer (List ℕ)
+  kv = within (length old) (kvAnswer h limit buffer pairs count)
+
+  pub spop-write-kv-unique : (new other : List ℕ) (r q at also : ℕ)
+    → Told kv r at × (new ≡ leaves kv old) → Told kv q also × (other ≡ leaves kv old)
+    → (r ≡ q) × (at ≡ also) × (new ≡ other)
+  spop-write-kv-unique new other r q at also p s = call-unique p s
