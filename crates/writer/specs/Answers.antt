@@ -15,9 +15,10 @@ use Rattle.utf8.specs.Stepping.{bool-cases}
 use Rattle.frame.specs.declared.Head.{Head}
 use Rattle.frame.specs.Head.{fourBytes, headBytes, frameBytes}
 use Rattle.frame.specs.Laws.{four-long}
-use Rattle.writer.specs.Table.{records, joined, firstRefused}
+use Rattle.writer.specs.Table.{records, joined, alone, firstRefused}
 use Rattle.writer.specs.Pair.{pairAt, pairBytes, kvRefusal}
-use Rattle.writer.specs.Frame.{limited, ofRecords, answer, kvAllowed, agentAllowed, kvAnswer}
+use Rattle.writer.specs.Action.{actionAt, actionBytes, actionRefusal}
+use Rattle.writer.specs.Frame.{limited, ofRecords, answer, kvAllowed, agentAllowed, kvAnswer, actionsAllowed, actionsAnswer}
 
 -- ---- the limit
 
@@ -134,3 +135,28 @@ module _ (h : Head) (limit : ℕ) (buffer pairs : List ℕ) (count : ℕ) where
     kv-passed z =
         answer-records 5 count pairs _ (kvAllowed h) e l
         ∙ records-passed (kvRefusal buffer) (pairBytes buffer) limit h (records (pairAt pairs) 0 count) r is z
+
+-- ---- the action writer's answer, in the same way
+
+module _ (h : Head) (limit : ℕ) (buffer actions : List ℕ) (count : ℕ) where
+  pub actions-metadata : actionsAllowed h ≡ false → actionsAnswer h limit buffer actions count ≡ refused 14 0
+  unfolding actionsAnswer
+  actions-metadata e = answer-metadata 7 count actions _ (actionsAllowed h) e
+
+  pub actions-count : actionsAllowed h ≡ true → length actions < count * 7 → actionsAnswer h limit buffer actions count ≡ refused 16 0
+  unfolding actionsAnswer
+  actions-count e l = answer-count 7 count actions _ (actionsAllowed h) e l
+
+  module _ (e : actionsAllowed h ≡ true) (l : count * 7 ≤ length actions) (r : Refusal)
+      (is : r ≡ firstRefused (alone (actionRefusal buffer)) 0 [] (records (actionAt actions) 0 count)) where
+    pub actions-refused : (r .number ≡ 0 → ⊥) → actionsAnswer h limit buffer actions count ≡ refused (r .number) (r .place)
+    unfolding actionsAnswer
+    actions-refused ne =
+        answer-records 7 count actions _ (actionsAllowed h) e l
+        ∙ records-refused (alone (actionRefusal buffer)) (actionBytes buffer) limit h (records (actionAt actions) 0 count) r is ne
+
+    pub actions-passed : r .number ≡ 0 → actionsAnswer h limit buffer actions count ≡ limited limit h (joined (actionBytes buffer) (records (actionAt actions) 0 count))
+    unfolding actionsAnswer
+    actions-passed z =
+        answer-records 7 count actions _ (actionsAllowed h) e l
+        ∙ records-passed (alone (actionRefusal buffer)) (actionBytes buffer) limit h (records (actionAt actions) 0 count) r is z

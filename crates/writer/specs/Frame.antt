@@ -12,9 +12,9 @@ use Rattle.varint.specs.Answer.{Answer, refused, written}
 use Rattle.types.specs.Value.{both}
 use Rattle.frame.specs.declared.Head.{Head}
 use Rattle.frame.specs.Head.{headBytes, frameBytes}
-use Rattle.writer.specs.declared.Pair.{Pair}
-use Rattle.writer.specs.Table.{records, joined, firstRefused}
+use Rattle.writer.specs.Table.{records, joined, alone, firstRefused}
 use Rattle.writer.specs.Pair.{pairAt, pairBytes, kvRefusal}
+use Rattle.writer.specs.Action.{actionAt, actionBytes, actionRefusal}
 
 -- what a refusal is, as the calls answer it
 abbrev pub refusedWith : ℕ → ℕ → Written
@@ -58,3 +58,12 @@ kvAllowed h =
 unfoldable pub kvAnswer : Head → ℕ → List ℕ → List ℕ → ℕ → Answer (List ℕ)
 kvAnswer h limit buffer pairs count =
     answer (kvAllowed h) 5 count pairs (ofRecords (kvRefusal buffer) (pairBytes buffer) limit h (records (pairAt pairs) 0 count))
+
+-- an ACK has FIN alone
+abbrev pub actionsAllowed : Head → Bool
+actionsAllowed h = finAlone (h .fin) (h .abort)
+
+unfoldable pub actionsAnswer : Head → ℕ → List ℕ → List ℕ → ℕ → Answer (List ℕ)
+actionsAnswer h limit buffer actions count =
+    answer (actionsAllowed h) 7 count actions
+    (ofRecords (alone (actionRefusal buffer)) (actionBytes buffer) limit h (records (actionAt actions) 0 count))

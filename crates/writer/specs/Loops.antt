@@ -1,6 +1,7 @@
 -- What the loops over a table's records keep, and how each goes on: of `count` records those before i are done.
 use mathlib.Core.Path.{_≡_, refl, sym, ap, _∙_}
 use mathlib.Core.Bool.{Bool, true, false}
+use mathlib.Core.Logic.{⊎-elim}
 use mathlib.Core.List.{List, [], _∷_, _++_}
 use Prim.Native.Nat.{ℕ, _+_, _-_, _≤_, _<_}
 use native.Mathlib.Omega.{arith}
@@ -8,6 +9,7 @@ use lib.ListN.{length, take, drop, length-append}
 use borrow.Rule.Slice.PartMut.{putMid}
 use Rattle.varint.specs.declared.Refusal.{Refusal}
 use Rattle.varint.specs.Answer.{written, leaves}
+use Rattle.varint.specs.Writing.{lt-or-le}
 use Rattle.varint.specs.Output.{Partly, partly-none, partly-length, partly-count, partly-all}
 use Rattle.writer.specs.Table.{records, joined, some, firstRefused, capped}
 use Rattle.writer.specs.Records
@@ -61,6 +63,20 @@ module _ {A : Type 0} {refuses : List A → A → ℕ} {at : ℕ → A} {count i
 
   pub checking-all : count ≤ i → firstRefused refuses 0 [] (records at 0 count) ≡ record { number = 0; place = 0 }
   checking-all h = c .same ∙ ap (firstRefused refuses i (records at 0 i)) (Records.records-end at i count h) ∙ Records.first-none refuses i (records at 0 i)
+
+-- The first n records are not refused on their own.
+pub record Sound {A : Type 0} (refuses : A → ℕ) (at : ℕ → A) (n : ℕ) : Type 0 where
+  pub each : (i : ℕ) → i < n → refuses (at i) ≡ 0
+
+pub sound-none : {A : Type 0} {refuses : A → ℕ} {at : ℕ → A} → Sound refuses at 0
+sound-none = record { each = λ i h. absurd (omega arith) }
+
+pub sound-on : {A : Type 0} {refuses : A → ℕ} {at : ℕ → A} {n : ℕ} → Sound refuses at n → refuses (at n) ≡ 0 → Sound refuses at (n + 1)
+sound-on {A} {refuses} {at} {n} s e =
+    record { each = λ i h. ⊎-elim (λ l. s .each i l) (λ l. let same : i ≡ n = omega arith in ap (λ (k : ℕ). refuses (at k)) same ∙ e) (lt-or-le i n) }
+
+pub sound-less : {A : Type 0} {refuses : A → ℕ} {at : ℕ → A} {n k : ℕ} → Sound refuses at n → k ≤ n → Sound refuses at k
+sound-less s l = record { each = λ i h. s .each i (omega arith) }
 
 -- ---- how long they are
 

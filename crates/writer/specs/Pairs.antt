@@ -108,18 +108,3 @@ module _ (buffer : List ℕ) (earlier : List Pair) (p : Pair) where
   pub kv-new : pairRefusal buffer p ≡ 0 → some (sameKey buffer p) earlier ≡ false → kvRefusal buffer earlier p ≡ 0
   unfolding kvRefusal
   kv-new e h = rw (e, h)
-
--- The first n pairs of a table are not refused on their own.
-pub record Sound (buffer pairs : List ℕ) (n : ℕ) : Type 0 where
-  pub each : (i : ℕ) → i < n → pairRefusal buffer (pairAt pairs i) ≡ 0
-
-pub sound-none : {buffer pairs : List ℕ} → Sound buffer pairs 0
-sound-none = record { each = λ i h. absurd (omega arith) }
-
-pub sound-on : {buffer pairs : List ℕ} {n : ℕ} → Sound buffer pairs n → pairRefusal buffer (pairAt pairs n) ≡ 0 → Sound buffer pairs (n + 1)
-sound-on {buffer} {pairs} {n} s e =
-    record { each = λ i h. ⊎-elim (λ l. s .each i l) (λ l. let same : i ≡ n = omega arith in ap (λ (k : ℕ). pairRefusal buffer (pairAt pairs k)) same ∙ e) (lt-or-le i n) }
-
--- and so are fewer
-pub sound-less : {buffer pairs : List ℕ} {n k : ℕ} → Sound buffer pairs n → k ≤ n → Sound buffer pairs k
-sound-less s l = record { each = λ i h. s .each i (omega arith) }

@@ -29,6 +29,10 @@ some test (x ∷ xs) = cond (test x) true (some test xs)
 abbrev pub orElse : ℕ → ℕ → ℕ
 orElse n m = cond (eqb n 0) m n
 
+-- what refuses a record by itself, whatever stands before it
+abbrev pub alone : {A : Type 0} → (A → ℕ) → List A → A → ℕ
+alone refuses earlier x = refuses x
+
 -- The first refused record and its index, counted from i. What refuses a record also sees the records before it. Where none
 -- is refused, the number is 0.
 unfoldable pub firstRefused : {A : Type 0} → (List A → A → ℕ) → ℕ → List A → List A → Refusal

@@ -11,17 +11,18 @@ use varint::Refusal;
 use varint::Written;
 ghost use mathlib.Core.Path.{_≡_};
 ghost use mathlib.Core.Bool.{true};
-ghost use mathlib.Core.List.{[]};
+ghost use mathlib.Core.List.{[], _∷_};
 ghost use Prim.Native.Nat.{_+_, _*_, _≤_, _<_};
 ghost use lib.ListN.{length};
 ghost use Rattle.varint.specs.Answer.{written, within, leaves};
 ghost use Rattle.varint.specs.Promise.{Writes};
 ghost use Rattle.types.specs.Form.{inside, stringBytes, valueBytes, writableRecord, ranged};
 ghost use Rattle.types.specs.Promise.{recordOf};
-ghost use Rattle.writer.specs.Table.{records, joined, some, firstRefused, capped};
+ghost use Rattle.writer.specs.Table.{records, joined, some, alone, firstRefused, capped};
 ghost use Rattle.writer.specs.Pair.{pairAt, pairBytes, pairRefusal, sameKey, kvRefusal};
-ghost use Rattle.writer.specs.Frame.{refusedWith, headOf, finAlone, agentAllowed, limited, kvAllowed, kvAnswer};
-ghost use Rattle.writer.specs.Pairs.{Sound};
+ghost use Rattle.writer.specs.Action.{actionAt, noValue, actionWritable, actionBytes, actionRefusal};
+ghost use Rattle.writer.specs.Frame.{refusedWith, headOf, finAlone, agentAllowed, limited, kvAllowed, kvAnswer, actionsAnswer};
+ghost use Rattle.writer.specs.Loops.{Sound};
 
 // A key is met twice.
 pub const MET_TWICE: u64 = 9;
@@ -33,6 +34,18 @@ pub struct Pair {
     pub start: u64,
     pub len: u64,
     pub value: Value,
+}
+
+// An action on a variable sets it, or unsets it.
+pub const SET_VAR: u64 = 1;
+
+pub const UNSET_VAR: u64 = 2;
+
+// An action as the tables have it: what it does, the variable's scope, and the variable's name and value as a pair.
+pub struct Action {
+    pub verb: u64,
+    pub scope: u64,
+    pub pair: Pair,
 }
 
 // Record i of a table of pairs.
@@ -82,7 +95,7 @@ fn same_key(p: Pair, q: Pair, buffer: &[u8]) -> bool
 // Whether the key of record i is that of an earlier record.
 fn key_met(pairs: &[u64], i: usize, buffer: &[u8]) -> bool
     requires { ⌜ i * 5 + 5 ≤ length (now pairs) ⌝ }
-    requires { ⌜ Sound (now buffer) (now pairs) (i + 1) ⌝ }
+    requires { ⌜ Sound (pairRefusal (now buffer)) (pairAt (now pairs)) (i + 1) ⌝ }
     ensures { λ r. ⌜ r ≡ some (sameKey (now (buffer .entry)) (pairAt (now (pairs .entry)) i)) (records (pairAt (now (pairs .entry))) 0 i) ⌝ }
 {
     let pair = pair_at(pairs, i);
@@ -100,7 +113,7 @@ fn key_met(pairs: &[u64], i: usize, buffer: &[u8]) -> bool
 fn check_pairs(pairs: &[u64], count: usize, buffer: &[u8]) -> Refusal
     requires { ⌜ count * 5 ≤ length (now pairs) ⌝ }
     ensures { λ r. ⌜ r ≡ firstRefused (kvRefusal (now (buffer .entry))) 0 [] (records (pairAt (now (pairs .entry))) 0 count) ⌝ }
-    ensures { λ r. ⌜ (r .number ≡ 0 → Sound (now (buffer .entry)) (now (pairs .entry)) count) ⌝ }
+    ensures { λ r. ⌜ (r .number ≡ 0 → Sound (pairRefusal (now (buffer .entry))) (pairAt (now (pairs .entry))) count) ⌝ }
 {
     let mut i = 0;
     while i < count {
@@ -144,7 +157,7 @@ fn pair_len(pair: Pair, buffer: &[u8], most: u32) -> u64
 // How many bytes the first records of a table have.
 fn pairs_len(pairs: &[u64], count: usize, buffer: &[u8], most: u32) -> u64
     requires { ⌜ count * 5 ≤ length (now pairs) ⌝ }
-    requires { ⌜ Sound (now buffer) (now pairs) count ⌝ }
+    requires { ⌜ Sound (pairRefusal (now buffer)) (pairAt (now pairs)) count ⌝ }
     ensures { λ r. ⌜ r ≡ capped most (length (joined (pairBytes (now (buffer .entry))) (records (pairAt (now (pairs .entry))) 0 count))) ⌝ }
 {
     let mut len = 0;
@@ -206,7 +219,7 @@ fn put_pair(pair: Pair, buffer: &[u8], out: &mut [u8]) -> usize
 // Writes the first records of a table, one after the other, where there is room.
 fn put_pairs(pairs: &[u64], count: usize, buffer: &[u8], out: &mut [u8]) -> usize
     requires { ⌜ count * 5 ≤ length (now pairs) ⌝ }
-    requires { ⌜ Sound (now buffer) (now pairs) count ⌝ }
+    requires { ⌜ Sound (pairRefusal (now buffer)) (pairAt (now pairs)) count ⌝ }
     requires { ⌜ length (joined (pairBytes (now buffer)) (records (pairAt (now pairs)) 0 count)) ≤ length (now out) ⌝ }
     ensures { λ r. ⌜ r ≡ length (joined (pairBytes (now (buffer .entry))) (records (pairAt (now (pairs .entry))) 0 count)) ⌝ }
     ensures { λ r. ⌜ now (out .exit) ≡ leaves (written (joined (pairBytes (now (buffer .entry))) (records (pairAt (now (pairs .entry))) 0 count))) (now (out .entry)) ⌝ }
@@ -308,7 +321,7 @@ fn kv_frame(
     out: &mut [u8],
 ) -> Written
     requires { ⌜ count * 5 ≤ length (now pairs) ⌝ }
-    requires { ⌜ Sound (now buffer) (now pairs) count ⌝ }
+    requires { ⌜ Sound (pairRefusal (now buffer)) (pairAt (now pairs)) count ⌝ }
     ensures { λ r. ⌜ Writes (within (length (now (out .entry))) (limited limit head (joined (pairBytes (now (buffer .entry))) (records (pairAt (now (pairs .entry))) 0 count)))) r (now (out .entry)) (now (out .exit)) ⌝ }
 {
     let n = frame::head_len(head);
@@ -327,6 +340,224 @@ fn kv_frame(
     frame::write_head(behind as u32, head, out);
     let start = 4 + n;
     put_pairs(pairs, count, buffer, &mut out[start..]);
+    Written::Done(4 + behind)
+}
+
+// Record i of a table of actions.
+fn action_at(actions: &[u64], i: usize) -> Action
+    requires { ⌜ i * 7 + 7 ≤ length (now actions) ⌝ }
+    ensures { λ r. ⌜ r ≡ actionAt (now (actions .entry)) i ⌝ }
+{
+    let at = i * 7;
+    Action {
+        verb: actions[at],
+        scope: actions[at + 1],
+        pair: Pair {
+            start: actions[at + 2],
+            len: actions[at + 3],
+            value: Value {
+                kind: actions[at + 4],
+                a: actions[at + 5],
+                b: actions[at + 6],
+            },
+        },
+    }
+}
+
+// Whether a value's three numbers are 0.
+fn no_value(value: Value) -> bool
+    ensures { λ r. ⌜ r ≡ noValue (recordOf value) ⌝ }
+{
+    if value.kind != 0 {
+        return false;
+    }
+    if value.a != 0 {
+        return false;
+    }
+    value.b == 0
+}
+
+// Whether an action's own numbers lie in their fields.
+fn action_writable(action: Action) -> bool
+    ensures { λ r. ⌜ r ≡ actionWritable action ⌝ }
+{
+    if 4 < action.scope {
+        return false;
+    }
+    if action.verb == SET_VAR {
+        return true;
+    }
+    if action.verb != UNSET_VAR {
+        return false;
+    }
+    no_value(action.pair.value)
+}
+
+// What an action is refused with: 14, 16 or 15, the first that holds; else 0.
+pub fn check_action(action: Action, buffer: &[u8]) -> u64
+    ensures { λ r. ⌜ r ≡ actionRefusal (now (buffer .entry)) action ⌝ }
+{
+    if !action_writable(action) {
+        return NOT_WRITABLE;
+    }
+    check_pair(action.pair, buffer)
+}
+
+// The first action that is refused, and its index; 0 where none is.
+fn check_actions(actions: &[u64], count: usize, buffer: &[u8]) -> Refusal
+    requires { ⌜ count * 7 ≤ length (now actions) ⌝ }
+    ensures { λ r. ⌜ r ≡ firstRefused (alone (actionRefusal (now (buffer .entry)))) 0 [] (records (actionAt (now (actions .entry))) 0 count) ⌝ }
+    ensures { λ r. ⌜ (r .number ≡ 0 → Sound (actionRefusal (now (buffer .entry))) (actionAt (now (actions .entry))) count) ⌝ }
+{
+    let mut i = 0;
+    while i < count {
+        let number = check_action(action_at(actions, i), buffer);
+        if number != 0 {
+            return Refusal { number, place: i };
+        }
+        i += 1;
+    }
+    Refusal {
+        number: 0,
+        place: 0,
+    }
+}
+
+// How many bytes the written form of an action has.
+fn action_len(action: Action, buffer: &[u8], most: u32) -> u64
+    requires { ⌜ actionRefusal (now buffer) action ≡ 0 ⌝ }
+    ensures { λ r. ⌜ r ≡ capped most (length (actionBytes (now (buffer .entry)) action)) ⌝ }
+{
+    if action.verb == SET_VAR {
+        return cap(3 + pair_len(action.pair, buffer, most), most);
+    }
+    let len = action.pair.len;
+    cap(3 + (varint::varint_len(len) as u64 + len), most)
+}
+
+// How many bytes the first records of a table have.
+fn actions_len(actions: &[u64], count: usize, buffer: &[u8], most: u32) -> u64
+    requires { ⌜ count * 7 ≤ length (now actions) ⌝ }
+    requires { ⌜ Sound (actionRefusal (now buffer)) (actionAt (now actions)) count ⌝ }
+    ensures { λ r. ⌜ r ≡ capped most (length (joined (actionBytes (now (buffer .entry))) (records (actionAt (now (actions .entry))) 0 count))) ⌝ }
+{
+    let mut len = 0;
+    let mut i = 0;
+    while i < count {
+        len = cap(len + action_len(action_at(actions, i), buffer, most), most);
+        i += 1;
+    }
+    len
+}
+
+// Writes three bytes.
+fn put_three(a: u8, b: u8, c: u8, out: &mut [u8])
+    requires { ⌜ 3 ≤ length (now out) ⌝ }
+    ensures { λ _. ⌜ now (out .exit) ≡ leaves (written (a ∷ b ∷ c ∷ [])) (now (out .entry)) ⌝ }
+{
+    out[0] = a;
+    out[1] = b;
+    out[2] = c;
+}
+
+// Writes an action where there is room.
+fn put_action(action: Action, buffer: &[u8], out: &mut [u8]) -> usize
+    requires { ⌜ actionRefusal (now buffer) action ≡ 0 ⌝ }
+    requires { ⌜ length (actionBytes (now buffer) action) ≤ length (now out) ⌝ }
+    ensures { λ r. ⌜ r ≡ length (actionBytes (now (buffer .entry)) action) ⌝ }
+    ensures { λ r. ⌜ now (out .exit) ≡ leaves (written (actionBytes (now (buffer .entry)) action)) (now (out .entry)) ⌝ }
+{
+    if action.verb == SET_VAR {
+        put_three(1, 3, action.scope as u8, out);
+        return 3 + put_pair(action.pair, buffer, &mut out[3..]);
+    }
+    put_three(2, 2, action.scope as u8, out);
+    let from = action.pair.start as usize;
+    let to = from + action.pair.len as usize;
+    3 + put_string(&buffer[from..to], &mut out[3..])
+}
+
+// Writes the first records of a table, one after the other, where there is room.
+fn put_actions(actions: &[u64], count: usize, buffer: &[u8], out: &mut [u8]) -> usize
+    requires { ⌜ count * 7 ≤ length (now actions) ⌝ }
+    requires { ⌜ Sound (actionRefusal (now buffer)) (actionAt (now actions)) count ⌝ }
+    requires { ⌜ length (joined (actionBytes (now buffer)) (records (actionAt (now actions)) 0 count)) ≤ length (now out) ⌝ }
+    ensures { λ r. ⌜ r ≡ length (joined (actionBytes (now (buffer .entry))) (records (actionAt (now (actions .entry))) 0 count)) ⌝ }
+    ensures { λ r. ⌜ now (out .exit) ≡ leaves (written (joined (actionBytes (now (buffer .entry))) (records (actionAt (now (actions .entry))) 0 count))) (now (out .entry)) ⌝ }
+{
+    let mut at = 0;
+    let mut i = 0;
+    while i < count {
+        at += put_action(action_at(actions, i), buffer, &mut out[at..]);
+        i += 1;
+    }
+    at
+}
+
+// Writes an ACK frame at the front of `out`: its head, and its actions in their order.
+pub fn write_actions(
+    fin: bool,
+    abort: bool,
+    stream_id: u64,
+    frame_id: u64,
+    limit: u32,
+    buffer: &[u8],
+    actions: &[u64],
+    action_count: u64,
+    out: &mut [u8],
+) -> Written
+    ensures { λ r. ⌜ Writes (within (length (now (out .entry))) (actionsAnswer (headOf 103 fin abort «stream_id» «frame_id») limit (now (buffer .entry)) (now (actions .entry)) «action_count»)) r (now (out .entry)) (now (out .exit)) ⌝ }
+{
+    if !fin_alone(fin, abort) {
+        return refuse(NOT_WRITABLE);
+    }
+    if ((actions.len() / 7) as u64) < action_count {
+        return refuse(OUTSIDE);
+    }
+    let count = action_count as usize;
+    let bad = check_actions(actions, count, buffer);
+    if bad.number != 0 {
+        return Written::Refused(bad);
+    }
+    let head = Head {
+        kind: frame::ACK as u8,
+        fin,
+        abort,
+        stream: stream_id,
+        frame: frame_id,
+    };
+    action_frame(head, limit, buffer, actions, count, out)
+}
+
+// The same of records that are not refused.
+fn action_frame(
+    head: Head,
+    limit: u32,
+    buffer: &[u8],
+    actions: &[u64],
+    count: usize,
+    out: &mut [u8],
+) -> Written
+    requires { ⌜ count * 7 ≤ length (now actions) ⌝ }
+    requires { ⌜ Sound (actionRefusal (now buffer)) (actionAt (now actions)) count ⌝ }
+    ensures { λ r. ⌜ Writes (within (length (now (out .entry))) (limited limit head (joined (actionBytes (now (buffer .entry))) (records (actionAt (now (actions .entry))) 0 count)))) r (now (out .entry)) (now (out .exit)) ⌝ }
+{
+    let n = frame::head_len(head);
+    if (limit as usize) < n {
+        return refuse(OVER_LIMIT);
+    }
+    let most = limit - n as u32;
+    let len = actions_len(actions, count, buffer, most);
+    if (most as u64) < len {
+        return refuse(OVER_LIMIT);
+    }
+    let behind = n + len as usize;
+    if out.len() < 4 + behind {
+        return refuse(NO_ROOM);
+    }
+    frame::write_head(behind as u32, head, out);
+    let start = 4 + n;
+    put_actions(actions, count, buffer, &mut out[start..]);
     Written::Done(4 + behind)
 }
 

@@ -6,14 +6,14 @@ use Prim.Native.Nat.{ℕ, _+_, _-_}
 use native.Mathlib.Omega.{arith}
 use Rattle.writer.specs.declared.Pair.{Pair}
 use Rattle.writer.specs.Table.{records}
-use Rattle.writer.specs.Loops.{Checking, checking-none, checking-here, checking-on, checking-all}
+use Rattle.writer.specs.Loops.{Sound, sound-none, sound-on, sound-less, Checking, checking-none, checking-here, checking-on, checking-all}
 use Rattle.writer.specs.Pair.{pairAt, pairRefusal, kvRefusal}
-use Rattle.writer.specs.Pairs.{Sound, sound-none, sound-on, sound-less, kv-own, kv-met, kv-new}
+use Rattle.writer.specs.Pairs.{kv-own, kv-met, kv-new}
 use Rattle.writer.proofs.check_pairs.Statement.{statement}
 use Rattle.writer.proofs.check_pairs.Tie as tie
 
 abbrev Inv-loop : tie.InvT-loop
-Inv-loop pairs count buffer i₀ i = Checking (kvRefusal buffer) (pairAt pairs) count i × Sound buffer pairs i
+Inv-loop pairs count buffer i₀ i = Checking (kvRefusal buffer) (pairAt pairs) count i × Sound (pairRefusal buffer) (pairAt pairs) i
 
 abbrev μ-loop : tie.MeasureT-loop
 μ-loop pairs count buffer i₀ i = count - i
