@@ -7,13 +7,13 @@ use native.Mathlib.Omega.{arith}
 use lib.ListN.{length, take, drop, getD, set, length-append, length-drop, drop-of-length-le}
 use lib.Seq.{drop-cons}
 use borrow.Rule.Slice.PartMut.{putMid}
-use borrow.Author.Tests.{le-leb}
+use borrow.Author.Tests.{le-leb, lt-leb}
 use Rattle.varint.specs.declared.Refusal.{Refusal}
 use Rattle.varint.specs.declared.Written.{Written}
 use Rattle.varint.specs.declared.Written.the-variants as w
 use Rattle.varint.specs.Answer.{Answer, done, refused, written, within, leaves}
 use Rattle.varint.specs.Promise.{count, Writes}
-use Rattle.varint.specs.Output.{Partly, partly-next, partly-place, lent-tail, leaves-length, leaves-byte, leaves-tail, writes-none, writes-all}
+use Rattle.varint.specs.Output.{Partly, partly-next, partly-place, lent-tail, leaves-length, leaves-byte, leaves-tail, writes-all}
 
 -- where there is room, all is written
 module _ (bytes : List ℕ) {old new : List ℕ} {r : Written} (p : Writes (within (length old) (written bytes)) r old new) (room : length bytes ≤ length old) where
@@ -33,14 +33,13 @@ module _ (bytes : List ℕ) {old new : List ℕ} {r : Written} (p : Writes (with
       absurd (omega arith)
 
 -- what has no written form is not written
-pub writes-refusal : {a : Answer (List ℕ)} (room n place : ℕ) (old : List ℕ) → a ≡ refused n place
-    → Writes (within room a) (w.Refused (record { number = n; place = place })) old old
-writes-refusal room n place old e = rw e (record { says = refl; holds = refl })
+pub writes-refusal : {a : Answer (List ℕ)} {r : Written} (room n : ℕ) (old : List ℕ) → a ≡ refused n 0 → count r ≡ refused n 0 → Writes (within room a) r old old
+writes-refusal room n old e told = rw e (record { says = told; holds = refl })
 
 -- what has one is written, or finds no room
 module _ {a : Answer (List ℕ)} (bytes old : List ℕ) (is : a ≡ written bytes) where
-  pub writes-short : length old < length bytes → Writes (within (length old) a) (w.Refused (record { number = 11; place = 0 })) old old
-  writes-short h = rw is (writes-none bytes old h)
+  pub writes-short : {r : Written} → length old < length bytes → count r ≡ refused 11 0 → Writes (within (length old) a) r old old
+  writes-short h told = rw is (simp (lt-leb (length bytes) (length old) h) (record { says = told; holds = refl }))
 
   pub writes-whole : (new : List ℕ) (n : ℕ) → length bytes ≤ length old → n ≡ length bytes → new ≡ leaves (written bytes) old
       → Writes (within (length old) a) (w.Done n) old new
@@ -83,31 +82,35 @@ module _ (front rest old out : List ℕ) (n : ℕ) (count : n ≡ length front) 
       → putMid n (length out - n) out tail ≡ leaves (written (front ++ rest)) old
   both-leaves tail e = leaves-tail front rest old out tail n (sym count) first e
 
--- Such a front of one byte, as a store leaves it: `bytes`, which old has room for, are b and what goes behind it.
-pub record Tagged (b : ℕ) (rest bytes old : List ℕ) : Type 0 where
-  pub is : bytes ≡ b ∷ rest
-  pub room : length bytes ≤ length old
+-- Such a front of one byte, as a store leaves it: old has room for b and for what goes behind it.
+pub record Tagged (b : ℕ) (rest old : List ℕ) : Type 0 where
+  pub room : length (b ∷ rest) ≤ length old
 
-module _ {b : ℕ} {rest bytes old : List ℕ} (t : Tagged b rest bytes old) where
-  room-for : length (b ∷ rest) ≤ length old
-  room-for = rw (t .is) at (t .room)
+module _ {b : ℕ} {rest old : List ℕ} (t : Tagged b rest old) where
+  pub tagged-place : 1 ≤ length old
+  tagged-place = omega (arith, t .room)
 
   stored : set old 0 b ≡ leaves (written (b ∷ [])) old
-  stored = leaves-byte b old (omega (arith, room-for))
+  stored = leaves-byte b old tagged-place
 
   pub tagged-start : 1 ≤ length (set old 0 b)
-  tagged-start = both-start (b ∷ []) rest old (set old 0 b) 1 refl stored room-for
+  tagged-start = both-start (b ∷ []) rest old (set old 0 b) 1 refl stored (t .room)
 
   pub tagged-room : length rest ≤ length (take (length (set old 0 b) - 1) (drop 1 (set old 0 b)))
-  tagged-room = both-room (b ∷ []) rest old (set old 0 b) 1 refl stored room-for
+  tagged-room = both-room (b ∷ []) rest old (set old 0 b) 1 refl stored (t .room)
 
-  pub tagged-count : (k : ℕ) → k ≡ length rest → 1 + k ≡ length bytes
-  tagged-count k e = rw (t .is) (both-count (b ∷ []) rest old (set old 0 b) 1 refl stored room-for k e)
+  pub tagged-count : (k : ℕ) → k ≡ length rest → 1 + k ≡ length (b ∷ rest)
+  tagged-count k e = both-count (b ∷ []) rest old (set old 0 b) 1 refl stored (t .room) k e
 
-  pub tagged-leaves : (tail : List ℕ) → tail ≡ leaves (written rest) (take (length (set old 0 b) - 1) (drop 1 (set old 0 b)))
-      → putMid 1 (length (set old 0 b) - 1) (set old 0 b) tail ≡ leaves (written bytes) old
-  tagged-leaves tail e = rw (t .is) (both-leaves (b ∷ []) rest old (set old 0 b) 1 refl stored room-for tail e)
+  tagged-leaves : (tail : List ℕ) → tail ≡ leaves (written rest) (take (length (set old 0 b) - 1) (drop 1 (set old 0 b)))
+      → putMid 1 (length (set old 0 b) - 1) (set old 0 b) tail ≡ leaves (written (b ∷ rest)) old
+  tagged-leaves tail e = both-leaves (b ∷ []) rest old (set old 0 b) 1 refl stored (t .room) tail e
 
   pub tagged-length : (tail : List ℕ) → tail ≡ leaves (written rest) (take (length (set old 0 b) - 1) (drop 1 (set old 0 b)))
       → length (putMid 1 (length (set old 0 b) - 1) (set old 0 b) tail) ≡ length old
-  tagged-length tail e = ap length (tagged-leaves tail e) ∙ leaves-length bytes old (t .room)
+  tagged-length tail e = ap length (tagged-leaves tail e) ∙ leaves-length (b ∷ rest) old (t .room)
+
+  pub tagged-writes : {a : Answer (List ℕ)} → a ≡ written (b ∷ rest) → (k : ℕ) (tail : List ℕ) → k ≡ length rest
+      → tail ≡ leaves (written rest) (take (length (set old 0 b) - 1) (drop 1 (set old 0 b)))
+      → Writes (within (length old) a) (w.Done (1 + k)) old (putMid 1 (length (set old 0 b) - 1) (set old 0 b) tail)
+  tagged-writes is k tail n e = writes-whole (b ∷ rest) old is _ (1 + k) (t .room) (tagged-count k n) (tagged-leaves tail e)

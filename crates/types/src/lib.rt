@@ -9,13 +9,14 @@ use varint::Written;
 ghost use mathlib.Core.Path.{_≡_};
 ghost use mathlib.Core.Bool.{true};
 ghost use mathlib.Core.List.{List};
-ghost use Prim.Native.Nat.{ℕ, _≤_, _<_, _^_};
+ghost use Prim.Native.Nat.{ℕ, _+_, _≤_, _<_, _^_};
+ghost use lib.Dec.{leb};
 ghost use lib.ListN.{length, drop};
 ghost use Rattle.varint.specs.Answer.{done as finished, refused, written, within, leaves};
 ghost use Rattle.varint.specs.Number.{numberBytes};
-ghost use Rattle.varint.specs.Promise.{Writes};
+ghost use Rattle.varint.specs.Promise.{count, Writes};
 ghost use Rattle.types.specs.Value.{Width, integer, address, text, shape, kept, signExtended, inFields, string, content, behind, moved, typed, value};
-ghost use Rattle.types.specs.Form.{inside, stringBytes, formed, valueBytes, writableRecord, ranged, form, size};
+ghost use Rattle.types.specs.Form.{inside, stringBytes, formed, writableRecord, ranged, form, size};
 ghost use Rattle.types.specs.Check.{stringRefusal, partRefusal, refusal};
 ghost use Rattle.types.specs.Promise.{textRead, recordOf, typedRead};
 
@@ -350,51 +351,112 @@ pub fn write_string(text: &[u8], out: &mut [u8]) -> Written
 pub fn write_value(value: Value, buffer: &[u8], out: &mut [u8]) -> Written
     ensures { λ r. ⌜ Writes (within (length (now (out .entry))) (form (now (buffer .entry)) (recordOf value))) r (now (out .entry)) (now (out .exit)) ⌝ }
 {
-    if !writable(value) {
-        return Written::Refused(Refusal {
-            number: NOT_WRITABLE,
-            place: 0,
-        });
+    let kind = value.kind;
+    if kind < 2 {
+        return write_plain(value, out);
     }
-    if !in_range(value, buffer) {
-        return Written::Refused(Refusal {
-            number: OUTSIDE,
-            place: 0,
-        });
+    if kind < 6 {
+        return write_integer(value, out);
     }
-    if out.len() < form_len(value) {
-        return Written::Refused(Refusal {
-            number: NO_ROOM,
-            place: 0,
-        });
+    if kind == 6 {
+        return write_address(value, 4, buffer, out);
     }
-    Written::Done(put_value(value, buffer, out))
+    if kind == 7 {
+        return write_address(value, 16, buffer, out);
+    }
+    if kind < 10 {
+        return write_text(value, buffer, out);
+    }
+    unwritten(NOT_WRITABLE)
 }
 
-// Writes a value that has a written form, where there is room.
-fn put_value(value: Value, buffer: &[u8], out: &mut [u8]) -> usize
-    requires { ⌜ writableRecord (recordOf value) ≡ true ⌝ }
-    requires { ⌜ ranged (now buffer) (recordOf value) ≡ true ⌝ }
-    requires { ⌜ length (valueBytes (now buffer) (recordOf value)) ≤ length (now out) ⌝ }
-    ensures { λ r. ⌜ r ≡ length (valueBytes (now (buffer .entry)) (recordOf value)) ⌝ }
-    ensures { λ r. ⌜ now (out .exit) ≡ leaves (written (valueBytes (now (buffer .entry)) (recordOf value))) (now (out .entry)) ⌝ }
+// The same of null and bool, which are one byte.
+fn write_plain(value: Value, out: &mut [u8]) -> Written
+    requires { ⌜ value .kind < 2 ⌝ }
+    ensures { λ r. ⌜ ((buffer : List ℕ) → Writes (within (length (now (out .entry))) (form buffer (recordOf value))) r (now (out .entry)) (now (out .exit))) ⌝ }
 {
-    let kind = value.kind;
-    let a = value.a;
-    if kind < 2 {
-        out[0] = (kind + 16 * a) as u8;
-        return 1;
+    if !writable(value) {
+        return unwritten(NOT_WRITABLE);
     }
-    out[0] = kind as u8;
-    if kind < 6 {
-        return 1 + put_number(a, &mut out[1..]);
+    if out.len() == 0 {
+        return unwritten(NO_ROOM);
     }
-    let from = a as usize;
-    let to = from + value.b as usize;
-    if kind < 8 {
-        return 1 + put_bytes(&buffer[from..to], &mut out[1..]);
+    out[0] = (value.kind + 16 * value.a) as u8;
+    Written::Done(1)
+}
+
+// The same of an integer.
+fn write_integer(value: Value, out: &mut [u8]) -> Written
+    requires { ⌜ (2 ≤ value .kind) × (value .kind < 6) ⌝ }
+    ensures { λ r. ⌜ ((buffer : List ℕ) → Writes (within (length (now (out .entry))) (form buffer (recordOf value))) r (now (out .entry)) (now (out .exit))) ⌝ }
+{
+    if !writable(value) {
+        return unwritten(NOT_WRITABLE);
     }
-    1 + put_string(&buffer[from..to], &mut out[1..])
+    if !number_fits(value.a, out.len()) {
+        return unwritten(NO_ROOM);
+    }
+    out[0] = value.kind as u8;
+    Written::Done(1 + put_number(value.a, &mut out[1..]))
+}
+
+// The same of an address of len bytes, which each caller says outright, so that the copy has a fixed length.
+fn write_address(value: Value, len: usize, buffer: &[u8], out: &mut [u8]) -> Written
+    requires { ⌜ shape (value .kind) ≡ address len ⌝ }
+    requires { ⌜ (value .kind < 8) × (len ≤ 16) ⌝ }
+    ensures { λ r. ⌜ Writes (within (length (now (out .entry))) (form (now (buffer .entry)) (recordOf value))) r (now (out .entry)) (now (out .exit)) ⌝ }
+{
+    if value.b != len as u64 {
+        return unwritten(NOT_WRITABLE);
+    }
+    if !part_inside(value.a, len as u64, buffer) {
+        return unwritten(OUTSIDE);
+    }
+    if out.len() <= len {
+        return unwritten(NO_ROOM);
+    }
+    out[0] = value.kind as u8;
+    let from = value.a as usize;
+    let to = from + len;
+    Written::Done(1 + put_bytes(&buffer[from..to], &mut out[1..]))
+}
+
+// The same of a string or a binary.
+fn write_text(value: Value, buffer: &[u8], out: &mut [u8]) -> Written
+    requires { ⌜ (8 ≤ value .kind) × (value .kind < 10) ⌝ }
+    ensures { λ r. ⌜ Writes (within (length (now (out .entry))) (form (now (buffer .entry)) (recordOf value))) r (now (out .entry)) (now (out .exit)) ⌝ }
+{
+    let b = value.b;
+    if !part_inside(value.a, b, buffer) {
+        return unwritten(OUTSIDE);
+    }
+    let len = b as usize;
+    if out.len() < len {
+        return unwritten(NO_ROOM);
+    }
+    if !number_fits(b, out.len() - len) {
+        return unwritten(NO_ROOM);
+    }
+    out[0] = value.kind as u8;
+    let from = value.a as usize;
+    let to = from + len;
+    Written::Done(1 + put_string(&buffer[from..to], &mut out[1..]))
+}
+
+fn unwritten(number: u64) -> Written
+    ensures { λ r. ⌜ count r ≡ refused number 0 ⌝ }
+{
+    Written::Refused(Refusal { number, place: 0 })
+}
+
+// Whether a type byte and the written form of n have at most `room` bytes. Eleven are always enough, and spare the measuring.
+fn number_fits(n: u64, room: usize) -> bool
+    ensures { λ r. ⌜ r ≡ leb (1 + length (numberBytes n)) room ⌝ }
+{
+    if 11 <= room {
+        return true;
+    }
+    1 + varint::varint_len(n) <= room
 }
 
 // Writes a string where there is room.
