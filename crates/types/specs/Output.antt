@@ -1,6 +1,7 @@
 -- Laws about what writers leave: a writer that has room, one that refuses, and a part copied byte by byte.
 use mathlib.Core.Path.{_≡_, refl, sym, ap, _∙_}
 use mathlib.Core.List.{List, [], _∷_, _++_}
+use mathlib.Core.Logic.{⊎-elim}
 use Prim.Native.Nat.{ℕ, suc, _+_, _-_, _≤_, _<_}
 use native.Mathlib.Numerals.{add-one}
 use native.Mathlib.Omega.{arith}
@@ -11,9 +12,12 @@ use borrow.Author.Tests.{le-leb, lt-leb}
 use Rattle.varint.specs.declared.Refusal.{Refusal}
 use Rattle.varint.specs.declared.Written.{Written}
 use Rattle.varint.specs.declared.Written.the-variants as w
-use Rattle.varint.specs.Answer.{Answer, done, refused, written, within, leaves}
+use Rattle.varint.specs.Answer.{Answer, done, refused, written, within, tells, leaves}
 use Rattle.varint.specs.Promise.{count, Writes}
-use Rattle.varint.specs.Output.{Partly, partly-next, partly-place, lent-tail, leaves-length, leaves-byte, leaves-tail, writes-all}
+use Rattle.varint.specs.Writing.{lt-or-le}
+use Rattle.varint.specs.Output.{Partly, partly-next, partly-place, lent-tail, leaves-length, leaves-byte, leaves-tail}
+use Rattle.types.specs.Form.{size}
+use Rattle.types.specs.Promise.{Puts}
 
 -- where there is room, all is written
 module _ (bytes : List ℕ) {old new : List ℕ} {r : Written} (p : Writes (within (length old) (written bytes)) r old new) (room : length bytes ≤ length old) where
@@ -33,17 +37,31 @@ module _ (bytes : List ℕ) {old new : List ℕ} {r : Written} (p : Writes (with
       absurd (omega arith)
 
 -- what has no written form is not written
-pub writes-refusal : {a : Answer (List ℕ)} {r : Written} (room n : ℕ) (old : List ℕ) → a ≡ refused n 0 → count r ≡ refused n 0 → Writes (within room a) r old old
-writes-refusal room n old e told = rw e (record { says = told; holds = refl })
+pub puts-refusal : {a : Answer (List ℕ)} (room n : ℕ) (old : List ℕ) → a ≡ refused n 0 → Puts (within room a) 0 old old
+puts-refusal room n old e = rw e (record { counts = refl; holds = refl })
 
 -- what has one is written, or finds no room
 module _ {a : Answer (List ℕ)} (bytes old : List ℕ) (is : a ≡ written bytes) where
-  pub writes-short : {r : Written} → length old < length bytes → count r ≡ refused 11 0 → Writes (within (length old) a) r old old
-  writes-short h told = rw is (simp (lt-leb (length bytes) (length old) h) (record { says = told; holds = refl }))
+  pub puts-short : length old < length bytes → Puts (within (length old) a) 0 old old
+  puts-short h = rw is (simp (lt-leb (length bytes) (length old) h) (record { counts = refl; holds = refl }))
 
-  pub writes-whole : (new : List ℕ) (n : ℕ) → length bytes ≤ length old → n ≡ length bytes → new ≡ leaves (written bytes) old
-      → Writes (within (length old) a) (w.Done n) old new
-  writes-whole new n h count e = rw is (writes-all bytes old new n h count e)
+  pub puts-whole : (new : List ℕ) (n : ℕ) → length bytes ≤ length old → n ≡ length bytes → new ≡ leaves (written bytes) old
+      → Puts (within (length old) a) n old new
+  puts-whole new n h count e = rw is (simp (le-leb (length bytes) (length old) h) (record { counts = count; holds = e }))
+
+-- a count that is not 0 is told as it is
+pub told : (a : Answer (List ℕ)) (n : ℕ) → n ≡ size a → (n ≡ 0 → ⊥) → done tt n ≡ tells a
+told (done bytes m) n e some = ap (done tt) e
+told (refused number place) n e some = absurd (some e)
+
+-- a form that is not empty and has no count finds no room
+pub told-short : {a : Answer (List ℕ)} (bytes : List ℕ) (room : ℕ) → a ≡ written bytes → 1 ≤ length bytes → size (within room a) ≡ 0
+    → tells (within room a) ≡ refused 11 0
+told-short {a} bytes room is some none =
+    ⊎-elim
+    (λ h. rw is (simp (lt-leb (length bytes) room h)))
+    (λ h. let z : length bytes ≡ 0 = simp (le-leb (length bytes) room h) at (rw is at none) in absurd (omega arith))
+    (lt-or-le room (length bytes))
 
 -- a copy, one byte more
 module _ {bytes old out : List ℕ} {at : ℕ} (p : Partly bytes old at (drop at bytes) out) (h : at < length bytes) where
@@ -110,7 +128,7 @@ module _ {b : ℕ} {rest old : List ℕ} (t : Tagged b rest old) where
       → length (putMid 1 (length (set old 0 b) - 1) (set old 0 b) tail) ≡ length old
   tagged-length tail e = ap length (tagged-leaves tail e) ∙ leaves-length (b ∷ rest) old (t .room)
 
-  pub tagged-writes : {a : Answer (List ℕ)} → a ≡ written (b ∷ rest) → (k : ℕ) (tail : List ℕ) → k ≡ length rest
+  pub tagged-puts : {a : Answer (List ℕ)} → a ≡ written (b ∷ rest) → (k : ℕ) (tail : List ℕ) → k ≡ length rest
       → tail ≡ leaves (written rest) (take (length (set old 0 b) - 1) (drop 1 (set old 0 b)))
-      → Writes (within (length old) a) (w.Done (1 + k)) old (putMid 1 (length (set old 0 b) - 1) (set old 0 b) tail)
-  tagged-writes is k tail n e = writes-whole (b ∷ rest) old is _ (1 + k) (t .room) (tagged-count k n) (tagged-leaves tail e)
+      → Puts (within (length old) a) (1 + k) old (putMid 1 (length (set old 0 b) - 1) (set old 0 b) tail)
+  tagged-puts is k tail n e = puts-whole (b ∷ rest) old is _ (1 + k) (t .room) (tagged-count k n) (tagged-leaves tail e)

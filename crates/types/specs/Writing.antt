@@ -206,6 +206,17 @@ module _ (buffer : List ℕ) (k a b : ℕ) where
       (omega arith, bytes-at nothing is ∙ ap (λ (x : ℕ). x ∷ []) (omega arith)))
       (λ e is. let z = fields-in flag a b (sym (field-at k a b flag is) ∙ f) in (z .0, bytes-at flag is))
 
+  -- a written value has its type byte
+  pub value-some : inFields (shape k) a b ≡ true → 1 ≤ length (valueBytes buffer (value k a b))
+  value-some f =
+      shape-cases k
+      (λ e is. rw (bytes-at nothing is) (omega arith))
+      (λ e is. rw (bytes-at flag is) (omega arith))
+      (λ w l g is. rw (bytes-at (integer w) is) (omega arith))
+      (λ n l g is. rw (bytes-at (address n) is) (omega arith))
+      (λ l g is. rw (bytes-at text is) (omega arith))
+      (λ l is. absurd (fields-in reserved a b (sym (field-at k a b reserved is) ∙ f)))
+
 -- a part that is lent, `&buffer[a..a + b]`
 pub part-lent : (buffer : List ℕ) (a b : ℕ) → take (a + b - a) (drop a buffer) ≡ part buffer a b
 part-lent buffer a b = ap (λ (n : ℕ). take n (drop a buffer)) same

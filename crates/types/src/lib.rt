@@ -12,13 +12,13 @@ ghost use mathlib.Core.List.{List};
 ghost use Prim.Native.Nat.{ℕ, _+_, _≤_, _<_, _^_};
 ghost use lib.Dec.{leb};
 ghost use lib.ListN.{length, drop};
-ghost use Rattle.varint.specs.Answer.{done as finished, refused, written, within, leaves};
+ghost use Rattle.varint.specs.Answer.{done as finished, refused, written, within, tells, leaves};
 ghost use Rattle.varint.specs.Number.{numberBytes};
-ghost use Rattle.varint.specs.Promise.{count, Writes};
+ghost use Rattle.varint.specs.Promise.{Writes};
 ghost use Rattle.types.specs.Value.{Width, integer, address, text, shape, kept, signExtended, inFields, string, content, behind, moved, typed, value};
 ghost use Rattle.types.specs.Form.{inside, stringBytes, formed, writableRecord, ranged, form, size};
 ghost use Rattle.types.specs.Check.{stringRefusal, partRefusal, refusal};
-ghost use Rattle.types.specs.Promise.{textRead, recordOf, typedRead};
+ghost use Rattle.types.specs.Promise.{textRead, recordOf, typedRead, Puts};
 
 // A data type is 10 to 15.
 pub const NO_TYPE: u64 = 8;
@@ -351,102 +351,124 @@ pub fn write_string(text: &[u8], out: &mut [u8]) -> Written
 pub fn write_value(value: Value, buffer: &[u8], out: &mut [u8]) -> Written
     ensures { λ r. ⌜ Writes (within (length (now (out .entry))) (form (now (buffer .entry)) (recordOf value))) r (now (out .entry)) (now (out .exit)) ⌝ }
 {
+    let n = put_value(value, buffer, out);
+    if n == 0 {
+        return Written::Refused(Refusal {
+            number: why_not(value, buffer),
+            place: 0,
+        });
+    }
+    Written::Done(n)
+}
+
+// What a value that was not written is refused with: where it has a written form, there was no room.
+fn why_not(value: Value, buffer: &[u8]) -> u64
+    ensures { λ r. ⌜ ((room : ℕ) → size (within room (form (now (buffer .entry)) (recordOf value))) ≡ 0 → tells (within room (form (now (buffer .entry)) (recordOf value))) ≡ refused r 0) ⌝ }
+{
+    if !writable(value) {
+        return NOT_WRITABLE;
+    }
+    if !in_range(value, buffer) {
+        return OUTSIDE;
+    }
+    NO_ROOM
+}
+
+// Writes a value and says how many bytes it wrote: 0 where it is refused, since no written form is empty. That one number says it
+// all spares the writers of each class of kinds the making of a refusal.
+fn put_value(value: Value, buffer: &[u8], out: &mut [u8]) -> usize
+    ensures { λ r. ⌜ Puts (within (length (now (out .entry))) (form (now (buffer .entry)) (recordOf value))) r (now (out .entry)) (now (out .exit)) ⌝ }
+{
     let kind = value.kind;
     if kind < 2 {
-        return write_plain(value, out);
+        return put_plain(value, out);
     }
     if kind < 6 {
-        return write_integer(value, out);
+        return put_integer(value, out);
     }
     if kind == 6 {
-        return write_address(value, 4, buffer, out);
+        return put_address(value, 4, buffer, out);
     }
     if kind == 7 {
-        return write_address(value, 16, buffer, out);
+        return put_address(value, 16, buffer, out);
     }
     if kind < 10 {
-        return write_text(value, buffer, out);
+        return put_text(value, buffer, out);
     }
-    unwritten(NOT_WRITABLE)
+    0
 }
 
 // The same of null and bool, which are one byte.
-fn write_plain(value: Value, out: &mut [u8]) -> Written
+fn put_plain(value: Value, out: &mut [u8]) -> usize
     requires { ⌜ value .kind < 2 ⌝ }
-    ensures { λ r. ⌜ ((buffer : List ℕ) → Writes (within (length (now (out .entry))) (form buffer (recordOf value))) r (now (out .entry)) (now (out .exit))) ⌝ }
+    ensures { λ r. ⌜ ((buffer : List ℕ) → Puts (within (length (now (out .entry))) (form buffer (recordOf value))) r (now (out .entry)) (now (out .exit))) ⌝ }
 {
     if !writable(value) {
-        return unwritten(NOT_WRITABLE);
+        return 0;
     }
     if out.len() == 0 {
-        return unwritten(NO_ROOM);
+        return 0;
     }
     out[0] = (value.kind + 16 * value.a) as u8;
-    Written::Done(1)
+    1
 }
 
 // The same of an integer.
-fn write_integer(value: Value, out: &mut [u8]) -> Written
+fn put_integer(value: Value, out: &mut [u8]) -> usize
     requires { ⌜ (2 ≤ value .kind) × (value .kind < 6) ⌝ }
-    ensures { λ r. ⌜ ((buffer : List ℕ) → Writes (within (length (now (out .entry))) (form buffer (recordOf value))) r (now (out .entry)) (now (out .exit))) ⌝ }
+    ensures { λ r. ⌜ ((buffer : List ℕ) → Puts (within (length (now (out .entry))) (form buffer (recordOf value))) r (now (out .entry)) (now (out .exit))) ⌝ }
 {
     if !writable(value) {
-        return unwritten(NOT_WRITABLE);
+        return 0;
     }
     if !number_fits(value.a, out.len()) {
-        return unwritten(NO_ROOM);
+        return 0;
     }
     out[0] = value.kind as u8;
-    Written::Done(1 + put_number(value.a, &mut out[1..]))
+    1 + put_number(value.a, &mut out[1..])
 }
 
 // The same of an address of len bytes, which each caller says outright, so that the copy has a fixed length.
-fn write_address(value: Value, len: usize, buffer: &[u8], out: &mut [u8]) -> Written
+fn put_address(value: Value, len: usize, buffer: &[u8], out: &mut [u8]) -> usize
     requires { ⌜ shape (value .kind) ≡ address len ⌝ }
     requires { ⌜ (value .kind < 8) × (len ≤ 16) ⌝ }
-    ensures { λ r. ⌜ Writes (within (length (now (out .entry))) (form (now (buffer .entry)) (recordOf value))) r (now (out .entry)) (now (out .exit)) ⌝ }
+    ensures { λ r. ⌜ Puts (within (length (now (out .entry))) (form (now (buffer .entry)) (recordOf value))) r (now (out .entry)) (now (out .exit)) ⌝ }
 {
     if value.b != len as u64 {
-        return unwritten(NOT_WRITABLE);
+        return 0;
     }
     if !part_inside(value.a, len as u64, buffer) {
-        return unwritten(OUTSIDE);
+        return 0;
     }
     if out.len() <= len {
-        return unwritten(NO_ROOM);
+        return 0;
     }
     out[0] = value.kind as u8;
     let from = value.a as usize;
     let to = from + len;
-    Written::Done(1 + put_bytes(&buffer[from..to], &mut out[1..]))
+    1 + put_bytes(&buffer[from..to], &mut out[1..])
 }
 
 // The same of a string or a binary.
-fn write_text(value: Value, buffer: &[u8], out: &mut [u8]) -> Written
+fn put_text(value: Value, buffer: &[u8], out: &mut [u8]) -> usize
     requires { ⌜ (8 ≤ value .kind) × (value .kind < 10) ⌝ }
-    ensures { λ r. ⌜ Writes (within (length (now (out .entry))) (form (now (buffer .entry)) (recordOf value))) r (now (out .entry)) (now (out .exit)) ⌝ }
+    ensures { λ r. ⌜ Puts (within (length (now (out .entry))) (form (now (buffer .entry)) (recordOf value))) r (now (out .entry)) (now (out .exit)) ⌝ }
 {
     let b = value.b;
     if !part_inside(value.a, b, buffer) {
-        return unwritten(OUTSIDE);
+        return 0;
     }
     let len = b as usize;
     if out.len() < len {
-        return unwritten(NO_ROOM);
+        return 0;
     }
     if !number_fits(b, out.len() - len) {
-        return unwritten(NO_ROOM);
+        return 0;
     }
     out[0] = value.kind as u8;
     let from = value.a as usize;
     let to = from + len;
-    Written::Done(1 + put_string(&buffer[from..to], &mut out[1..]))
-}
-
-fn unwritten(number: u64) -> Written
-    ensures { λ r. ⌜ count r ≡ refused number 0 ⌝ }
-{
-    Written::Refused(Refusal { number, place: 0 })
+    1 + put_string(&buffer[from..to], &mut out[1..])
 }
 
 // Whether a type byte and the written form of n have at most `room` bytes. Eleven are always enough, and spare the measuring.

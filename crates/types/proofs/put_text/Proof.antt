@@ -1,4 +1,4 @@
--- `types::write_text` meets its contract: the bytes lie outside, there is no room, or the type byte is stored and the string is what
+-- `types::put_text` meets its contract: the bytes lie outside, there is no room, or the type byte is stored and the string is what
 -- `put_string` leaves in the tail behind it.
 -- Assumes nothing.
 use borrow.Author.Needs.{needs}
@@ -16,9 +16,9 @@ use Rattle.types.specs.Form.{part, inside, stringBytes, form}
 use Rattle.types.specs.Promise.{recordOf}
 use Rattle.types.specs.Reading.{shape-text, in-fields}
 use Rattle.types.specs.Writing.{string-length, part-length, part-lent, form-pointed, form-beyond}
-use Rattle.types.specs.Output.{writes-refusal, writes-short, Tagged, tagged-place, tagged-start, tagged-room, tagged-count, tagged-length, tagged-writes}
-use Rattle.types.proofs.write_text.Statement.{statement}
-use Rattle.types.proofs.write_text.Tie as tie
+use Rattle.types.specs.Output.{puts-refusal, puts-short, Tagged, tagged-place, tagged-start, tagged-room, tagged-count, tagged-length, tagged-puts}
+use Rattle.types.proofs.put_text.Statement.{statement}
+use Rattle.types.proofs.put_text.Tie as tie
 
 -- the bytes lie inside
 within-buffer : (c : tie.Else1) → let a = c .before .before .before .before .args in inside (a .buffer .now) (a .value .a) (a .value .b) ≡ true
@@ -59,24 +59,18 @@ room c = let a = c .before .before .before .before .before .before .before .args
 part-inside-requires : tie.Need-part-inside-requires
 part-inside-requires c κs = search needs
 
-unwritten-requires : tie.Need-unwritten-requires
-unwritten-requires c κs = search needs
-
 returns : tie.Need-returns
-returns c = let p = c .before .before in
+returns c = let p = c .before in
     let a = p .before .before .before in
     let v = a .args .value in
-    writes-refusal (length (a .args .out .now)) 16 (a .args .out .now)
+    puts-refusal (length (a .args .out .now)) 16 (a .args .out .now)
     (form-beyond (a .args .buffer .now) (v .kind) (v .a) (v .b) text (shape-text (v .kind) (a .pre .0) (a .pre .1)) refl (in-fields text (v .a) (v .b) (omega (arith, a .good)))
-    (sym (p .part-inside .ensures) ∙ not-true _ (c .before .if1 .taken))) (c .unwritten .ensures)
-
-unwritten-requires-2 : tie.Need-unwritten-requires-2
-unwritten-requires-2 c κs = search needs
+    (sym (p .part-inside .ensures) ∙ not-true _ (c .if1 .taken)))
 
 returns-2 : tie.Need-returns-2
-returns-2 c = let e = c .before .before in
+returns-2 c = let e = c .before in
     let a = e .before .before .before .before .args in
-    writes-short _ (a .out .now) (bytes e) (omega (arith, c .before .if2 .taken, long e)) (c .unwritten2 .ensures)
+    puts-short _ (a .out .now) (bytes e) (omega (arith, c .if2 .taken, long e))
 
 sub-number-fits : tie.Need-sub-number-fits
 sub-number-fits c = search needs
@@ -84,16 +78,13 @@ sub-number-fits c = search needs
 number-fits-requires : tie.Need-number-fits-requires
 number-fits-requires c κs = search needs
 
-unwritten-requires-3 : tie.Need-unwritten-requires-3
-unwritten-requires-3 c κs = search needs
-
 returns-3 : tie.Need-returns-3
-returns-3 c = let n = c .before .before in
+returns-3 c = let n = c .before in
     let e = n .before .before in
     let a = e .before .before .before .before .args in
     let v = a .value in
-    let h = leb-false (1 + length (numberBytes (v .b))) (length (a .out .now) - v .b) (sym (n .number-fits .ensures) ∙ not-true _ (c .before .if3 .taken)) in
-    writes-short _ (a .out .now) (bytes e) (omega (arith, h, long e)) (c .unwritten3 .ensures)
+    let h = leb-false (1 + length (numberBytes (v .b))) (length (a .out .now) - v .b) (sym (n .number-fits .ensures) ∙ not-true _ (c .if3 .taken)) in
+    puts-short _ (a .out .now) (bytes e) (omega (arith, h, long e))
 
 cast-out : tie.Need-cast-out
 cast-out c = search needs
@@ -125,8 +116,8 @@ part-put-string-end-2 c = search needs
 put-string-requires : tie.Need-put-string-requires
 put-string-requires c κs = tagged-room (room (c .before .before .before))
 
-add-t21 : tie.Need-add-t21
-add-t21 c = let t = room (c .before .before .before .before .before .before) in
+add-result : tie.Need-add-result
+add-result c = let t = room (c .before .before .before .before .before .before) in
     omega (arith, t .room, tagged-count t _ (c .before .before .put-string .ensures .0))
 
 same-length : tie.Need-same-length
@@ -136,20 +127,17 @@ returns-4 : tie.Need-returns-4
 returns-4 c = let e = c .before .before .before .before .before .before in
     let a = e .before .before .before .before .before .before .before .args in
     let p = c .before .before .put-string .ensures in
-    tagged-writes (room e) (bytes (e .before .before .before) ∙ ap (λ (s : List ℕ). written (a .value .kind ∷ stringBytes s)) (sym (part-lent (a .buffer .now) (a .value .a) (a .value .b)))) _ _ (p .0) (p .1)
+    tagged-puts (room e) (bytes (e .before .before .before) ∙ ap (λ (s : List ℕ). written (a .value .kind ∷ stringBytes s)) (sym (part-lent (a .buffer .now) (a .value .a) (a .value .b)))) _ _ (p .0) (p .1)
 
-pub write-text-spec : {M : Type 1} → statement M
-write-text-spec =
+pub put-text-spec : {M : Type 1} → statement M
+put-text-spec =
     tie.close
     (tie.spec
     part-inside-requires
-    unwritten-requires
     returns
-    unwritten-requires-2
     returns-2
     sub-number-fits
     number-fits-requires
-    unwritten-requires-3
     returns-3
     cast-out
     slice-write-out
@@ -161,6 +149,6 @@ write-text-spec =
     part-put-string-start-2
     part-put-string-end-2
     put-string-requires
-    add-t21
+    add-result
     same-length
     returns-4)

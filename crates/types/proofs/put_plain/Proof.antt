@@ -1,4 +1,4 @@
--- `types::write_plain` meets its contract: the value has no written form, there is no room, or the one byte is stored.
+-- `types::put_plain` meets its contract: the value has no written form, there is no room, or the one byte is stored.
 -- Assumes nothing.
 use borrow.Author.Needs.{needs}
 use Prim.Native.Nat.{_+_, _*_, _<_}
@@ -12,9 +12,9 @@ use Rattle.varint.specs.Output.{leaves-byte}
 use Rattle.types.specs.Form.{writableRecord}
 use Rattle.types.specs.Promise.{recordOf}
 use Rattle.types.specs.Writing.{plain-bytes, form-unwritable, form-plain}
-use Rattle.types.specs.Output.{writes-refusal, writes-short, writes-whole}
-use Rattle.types.proofs.write_plain.Statement.{statement}
-use Rattle.types.proofs.write_plain.Tie as tie
+use Rattle.types.specs.Output.{puts-refusal, puts-short, puts-whole}
+use Rattle.types.proofs.put_plain.Statement.{statement}
+use Rattle.types.proofs.put_plain.Tie as tie
 
 fields : (c : tie.Else1) → writableRecord (recordOf (c .before .before .before .args .value)) ≡ true
 fields c = sym (c .before .writable .ensures) ∙ not-false _ (c .if1 .left)
@@ -28,23 +28,17 @@ small c = let a = c .before .before .before in
 writable-requires : tie.Need-writable-requires
 writable-requires c κs = search needs
 
-unwritten-requires : tie.Need-unwritten-requires
-unwritten-requires c κs = search needs
-
 returns : tie.Need-returns
-returns c = λ buffer. let w = c .before .before in
+returns c = λ buffer. let w = c .before in
     let a = w .before .before .args in
-    writes-refusal (length (a .out .now)) 14 (a .out .now)
-    (form-unwritable buffer (recordOf (a .value)) (sym (w .writable .ensures) ∙ not-true _ (c .before .if1 .taken))) (c .unwritten .ensures)
-
-unwritten-requires-2 : tie.Need-unwritten-requires-2
-unwritten-requires-2 c κs = search needs
+    puts-refusal (length (a .out .now)) 14 (a .out .now)
+    (form-unwritable buffer (recordOf (a .value)) (sym (w .writable .ensures) ∙ not-true _ (c .if1 .taken)))
 
 returns-2 : tie.Need-returns-2
-returns-2 c = λ buffer. let e = c .before .before in
+returns-2 c = λ buffer. let e = c .before in
     let a = e .before .before .before in
     let v = a .args .value in
-    writes-short ((v .kind + 16 * v .a) ∷ []) (a .args .out .now) (form-plain buffer (v .kind) (v .a) (v .b) (a .pre) (fields e)) (omega (arith, c .before .if2 .taken)) (c .unwritten2 .ensures)
+    puts-short ((v .kind + 16 * v .a) ∷ []) (a .args .out .now) (form-plain buffer (v .kind) (v .a) (v .b) (a .pre) (fields e)) (omega (arith, c .if2 .taken))
 
 mul-out : tie.Need-mul-out
 mul-out c = omega (arith, small (c .before .before))
@@ -65,17 +59,15 @@ returns-3 : tie.Need-returns-3
 returns-3 c = λ buffer. let e = c .before .before .before in
     let a = e .before .before .before in
     let v = a .args .value in
-    writes-whole ((v .kind + 16 * v .a) ∷ []) (a .args .out .now) (form-plain buffer (v .kind) (v .a) (v .b) (a .pre) (fields e)) _ 1
+    puts-whole ((v .kind + 16 * v .a) ∷ []) (a .args .out .now) (form-plain buffer (v .kind) (v .a) (v .b) (a .pre) (fields e)) _ 1
     (omega (arith, slice-write-out c)) refl (leaves-byte _ (a .args .out .now) (slice-write-out c))
 
-pub write-plain-spec : {M : Type 1} → statement M
-write-plain-spec =
+pub put-plain-spec : {M : Type 1} → statement M
+put-plain-spec =
     tie.close
     (tie.spec
     writable-requires
-    unwritten-requires
     returns
-    unwritten-requires-2
     returns-2
     mul-out
     add-out

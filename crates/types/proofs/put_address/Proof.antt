@@ -1,4 +1,4 @@
--- `types::write_address` meets its contract: the length is not the address's, the bytes lie outside, there is no room,
+-- `types::put_address` meets its contract: the length is not the address's, the bytes lie outside, there is no room,
 -- or the type byte is stored and the bytes are what `put_bytes` leaves in the tail behind it.
 -- Assumes nothing.
 use borrow.Author.Needs.{needs}
@@ -15,9 +15,9 @@ use Rattle.types.specs.Form.{part, inside, form}
 use Rattle.types.specs.Promise.{recordOf}
 use Rattle.types.specs.Reading.{in-fields}
 use Rattle.types.specs.Writing.{part-length, part-lent, form-length, form-pointed, form-beyond}
-use Rattle.types.specs.Output.{writes-refusal, writes-short, Tagged, tagged-start, tagged-room, tagged-count, tagged-length, tagged-writes}
-use Rattle.types.proofs.write_address.Statement.{statement}
-use Rattle.types.proofs.write_address.Tie as tie
+use Rattle.types.specs.Output.{puts-refusal, puts-short, Tagged, tagged-start, tagged-room, tagged-count, tagged-length, tagged-puts}
+use Rattle.types.proofs.put_address.Statement.{statement}
+use Rattle.types.proofs.put_address.Tie as tie
 
 -- the length is the address's
 same : (c : tie.Else1) → let a = c .before .before .before .before .args in a .value .b ≡ a .len
@@ -49,38 +49,29 @@ room c = let a = c .before .before .before .before .before .before .before .args
     rw (part-lent (a .buffer .now) (v .a) (a .len))
     (record { room = omega (arith, c .if3 .left, part-length (a .buffer .now) (v .a) (a .len) (ends (c .before))) })
 
-unwritten-requires : tie.Need-unwritten-requires
-unwritten-requires c κs = search needs
-
 returns : tie.Need-returns
-returns c = let a = c .before .before .before .before .before in
+returns c = let a = c .before .before .before .before in
     let v = a .args .value in
-    writes-refusal (length (a .args .out .now)) 14 (a .args .out .now) (form-length (a .args .buffer .now) (v .kind) (v .a) (v .b) (a .args .len) (a .pre .0) (c .before .if1 .taken)) (c .unwritten .ensures)
+    puts-refusal (length (a .args .out .now)) 14 (a .args .out .now) (form-length (a .args .buffer .now) (v .kind) (v .a) (v .b) (a .args .len) (a .pre .0) (c .if1 .taken))
 
 part-inside-requires : tie.Need-part-inside-requires
 part-inside-requires c κs = search needs
 
-unwritten-requires-2 : tie.Need-unwritten-requires-2
-unwritten-requires-2 c κs = search needs
-
 returns-2 : tie.Need-returns-2
-returns-2 c = let p = c .before .before in
+returns-2 c = let p = c .before in
     let a = p .before .before .before .before .before in
     let v = a .args .value in
     let e = same (p .before) in
-    writes-refusal (length (a .args .out .now)) 16 (a .args .out .now)
+    puts-refusal (length (a .args .out .now)) 16 (a .args .out .now)
     (form-beyond (a .args .buffer .now) (v .kind) (v .a) (v .b) (address (a .args .len)) (a .pre .0) refl (in-fields (address (a .args .len)) (v .a) (v .b) e)
-    (rw e (sym (p .part-inside .ensures) ∙ not-true _ (c .before .if2 .taken)))) (c .unwritten2 .ensures)
-
-unwritten-requires-3 : tie.Need-unwritten-requires-3
-unwritten-requires-3 c κs = search needs
+    (rw e (sym (p .part-inside .ensures) ∙ not-true _ (c .if2 .taken))))
 
 returns-3 : tie.Need-returns-3
-returns-3 c = let e = c .before .before in
+returns-3 c = let e = c .before in
     let a = e .before .before .before .before .before .before .args in
     let v = a .value in
-    writes-short (v .kind ∷ part (a .buffer .now) (v .a) (a .len)) (a .out .now) (bytes e)
-    (omega (arith, c .before .if3 .taken, part-length (a .buffer .now) (v .a) (a .len) (ends e))) (c .unwritten3 .ensures)
+    puts-short (v .kind ∷ part (a .buffer .now) (v .a) (a .len)) (a .out .now) (bytes e)
+    (omega (arith, c .if3 .taken, part-length (a .buffer .now) (v .a) (a .len) (ends e)))
 
 cast-out : tie.Need-cast-out
 cast-out c = search needs
@@ -112,8 +103,8 @@ part-put-bytes-end-2 c = search needs
 put-bytes-requires : tie.Need-put-bytes-requires
 put-bytes-requires c κs = tagged-room (room (c .before .before .before))
 
-add-t21 : tie.Need-add-t21
-add-t21 c = let t = room (c .before .before .before .before .before .before) in
+add-result : tie.Need-add-result
+add-result c = let t = room (c .before .before .before .before .before .before) in
     omega (arith, t .room, tagged-count t _ (c .before .before .put-bytes .ensures .0))
 
 same-length : tie.Need-same-length
@@ -123,18 +114,15 @@ returns-4 : tie.Need-returns-4
 returns-4 c = let e = c .before .before .before .before .before .before in
     let a = e .before .before .before .before .before .before .before .args in
     let p = c .before .before .put-bytes .ensures in
-    tagged-writes (room e) (bytes (e .before) ∙ ap (λ (s : List ℕ). written (a .value .kind ∷ s)) (sym (part-lent (a .buffer .now) (a .value .a) (a .len)))) _ _ (p .0) (p .1)
+    tagged-puts (room e) (bytes (e .before) ∙ ap (λ (s : List ℕ). written (a .value .kind ∷ s)) (sym (part-lent (a .buffer .now) (a .value .a) (a .len)))) _ _ (p .0) (p .1)
 
-pub write-address-spec : {M : Type 1} → statement M
-write-address-spec =
+pub put-address-spec : {M : Type 1} → statement M
+put-address-spec =
     tie.close
     (tie.spec
-    unwritten-requires
     returns
     part-inside-requires
-    unwritten-requires-2
     returns-2
-    unwritten-requires-3
     returns-3
     cast-out
     slice-write-out
@@ -146,6 +134,6 @@ write-address-spec =
     part-put-bytes-start-2
     part-put-bytes-end-2
     put-bytes-requires
-    add-t21
+    add-result
     same-length
     returns-4)

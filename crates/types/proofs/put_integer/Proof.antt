@@ -1,4 +1,4 @@
--- `types::write_integer` meets its contract: the value has no written form, there is no room, or the type byte is
+-- `types::put_integer` meets its contract: the value has no written form, there is no room, or the type byte is
 -- stored and the number is what `put_number` leaves in the tail behind it.
 -- Assumes nothing.
 use borrow.Author.Needs.{needs}
@@ -13,9 +13,9 @@ use Rattle.varint.specs.Number.{numberBytes}
 use Rattle.types.specs.Form.{form}
 use Rattle.types.specs.Promise.{recordOf}
 use Rattle.types.specs.Writing.{form-unwritable, form-integer}
-use Rattle.types.specs.Output.{writes-refusal, writes-short, Tagged, tagged-place, tagged-start, tagged-room, tagged-count, tagged-length, tagged-writes}
-use Rattle.types.proofs.write_integer.Statement.{statement}
-use Rattle.types.proofs.write_integer.Tie as tie
+use Rattle.types.specs.Output.{puts-refusal, puts-short, Tagged, tagged-place, tagged-start, tagged-room, tagged-count, tagged-length, tagged-puts}
+use Rattle.types.proofs.put_integer.Statement.{statement}
+use Rattle.types.proofs.put_integer.Tie as tie
 
 bytes : (c : tie.Else1) (buffer : List ℕ)
     → let v = c .before .before .before .args .value in
@@ -34,27 +34,21 @@ room c = let a = c .before .before .before .before .before .args in
 writable-requires : tie.Need-writable-requires
 writable-requires c κs = search needs
 
-unwritten-requires : tie.Need-unwritten-requires
-unwritten-requires c κs = search needs
-
 returns : tie.Need-returns
-returns c = λ buffer. let w = c .before .before in
+returns c = λ buffer. let w = c .before in
     let a = w .before .before .args in
-    writes-refusal (length (a .out .now)) 14 (a .out .now)
-    (form-unwritable buffer (recordOf (a .value)) (sym (w .writable .ensures) ∙ not-true _ (c .before .if1 .taken))) (c .unwritten .ensures)
+    puts-refusal (length (a .out .now)) 14 (a .out .now)
+    (form-unwritable buffer (recordOf (a .value)) (sym (w .writable .ensures) ∙ not-true _ (c .if1 .taken)))
 
 number-fits-requires : tie.Need-number-fits-requires
 number-fits-requires c κs = search needs
 
-unwritten-requires-2 : tie.Need-unwritten-requires-2
-unwritten-requires-2 c κs = search needs
-
 returns-2 : tie.Need-returns-2
-returns-2 c = λ buffer. let n = c .before .before in
+returns-2 c = λ buffer. let n = c .before in
     let e = n .before in
     let a = e .before .before .before .args in
-    writes-short (a .value .kind ∷ numberBytes (a .value .a)) (a .out .now) (bytes e buffer)
-    (omega (arith, leb-false (1 + length (numberBytes (a .value .a))) (length (a .out .now)) (sym (n .number-fits .ensures) ∙ not-true _ (c .before .if2 .taken)))) (c .unwritten2 .ensures)
+    puts-short (a .value .kind ∷ numberBytes (a .value .a)) (a .out .now) (bytes e buffer)
+    (omega (arith, leb-false (1 + length (numberBytes (a .value .a))) (length (a .out .now)) (sym (n .number-fits .ensures) ∙ not-true _ (c .if2 .taken))))
 
 cast-out : tie.Need-cast-out
 cast-out c = search needs
@@ -74,8 +68,8 @@ part-put-number-end c = search needs
 put-number-requires : tie.Need-put-number-requires
 put-number-requires c κs = tagged-room (room (c .before .before))
 
-add-t12 : tie.Need-add-t12
-add-t12 c = let t = room (c .before .before .before .before .before) in
+add-result : tie.Need-add-result
+add-result c = let t = room (c .before .before .before .before .before) in
     omega (arith, t .room, tagged-count t _ (c .before .before .put-number .ensures .0))
 
 same-length : tie.Need-same-length
@@ -84,17 +78,15 @@ same-length c = tagged-length (room (c .before .before .before .before .before))
 returns-3 : tie.Need-returns-3
 returns-3 c = λ buffer. let e = c .before .before .before .before .before in
     let p = c .before .before .put-number .ensures in
-    tagged-writes (room e) (bytes (e .before .before) buffer) _ _ (p .0) (p .1)
+    tagged-puts (room e) (bytes (e .before .before) buffer) _ _ (p .0) (p .1)
 
-pub write-integer-spec : {M : Type 1} → statement M
-write-integer-spec =
+pub put-integer-spec : {M : Type 1} → statement M
+put-integer-spec =
     tie.close
     (tie.spec
     writable-requires
-    unwritten-requires
     returns
     number-fits-requires
-    unwritten-requires-2
     returns-2
     cast-out
     slice-write-out
@@ -102,6 +94,6 @@ write-integer-spec =
     part-put-number-start
     part-put-number-end
     put-number-requires
-    add-t12
+    add-result
     same-length
     returns-3)
