@@ -15,7 +15,7 @@ use Rattle.varint.specs.declared.Written.the-variants as w
 use Rattle.varint.specs.Answer.{Answer, done, refused, written, within, tells, leaves}
 use Rattle.varint.specs.Promise.{count, Writes}
 use Rattle.varint.specs.Writing.{lt-or-le}
-use Rattle.varint.specs.Output.{Partly, partly-next, partly-place, lent-tail, leaves-length, leaves-byte, leaves-tail}
+use Rattle.varint.specs.Output.{Partly, partly-none, partly-next, partly-place, partly-all, lent-tail, leaves-length, leaves-byte, leaves-tail}
 use Rattle.types.specs.Form.{size}
 use Rattle.types.specs.Promise.{Puts}
 
@@ -77,6 +77,32 @@ module _ {bytes old out : List ℕ} {at : ℕ} (p : Partly bytes old at (drop at
 -- and at its end
 pub copy-all : {bytes old out : List ℕ} {at : ℕ} → Partly bytes old at (drop at bytes) out → length bytes ≤ at → Partly bytes old at [] out
 copy-all {bytes} p h = rw (drop-of-length-le bytes h) at p
+
+-- four bytes, one after the other
+module _ (bytes old : List ℕ) (four : length bytes ≡ 4) (room : length bytes ≤ length old) where
+  none : Partly bytes old 0 (drop 0 bytes) old
+  none = partly-none bytes old room
+
+  one : Partly bytes old 1 (drop 1 bytes) (set old 0 (getD bytes 0 0))
+  one = copy-next none (omega (arith, four))
+
+  two : Partly bytes old 2 (drop 2 bytes) (set (set old 0 (getD bytes 0 0)) 1 (getD bytes 1 0))
+  two = copy-next one (omega (arith, four))
+
+  three : Partly bytes old 3 (drop 3 bytes) (set (set (set old 0 (getD bytes 0 0)) 1 (getD bytes 1 0)) 2 (getD bytes 2 0))
+  three = copy-next two (omega (arith, four))
+
+  pub four-second : 1 < length (set old 0 (getD bytes 0 0))
+  four-second = copy-place one (omega (arith, four))
+
+  pub four-third : 2 < length (set (set old 0 (getD bytes 0 0)) 1 (getD bytes 1 0))
+  four-third = copy-place two (omega (arith, four))
+
+  pub four-fourth : 3 < length (set (set (set old 0 (getD bytes 0 0)) 1 (getD bytes 1 0)) 2 (getD bytes 2 0))
+  four-fourth = copy-place three (omega (arith, four))
+
+  pub four-all : set (set (set (set old 0 (getD bytes 0 0)) 1 (getD bytes 1 0)) 2 (getD bytes 2 0)) 3 (getD bytes 3 0) ≡ leaves (written bytes) old
+  four-all = partly-all (copy-all (copy-next three (omega (arith, four))) (omega (arith, four)))
 
 -- Two parts: `front` is written, which made out of old, and n bytes long; `rest` goes behind it, by whoever is lent `&mut out[n..]`.
 module _ (front rest old out : List ℕ) (n : ℕ) (count : n ≡ length front) (first : out ≡ leaves (written front) old)

@@ -446,7 +446,7 @@ fn put_address(value: Value, len: usize, buffer: &[u8], out: &mut [u8]) -> usize
     out[0] = value.kind as u8;
     let from = value.a as usize;
     let to = from + len;
-    1 + put_bytes(&buffer[from..to], &mut out[1..])
+    1 + put_few(&buffer[from..to], &mut out[1..])
 }
 
 // The same of a string or a binary.
@@ -519,4 +519,24 @@ fn put_bytes(bytes: &[u8], out: &mut [u8]) -> usize
         at += 1;
     }
     at
+}
+
+// The same of few bytes: four are read before one is written, so that they are one word.
+fn put_few(bytes: &[u8], out: &mut [u8]) -> usize
+    requires { ⌜ length (now bytes) ≤ length (now out) ⌝ }
+    ensures { λ r. ⌜ r ≡ length (now (bytes .entry)) ⌝ }
+    ensures { λ r. ⌜ now (out .exit) ≡ leaves (written (now (bytes .entry))) (now (out .entry)) ⌝ }
+{
+    if bytes.len() != 4 {
+        return put_bytes(bytes, out);
+    }
+    let first = bytes[0];
+    let second = bytes[1];
+    let third = bytes[2];
+    let fourth = bytes[3];
+    out[0] = first;
+    out[1] = second;
+    out[2] = third;
+    out[3] = fourth;
+    4
 }

@@ -1,5 +1,5 @@
 -- `types::put_address` meets its contract: the length is not the address's, the bytes lie outside, there is no room,
--- or the type byte is stored and the bytes are what `put_bytes` leaves in the tail behind it.
+-- or the type byte is stored and the bytes are what `put_few` leaves in the tail behind it.
 -- Assumes nothing.
 use borrow.Author.Needs.{needs}
 use Prim.Native.Nat.{ℕ, _+_, _-_, _≤_}
@@ -82,38 +82,38 @@ slice-write-out c = search needs
 add-to : tie.Need-add-to
 add-to c = let e = c .before .before in omega (arith, ends e, e .before .before .before .before .before .before .good)
 
-sub-put-bytes : tie.Need-sub-put-bytes
-sub-put-bytes c = search needs
+sub-put-few : tie.Need-sub-put-few
+sub-put-few c = search needs
 
-part-put-bytes-start : tie.Need-part-put-bytes-start
-part-put-bytes-start c = search needs
+part-put-few-start : tie.Need-part-put-few-start
+part-put-few-start c = search needs
 
-part-put-bytes-end : tie.Need-part-put-bytes-end
-part-put-bytes-end c = ends (c .before .before)
+part-put-few-end : tie.Need-part-put-few-end
+part-put-few-end c = ends (c .before .before)
 
-sub-put-bytes-2 : tie.Need-sub-put-bytes-2
-sub-put-bytes-2 c = tagged-start (room (c .before .before))
+sub-put-few-2 : tie.Need-sub-put-few-2
+sub-put-few-2 c = tagged-start (room (c .before .before))
 
-part-put-bytes-start-2 : tie.Need-part-put-bytes-start-2
-part-put-bytes-start-2 c = sub-put-bytes-2 c
+part-put-few-start-2 : tie.Need-part-put-few-start-2
+part-put-few-start-2 c = sub-put-few-2 c
 
-part-put-bytes-end-2 : tie.Need-part-put-bytes-end-2
-part-put-bytes-end-2 c = search needs
+part-put-few-end-2 : tie.Need-part-put-few-end-2
+part-put-few-end-2 c = search needs
 
-put-bytes-requires : tie.Need-put-bytes-requires
-put-bytes-requires c κs = tagged-room (room (c .before .before .before))
+put-few-requires : tie.Need-put-few-requires
+put-few-requires c κs = tagged-room (room (c .before .before .before))
 
 add-result : tie.Need-add-result
 add-result c = let t = room (c .before .before .before .before .before .before) in
-    omega (arith, t .room, tagged-count t _ (c .before .before .put-bytes .ensures .0))
+    omega (arith, t .room, tagged-count t _ (c .before .before .put-few .ensures .0))
 
 same-length : tie.Need-same-length
-same-length c = tagged-length (room (c .before .before .before .before .before .before)) _ (c .before .before .put-bytes .ensures .1)
+same-length c = tagged-length (room (c .before .before .before .before .before .before)) _ (c .before .before .put-few .ensures .1)
 
 returns-4 : tie.Need-returns-4
 returns-4 c = let e = c .before .before .before .before .before .before in
     let a = e .before .before .before .before .before .before .before .args in
-    let p = c .before .before .put-bytes .ensures in
+    let p = c .before .before .put-few .ensures in
     tagged-puts (room e) (bytes (e .before) ∙ ap (λ (s : List ℕ). written (a .value .kind ∷ s)) (sym (part-lent (a .buffer .now) (a .value .a) (a .len)))) _ _ (p .0) (p .1)
 
 pub put-address-spec : {M : Type 1} → statement M
@@ -127,13 +127,13 @@ put-address-spec =
     cast-out
     slice-write-out
     add-to
-    sub-put-bytes
-    part-put-bytes-start
-    part-put-bytes-end
-    sub-put-bytes-2
-    part-put-bytes-start-2
-    part-put-bytes-end-2
-    put-bytes-requires
+    sub-put-few
+    part-put-few-start
+    part-put-few-end
+    sub-put-few-2
+    part-put-few-start-2
+    part-put-few-end-2
+    put-few-requires
     add-result
     same-length
     returns-4)
