@@ -1,19 +1,23 @@
 -- Laws about what writers leave: a writer that has room, one that refuses, and a part copied byte by byte.
 use mathlib.Core.Path.{_≡_, refl, sym, ap, _∙_}
 use mathlib.Core.List.{List, [], _∷_, _++_}
+use mathlib.Core.Logic.{⊎-elim}
 use Prim.Native.Nat.{ℕ, suc, _+_, _-_, _≤_, _<_}
 use native.Mathlib.Numerals.{add-one}
 use native.Mathlib.Omega.{arith}
 use lib.ListN.{length, take, drop, getD, set, length-append, length-drop, drop-of-length-le}
 use lib.Seq.{drop-cons}
 use borrow.Rule.Slice.PartMut.{putMid}
-use borrow.Author.Tests.{le-leb}
+use borrow.Author.Tests.{le-leb, lt-leb}
 use Rattle.varint.specs.declared.Refusal.{Refusal}
 use Rattle.varint.specs.declared.Written.{Written}
 use Rattle.varint.specs.declared.Written.the-variants as w
-use Rattle.varint.specs.Answer.{Answer, done, refused, written, within, leaves}
+use Rattle.varint.specs.Answer.{Answer, done, refused, written, within, tells, leaves}
 use Rattle.varint.specs.Promise.{count, Writes}
-use Rattle.varint.specs.Output.{Partly, partly-next, partly-place, lent-tail, leaves-length, leaves-byte, leaves-tail, writes-none, writes-all}
+use Rattle.varint.specs.Writing.{lt-or-le}
+use Rattle.varint.specs.Output.{Partly, partly-none, partly-next, partly-place, partly-all, lent-tail, leaves-length, leaves-byte, leaves-tail}
+use Rattle.types.specs.Form.{size}
+use Rattle.types.specs.Promise.{Puts}
 
 -- where there is room, all is written
 module _ (bytes : List ℕ) {old new : List ℕ} {r : Written} (p : Writes (within (length old) (written bytes)) r old new) (room : length bytes ≤ length old) where
@@ -33,18 +37,31 @@ module _ (bytes : List ℕ) {old new : List ℕ} {r : Written} (p : Writes (with
       absurd (omega arith)
 
 -- what has no written form is not written
-pub writes-refusal : {a : Answer (List ℕ)} (room n place : ℕ) (old : List ℕ) → a ≡ refused n place
-    → Writes (within room a) (w.Refused (record { number = n; place = place })) old old
-writes-refusal room n place old e = rw e (record { says = refl; holds = refl })
+pub puts-refusal : {a : Answer (List ℕ)} (room n : ℕ) (old : List ℕ) → a ≡ refused n 0 → Puts (within room a) 0 old old
+puts-refusal room n old e = rw e (record { counts = refl; holds = refl })
 
 -- what has one is written, or finds no room
 module _ {a : Answer (List ℕ)} (bytes old : List ℕ) (is : a ≡ written bytes) where
-  pub writes-short : length old < length bytes → Writes (within (length old) a) (w.Refused (record { number = 11; place = 0 })) old old
-  writes-short h = rw is (writes-none bytes old h)
+  pub puts-short : length old < length bytes → Puts (within (length old) a) 0 old old
+  puts-short h = rw is (simp (lt-leb (length bytes) (length old) h) (record { counts = refl; holds = refl }))
 
-  pub writes-whole : (new : List ℕ) (n : ℕ) → length bytes ≤ length old → n ≡ length bytes → new ≡ leaves (written bytes) old
-      → Writes (within (length old) a) (w.Done n) old new
-  writes-whole new n h count e = rw is (writes-all bytes old new n h count e)
+  pub puts-whole : (new : List ℕ) (n : ℕ) → length bytes ≤ length old → n ≡ length bytes → new ≡ leaves (written bytes) old
+      → Puts (within (length old) a) n old new
+  puts-whole new n h count e = rw is (simp (le-leb (length bytes) (length old) h) (record { counts = count; holds = e }))
+
+-- a count that is not 0 is told as it is
+pub told : (a : Answer (List ℕ)) (n : ℕ) → n ≡ size a → (n ≡ 0 → ⊥) → done tt n ≡ tells a
+told (done bytes m) n e some = ap (done tt) e
+told (refused number place) n e some = absurd (some e)
+
+-- a form that is not empty and has no count finds no room
+pub told-short : {a : Answer (List ℕ)} (bytes : List ℕ) (room : ℕ) → a ≡ written bytes → 1 ≤ length bytes → size (within room a) ≡ 0
+    → tells (within room a) ≡ refused 11 0
+told-short {a} bytes room is some none =
+    ⊎-elim
+    (λ h. rw is (simp (lt-leb (length bytes) room h)))
+    (λ h. let z : length bytes ≡ 0 = simp (le-leb (length bytes) room h) at (rw is at none) in absurd (omega arith))
+    (lt-or-le room (length bytes))
 
 -- a copy, one byte more
 module _ {bytes old out : List ℕ} {at : ℕ} (p : Partly bytes old at (drop at bytes) out) (h : at < length bytes) where
@@ -60,6 +77,32 @@ module _ {bytes old out : List ℕ} {at : ℕ} (p : Partly bytes old at (drop at
 -- and at its end
 pub copy-all : {bytes old out : List ℕ} {at : ℕ} → Partly bytes old at (drop at bytes) out → length bytes ≤ at → Partly bytes old at [] out
 copy-all {bytes} p h = rw (drop-of-length-le bytes h) at p
+
+-- four bytes, one after the other
+module _ (bytes old : List ℕ) (four : length bytes ≡ 4) (room : length bytes ≤ length old) where
+  none : Partly bytes old 0 (drop 0 bytes) old
+  none = partly-none bytes old room
+
+  one : Partly bytes old 1 (drop 1 bytes) (set old 0 (getD bytes 0 0))
+  one = copy-next none (omega (arith, four))
+
+  two : Partly bytes old 2 (drop 2 bytes) (set (set old 0 (getD bytes 0 0)) 1 (getD bytes 1 0))
+  two = copy-next one (omega (arith, four))
+
+  three : Partly bytes old 3 (drop 3 bytes) (set (set (set old 0 (getD bytes 0 0)) 1 (getD bytes 1 0)) 2 (getD bytes 2 0))
+  three = copy-next two (omega (arith, four))
+
+  pub four-second : 1 < length (set old 0 (getD bytes 0 0))
+  four-second = copy-place one (omega (arith, four))
+
+  pub four-third : 2 < length (set (set old 0 (getD bytes 0 0)) 1 (getD bytes 1 0))
+  four-third = copy-place two (omega (arith, four))
+
+  pub four-fourth : 3 < length (set (set (set old 0 (getD bytes 0 0)) 1 (getD bytes 1 0)) 2 (getD bytes 2 0))
+  four-fourth = copy-place three (omega (arith, four))
+
+  pub four-all : set (set (set (set old 0 (getD bytes 0 0)) 1 (getD bytes 1 0)) 2 (getD bytes 2 0)) 3 (getD bytes 3 0) ≡ leaves (written bytes) old
+  four-all = partly-all (copy-all (copy-next three (omega (arith, four))) (omega (arith, four)))
 
 -- Two parts: `front` is written, which made out of old, and n bytes long; `rest` goes behind it, by whoever is lent `&mut out[n..]`.
 module _ (front rest old out : List ℕ) (n : ℕ) (count : n ≡ length front) (first : out ≡ leaves (written front) old)
@@ -83,31 +126,35 @@ module _ (front rest old out : List ℕ) (n : ℕ) (count : n ≡ length front) 
       → putMid n (length out - n) out tail ≡ leaves (written (front ++ rest)) old
   both-leaves tail e = leaves-tail front rest old out tail n (sym count) first e
 
--- Such a front of one byte, as a store leaves it: `bytes`, which old has room for, are b and what goes behind it.
-pub record Tagged (b : ℕ) (rest bytes old : List ℕ) : Type 0 where
-  pub is : bytes ≡ b ∷ rest
-  pub room : length bytes ≤ length old
+-- Such a front of one byte, as a store leaves it: old has room for b and for what goes behind it.
+pub record Tagged (b : ℕ) (rest old : List ℕ) : Type 0 where
+  pub room : length (b ∷ rest) ≤ length old
 
-module _ {b : ℕ} {rest bytes old : List ℕ} (t : Tagged b rest bytes old) where
-  room-for : length (b ∷ rest) ≤ length old
-  room-for = rw (t .is) at (t .room)
+module _ {b : ℕ} {rest old : List ℕ} (t : Tagged b rest old) where
+  pub tagged-place : 1 ≤ length old
+  tagged-place = omega (arith, t .room)
 
   stored : set old 0 b ≡ leaves (written (b ∷ [])) old
-  stored = leaves-byte b old (omega (arith, room-for))
+  stored = leaves-byte b old tagged-place
 
   pub tagged-start : 1 ≤ length (set old 0 b)
-  tagged-start = both-start (b ∷ []) rest old (set old 0 b) 1 refl stored room-for
+  tagged-start = both-start (b ∷ []) rest old (set old 0 b) 1 refl stored (t .room)
 
   pub tagged-room : length rest ≤ length (take (length (set old 0 b) - 1) (drop 1 (set old 0 b)))
-  tagged-room = both-room (b ∷ []) rest old (set old 0 b) 1 refl stored room-for
+  tagged-room = both-room (b ∷ []) rest old (set old 0 b) 1 refl stored (t .room)
 
-  pub tagged-count : (k : ℕ) → k ≡ length rest → 1 + k ≡ length bytes
-  tagged-count k e = rw (t .is) (both-count (b ∷ []) rest old (set old 0 b) 1 refl stored room-for k e)
+  pub tagged-count : (k : ℕ) → k ≡ length rest → 1 + k ≡ length (b ∷ rest)
+  tagged-count k e = both-count (b ∷ []) rest old (set old 0 b) 1 refl stored (t .room) k e
 
-  pub tagged-leaves : (tail : List ℕ) → tail ≡ leaves (written rest) (take (length (set old 0 b) - 1) (drop 1 (set old 0 b)))
-      → putMid 1 (length (set old 0 b) - 1) (set old 0 b) tail ≡ leaves (written bytes) old
-  tagged-leaves tail e = rw (t .is) (both-leaves (b ∷ []) rest old (set old 0 b) 1 refl stored room-for tail e)
+  tagged-leaves : (tail : List ℕ) → tail ≡ leaves (written rest) (take (length (set old 0 b) - 1) (drop 1 (set old 0 b)))
+      → putMid 1 (length (set old 0 b) - 1) (set old 0 b) tail ≡ leaves (written (b ∷ rest)) old
+  tagged-leaves tail e = both-leaves (b ∷ []) rest old (set old 0 b) 1 refl stored (t .room) tail e
 
   pub tagged-length : (tail : List ℕ) → tail ≡ leaves (written rest) (take (length (set old 0 b) - 1) (drop 1 (set old 0 b)))
       → length (putMid 1 (length (set old 0 b) - 1) (set old 0 b) tail) ≡ length old
-  tagged-length tail e = ap length (tagged-leaves tail e) ∙ leaves-length bytes old (t .room)
+  tagged-length tail e = ap length (tagged-leaves tail e) ∙ leaves-length (b ∷ rest) old (t .room)
+
+  pub tagged-puts : {a : Answer (List ℕ)} → a ≡ written (b ∷ rest) → (k : ℕ) (tail : List ℕ) → k ≡ length rest
+      → tail ≡ leaves (written rest) (take (length (set old 0 b) - 1) (drop 1 (set old 0 b)))
+      → Puts (within (length old) a) (1 + k) old (putMid 1 (length (set old 0 b) - 1) (set old 0 b) tail)
+  tagged-puts is k tail n e = puts-whole (b ∷ rest) old is _ (1 + k) (t .room) (tagged-count k n) (tagged-leaves tail e)

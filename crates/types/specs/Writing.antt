@@ -206,15 +206,6 @@ module _ (buffer : List ℕ) (k a b : ℕ) where
       (omega arith, bytes-at nothing is ∙ ap (λ (x : ℕ). x ∷ []) (omega arith)))
       (λ e is. let z = fields-in flag a b (sym (field-at k a b flag is) ∙ f) in (z .0, bytes-at flag is))
 
-  pub integer-bytes : 2 ≤ k → k < 6 → valueBytes buffer (value k a b) ≡ k ∷ numberBytes a
-  integer-bytes l h = shape-integer k l h (λ w is. bytes-at (integer w) is)
-
-  pub address-bytes : 6 ≤ k → k < 8 → valueBytes buffer (value k a b) ≡ k ∷ part buffer a b
-  address-bytes l h = shape-address k l h (λ n is. bytes-at (address n) is)
-
-  pub text-bytes : 8 ≤ k → k < 10 → valueBytes buffer (value k a b) ≡ k ∷ stringBytes (part buffer a b)
-  text-bytes l h = bytes-at text (shape-text k l h)
-
   -- a written value has its type byte
   pub value-some : inFields (shape k) a b ≡ true → 1 ≤ length (valueBytes buffer (value k a b))
   value-some f =
@@ -245,3 +236,37 @@ module _ (buffer : List ℕ) (v : Record) where
   pub form-whole : writableRecord v ≡ true → ranged buffer v ≡ true → form buffer v ≡ written (valueBytes buffer v)
   unfolding form
   form-whole h r = rw (h, r)
+
+-- ---- what writing comes to, by the kind's number
+
+module _ (buffer : List ℕ) (k a b : ℕ) where
+  unpointed : k < 6 → ranged buffer (value k a b) ≡ true
+  unpointed h = rw (points-no k h)
+
+  pub form-plain : k < 2 → inFields (shape k) a b ≡ true → form buffer (value k a b) ≡ written ((k + 16 * a) ∷ [])
+  form-plain h f = form-whole buffer (value k a b) f (unpointed (omega arith)) ∙ ap (λ (s : List ℕ). written s) (plain-bytes buffer k a b h f .1)
+
+  pub form-integer : 2 ≤ k → k < 6 → inFields (shape k) a b ≡ true → form buffer (value k a b) ≡ written (k ∷ numberBytes a)
+  form-integer l h f =
+      form-whole buffer (value k a b) f (unpointed h)
+      ∙ ap (λ (s : List ℕ). written s) (shape-integer k l h (λ w is. bytes-at buffer k a b (integer w) is))
+
+  -- a value that points has its bytes where they lie inside, and else none
+  module _ (sh : Shape) (is : shape k ≡ sh) (p : points sh ≡ true) (f : inFields sh a b ≡ true) where
+    fields : inFields (shape k) a b ≡ true
+    fields = field-at k a b sh is ∙ f
+
+    range : ranged buffer (value k a b) ≡ inside buffer a b
+    range = rw (ap points is ∙ p)
+
+    pub form-pointed : inside buffer a b ≡ true → form buffer (value k a b) ≡ written (formed sh k a (part buffer a b))
+    form-pointed i = form-whole buffer (value k a b) fields (range ∙ i) ∙ ap (λ (s : List ℕ). written s) (bytes-at buffer k a b sh is)
+
+    pub form-beyond : inside buffer a b ≡ false → form buffer (value k a b) ≡ refused 16 0
+    form-beyond i = form-outside buffer (value k a b) fields (range ∙ i)
+
+  pub form-length : (n : ℕ) → shape k ≡ address n → (b ≡ n → ⊥) → form buffer (value k a b) ≡ refused 14 0
+  form-length n is other = form-unwritable buffer (value k a b) (field-at k a b (address n) is ∙ ne-eqb b n other)
+
+  pub form-reserved : 10 ≤ k → form buffer (value k a b) ≡ refused 14 0
+  form-reserved h = form-unwritable buffer (value k a b) (field-at k a b reserved (shape-reserved k h))

@@ -9,15 +9,16 @@ use varint::Written;
 ghost use mathlib.Core.Path.{_≡_};
 ghost use mathlib.Core.Bool.{true};
 ghost use mathlib.Core.List.{List};
-ghost use Prim.Native.Nat.{ℕ, _≤_, _<_, _^_};
+ghost use Prim.Native.Nat.{ℕ, _+_, _≤_, _<_, _^_};
+ghost use lib.Dec.{leb};
 ghost use lib.ListN.{length, drop};
-ghost use Rattle.varint.specs.Answer.{done as finished, refused, written, within, leaves};
+ghost use Rattle.varint.specs.Answer.{done as finished, refused, written, within, tells, leaves};
 ghost use Rattle.varint.specs.Number.{numberBytes};
 ghost use Rattle.varint.specs.Promise.{Writes};
 ghost use Rattle.types.specs.Value.{Width, integer, address, text, shape, kept, signExtended, inFields, string, content, behind, moved, typed, value};
-ghost use Rattle.types.specs.Form.{inside, stringBytes, formed, valueBytes, writableRecord, ranged, form, size};
+ghost use Rattle.types.specs.Form.{inside, stringBytes, formed, writableRecord, ranged, form, size};
 ghost use Rattle.types.specs.Check.{stringRefusal, partRefusal, refusal};
-ghost use Rattle.types.specs.Promise.{textRead, recordOf, typedRead};
+ghost use Rattle.types.specs.Promise.{textRead, recordOf, typedRead, Puts};
 
 // A data type is 10 to 15.
 pub const NO_TYPE: u64 = 8;
@@ -350,51 +351,134 @@ pub fn write_string(text: &[u8], out: &mut [u8]) -> Written
 pub fn write_value(value: Value, buffer: &[u8], out: &mut [u8]) -> Written
     ensures { λ r. ⌜ Writes (within (length (now (out .entry))) (form (now (buffer .entry)) (recordOf value))) r (now (out .entry)) (now (out .exit)) ⌝ }
 {
-    if !writable(value) {
+    let n = put_value(value, buffer, out);
+    if n == 0 {
         return Written::Refused(Refusal {
-            number: NOT_WRITABLE,
+            number: why_not(value, buffer),
             place: 0,
         });
     }
-    if !in_range(value, buffer) {
-        return Written::Refused(Refusal {
-            number: OUTSIDE,
-            place: 0,
-        });
-    }
-    if out.len() < form_len(value) {
-        return Written::Refused(Refusal {
-            number: NO_ROOM,
-            place: 0,
-        });
-    }
-    Written::Done(put_value(value, buffer, out))
+    Written::Done(n)
 }
 
-// Writes a value that has a written form, where there is room.
+// What a value that was not written is refused with: where it has a written form, there was no room.
+fn why_not(value: Value, buffer: &[u8]) -> u64
+    ensures { λ r. ⌜ ((room : ℕ) → size (within room (form (now (buffer .entry)) (recordOf value))) ≡ 0 → tells (within room (form (now (buffer .entry)) (recordOf value))) ≡ refused r 0) ⌝ }
+{
+    if !writable(value) {
+        return NOT_WRITABLE;
+    }
+    if !in_range(value, buffer) {
+        return OUTSIDE;
+    }
+    NO_ROOM
+}
+
+// Writes a value and says how many bytes it wrote: 0 where it is refused, since no written form is empty. That one number says it
+// all spares the writers of each class of kinds the making of a refusal.
 fn put_value(value: Value, buffer: &[u8], out: &mut [u8]) -> usize
-    requires { ⌜ writableRecord (recordOf value) ≡ true ⌝ }
-    requires { ⌜ ranged (now buffer) (recordOf value) ≡ true ⌝ }
-    requires { ⌜ length (valueBytes (now buffer) (recordOf value)) ≤ length (now out) ⌝ }
-    ensures { λ r. ⌜ r ≡ length (valueBytes (now (buffer .entry)) (recordOf value)) ⌝ }
-    ensures { λ r. ⌜ now (out .exit) ≡ leaves (written (valueBytes (now (buffer .entry)) (recordOf value))) (now (out .entry)) ⌝ }
+    ensures { λ r. ⌜ Puts (within (length (now (out .entry))) (form (now (buffer .entry)) (recordOf value))) r (now (out .entry)) (now (out .exit)) ⌝ }
 {
     let kind = value.kind;
-    let a = value.a;
     if kind < 2 {
-        out[0] = (kind + 16 * a) as u8;
-        return 1;
+        return put_plain(value, out);
     }
-    out[0] = kind as u8;
     if kind < 6 {
-        return 1 + put_number(a, &mut out[1..]);
+        return put_integer(value, out);
     }
-    let from = a as usize;
-    let to = from + value.b as usize;
-    if kind < 8 {
-        return 1 + put_bytes(&buffer[from..to], &mut out[1..]);
+    if kind == 6 {
+        return put_address(value, 4, buffer, out);
     }
+    if kind == 7 {
+        return put_address(value, 16, buffer, out);
+    }
+    if kind < 10 {
+        return put_text(value, buffer, out);
+    }
+    0
+}
+
+// The same of null and bool, which are one byte.
+fn put_plain(value: Value, out: &mut [u8]) -> usize
+    requires { ⌜ value .kind < 2 ⌝ }
+    ensures { λ r. ⌜ ((buffer : List ℕ) → Puts (within (length (now (out .entry))) (form buffer (recordOf value))) r (now (out .entry)) (now (out .exit))) ⌝ }
+{
+    if !writable(value) {
+        return 0;
+    }
+    if out.len() == 0 {
+        return 0;
+    }
+    out[0] = (value.kind + 16 * value.a) as u8;
+    1
+}
+
+// The same of an integer.
+fn put_integer(value: Value, out: &mut [u8]) -> usize
+    requires { ⌜ (2 ≤ value .kind) × (value .kind < 6) ⌝ }
+    ensures { λ r. ⌜ ((buffer : List ℕ) → Puts (within (length (now (out .entry))) (form buffer (recordOf value))) r (now (out .entry)) (now (out .exit))) ⌝ }
+{
+    if !writable(value) {
+        return 0;
+    }
+    if !number_fits(value.a, out.len()) {
+        return 0;
+    }
+    out[0] = value.kind as u8;
+    1 + put_number(value.a, &mut out[1..])
+}
+
+// The same of an address of len bytes, which each caller says outright, so that the copy has a fixed length.
+fn put_address(value: Value, len: usize, buffer: &[u8], out: &mut [u8]) -> usize
+    requires { ⌜ shape (value .kind) ≡ address len ⌝ }
+    requires { ⌜ (value .kind < 8) × (len ≤ 16) ⌝ }
+    ensures { λ r. ⌜ Puts (within (length (now (out .entry))) (form (now (buffer .entry)) (recordOf value))) r (now (out .entry)) (now (out .exit)) ⌝ }
+{
+    if value.b != len as u64 {
+        return 0;
+    }
+    if !part_inside(value.a, len as u64, buffer) {
+        return 0;
+    }
+    if out.len() <= len {
+        return 0;
+    }
+    out[0] = value.kind as u8;
+    let from = value.a as usize;
+    let to = from + len;
+    1 + put_few(&buffer[from..to], &mut out[1..])
+}
+
+// The same of a string or a binary.
+fn put_text(value: Value, buffer: &[u8], out: &mut [u8]) -> usize
+    requires { ⌜ (8 ≤ value .kind) × (value .kind < 10) ⌝ }
+    ensures { λ r. ⌜ Puts (within (length (now (out .entry))) (form (now (buffer .entry)) (recordOf value))) r (now (out .entry)) (now (out .exit)) ⌝ }
+{
+    let b = value.b;
+    if !part_inside(value.a, b, buffer) {
+        return 0;
+    }
+    let len = b as usize;
+    if out.len() < len {
+        return 0;
+    }
+    if !number_fits(b, out.len() - len) {
+        return 0;
+    }
+    out[0] = value.kind as u8;
+    let from = value.a as usize;
+    let to = from + len;
     1 + put_string(&buffer[from..to], &mut out[1..])
+}
+
+// Whether a type byte and the written form of n have at most `room` bytes. Eleven are always enough, and spare the measuring.
+fn number_fits(n: u64, room: usize) -> bool
+    ensures { λ r. ⌜ r ≡ leb (1 + length (numberBytes n)) room ⌝ }
+{
+    if 11 <= room {
+        return true;
+    }
+    1 + varint::varint_len(n) <= room
 }
 
 // Writes a string where there is room.
@@ -435,4 +519,24 @@ fn put_bytes(bytes: &[u8], out: &mut [u8]) -> usize
         at += 1;
     }
     at
+}
+
+// The same of few bytes: four are read before one is written, so that they are one word.
+fn put_few(bytes: &[u8], out: &mut [u8]) -> usize
+    requires { ⌜ length (now bytes) ≤ length (now out) ⌝ }
+    ensures { λ r. ⌜ r ≡ length (now (bytes .entry)) ⌝ }
+    ensures { λ r. ⌜ now (out .exit) ≡ leaves (written (now (bytes .entry))) (now (out .entry)) ⌝ }
+{
+    if bytes.len() != 4 {
+        return put_bytes(bytes, out);
+    }
+    let first = bytes[0];
+    let second = bytes[1];
+    let third = bytes[2];
+    let fourth = bytes[3];
+    out[0] = first;
+    out[1] = second;
+    out[2] = third;
+    out[3] = fourth;
+    4
 }

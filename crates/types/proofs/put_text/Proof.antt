@@ -1,0 +1,154 @@
+-- `types::put_text` meets its contract: the bytes lie outside, there is no room, or the type byte is stored and the string is what
+-- `put_string` leaves in the tail behind it.
+-- Assumes nothing.
+use borrow.Author.Needs.{needs}
+use Prim.Native.Nat.{ℕ, _+_, _-_, _≤_}
+use mathlib.Core.Path.{_≡_, refl, sym, ap, _∙_}
+use mathlib.Core.Bool.{true}
+use mathlib.Core.List.{List, _∷_}
+use native.Mathlib.Omega.{arith}
+use lib.ListN.{length, take, drop}
+use borrow.Author.Tests.{not-true, not-false, leb-true, leb-false}
+use Rattle.varint.specs.Answer.{written}
+use Rattle.varint.specs.Number.{numberBytes}
+use Rattle.types.specs.Value.{text}
+use Rattle.types.specs.Form.{part, inside, stringBytes, form}
+use Rattle.types.specs.Promise.{recordOf}
+use Rattle.types.specs.Reading.{shape-text, in-fields}
+use Rattle.types.specs.Writing.{string-length, part-length, part-lent, form-pointed, form-beyond}
+use Rattle.types.specs.Output.{puts-refusal, puts-short, Tagged, tagged-place, tagged-start, tagged-room, tagged-count, tagged-length, tagged-puts}
+use Rattle.types.proofs.put_text.Statement.{statement}
+use Rattle.types.proofs.put_text.Tie as tie
+
+-- the bytes lie inside
+within-buffer : (c : tie.Else1) → let a = c .before .before .before .before .args in inside (a .buffer .now) (a .value .a) (a .value .b) ≡ true
+within-buffer c = sym (c .before .part-inside .ensures) ∙ not-false _ (c .if1 .left)
+
+ends : (c : tie.Else1) → let a = c .before .before .before .before .args in a .value .a + a .value .b ≤ length (a .buffer .now)
+ends c = leb-true _ _ (within-buffer c)
+
+bytes : (c : tie.Else1)
+    → let a = c .before .before .before .before .args in
+    form (a .buffer .now) (recordOf (a .value)) ≡ written (a .value .kind ∷ stringBytes (part (a .buffer .now) (a .value .a) (a .value .b)))
+bytes c = let a = c .before .before .before .before in
+    let v = a .args .value in
+    form-pointed (a .args .buffer .now) (v .kind) (v .a) (v .b) text (shape-text (v .kind) (a .pre .0) (a .pre .1)) refl (in-fields text (v .a) (v .b) (omega (arith, a .good))) (within-buffer c)
+
+-- how many they are, with the type byte
+long : (c : tie.Else1)
+    → let a = c .before .before .before .before .args in
+    let v = a .value in
+    length (v .kind ∷ stringBytes (part (a .buffer .now) (v .a) (v .b))) ≡ 1 + length (numberBytes (v .b)) + v .b
+long c = let a = c .before .before .before .before .args in
+    let v = a .value in
+    let s = part (a .buffer .now) (v .a) (v .b) in
+    let e = part-length (a .buffer .now) (v .a) (v .b) (ends c) in
+    omega (arith, string-length s, e, ap (λ (n : ℕ). length (numberBytes n)) e)
+
+-- past the tests there is room for the type byte and the string
+room : (c : tie.Else3)
+    → let a = c .before .before .before .before .before .before .before .args in
+    let v = a .value in
+    Tagged (v .kind) (stringBytes (take (v .a + v .b - v .a) (drop (v .a) (a .buffer .now)))) (a .out .now)
+room c = let a = c .before .before .before .before .before .before .before .args in
+    let v = a .value in
+    let h = leb-true (1 + length (numberBytes (v .b))) (length (a .out .now) - v .b) (sym (c .before .number-fits .ensures) ∙ not-false _ (c .if3 .left)) in
+    rw (part-lent (a .buffer .now) (v .a) (v .b))
+    (record { room = omega (arith, h, c .before .before .if2 .left, long (c .before .before .before)) })
+
+part-inside-requires : tie.Need-part-inside-requires
+part-inside-requires c κs = search needs
+
+returns : tie.Need-returns
+returns c = let p = c .before in
+    let a = p .before .before .before in
+    let v = a .args .value in
+    puts-refusal (length (a .args .out .now)) 16 (a .args .out .now)
+    (form-beyond (a .args .buffer .now) (v .kind) (v .a) (v .b) text (shape-text (v .kind) (a .pre .0) (a .pre .1)) refl (in-fields text (v .a) (v .b) (omega (arith, a .good)))
+    (sym (p .part-inside .ensures) ∙ not-true _ (c .if1 .taken)))
+
+returns-2 : tie.Need-returns-2
+returns-2 c = let e = c .before in
+    let a = e .before .before .before .before .args in
+    puts-short _ (a .out .now) (bytes e) (omega (arith, c .if2 .taken, long e))
+
+sub-number-fits : tie.Need-sub-number-fits
+sub-number-fits c = search needs
+
+number-fits-requires : tie.Need-number-fits-requires
+number-fits-requires c κs = search needs
+
+returns-3 : tie.Need-returns-3
+returns-3 c = let n = c .before in
+    let e = n .before .before in
+    let a = e .before .before .before .before .args in
+    let v = a .value in
+    let h = leb-false (1 + length (numberBytes (v .b))) (length (a .out .now) - v .b) (sym (n .number-fits .ensures) ∙ not-true _ (c .if3 .taken)) in
+    puts-short _ (a .out .now) (bytes e) (omega (arith, h, long e))
+
+cast-out : tie.Need-cast-out
+cast-out c = search needs
+
+slice-write-out : tie.Need-slice-write-out
+slice-write-out c = tagged-place (room (c .before))
+
+add-to : tie.Need-add-to
+add-to c = let e = c .before .before .before .before in omega (arith, ends e, e .before .before .before .before .good)
+
+sub-put-string : tie.Need-sub-put-string
+sub-put-string c = search needs
+
+part-put-string-start : tie.Need-part-put-string-start
+part-put-string-start c = search needs
+
+part-put-string-end : tie.Need-part-put-string-end
+part-put-string-end c = ends (c .before .before .before .before)
+
+sub-put-string-2 : tie.Need-sub-put-string-2
+sub-put-string-2 c = tagged-start (room (c .before .before))
+
+part-put-string-start-2 : tie.Need-part-put-string-start-2
+part-put-string-start-2 c = sub-put-string-2 c
+
+part-put-string-end-2 : tie.Need-part-put-string-end-2
+part-put-string-end-2 c = search needs
+
+put-string-requires : tie.Need-put-string-requires
+put-string-requires c κs = tagged-room (room (c .before .before .before))
+
+add-result : tie.Need-add-result
+add-result c = let t = room (c .before .before .before .before .before .before) in
+    omega (arith, t .room, tagged-count t _ (c .before .before .put-string .ensures .0))
+
+same-length : tie.Need-same-length
+same-length c = tagged-length (room (c .before .before .before .before .before .before)) _ (c .before .before .put-string .ensures .1)
+
+returns-4 : tie.Need-returns-4
+returns-4 c = let e = c .before .before .before .before .before .before in
+    let a = e .before .before .before .before .before .before .before .args in
+    let p = c .before .before .put-string .ensures in
+    tagged-puts (room e) (bytes (e .before .before .before) ∙ ap (λ (s : List ℕ). written (a .value .kind ∷ stringBytes s)) (sym (part-lent (a .buffer .now) (a .value .a) (a .value .b)))) _ _ (p .0) (p .1)
+
+pub put-text-spec : {M : Type 1} → statement M
+put-text-spec =
+    tie.close
+    (tie.spec
+    part-inside-requires
+    returns
+    returns-2
+    sub-number-fits
+    number-fits-requires
+    returns-3
+    cast-out
+    slice-write-out
+    add-to
+    sub-put-string
+    part-put-string-start
+    part-put-string-end
+    sub-put-string-2
+    part-put-string-start-2
+    part-put-string-end-2
+    put-string-requires
+    add-result
+    same-length
+    returns-4)
