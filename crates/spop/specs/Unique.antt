@@ -96,6 +96,6 @@ module _ (h : Head) (limit : ℕ) (buffer pairs : List ℕ) (count : ℕ) (old :
   kv = within (length old) (kvAnswer h limit buffer pairs count)
 
   pub spop-write-kv-unique : (new other : List ℕ) (r q at also : ℕ)
-    → Told kv r at × (new ≡ leaves kv old) → Told kv q also × (other ≡ leaves kv old)
-    → (r ≡ q) × (at ≡ also) × (new ≡ other)
+      → Told kv r at × (new ≡ leaves kv old) → Told kv q also × (other ≡ leaves kv old)
+      → (r ≡ q) × (at ≡ also) × (new ≡ other)
   spop-write-kv-unique new other r q at also p s = call-unique p s

@@ -9,7 +9,7 @@ ghost use Rattle.varint.specs.Answer.{written, within, leaves};
 ghost use Rattle.varint.specs.Number.{number, numberBytes};
 ghost use Rattle.varint.specs.Promise.{count, numberRead};
 ghost use Rattle.utf8.specs.Text.{isUtf8, lossy, sameText};
-ghost use Rattle.writer.specs.Frame.{headOf, kvAnswer};
+ghost use Rattle.writer.specs.Frame.{headOf, kvAnswer, actionsAnswer};
 ghost use Rattle.hello.specs.Hello.{frameSize, announced, choice};
 ghost use Rattle.types.specs.Value.{typed};
 ghost use Rattle.types.specs.Form.{form, size};
@@ -162,6 +162,36 @@ pub extern "C" fn spop_write_kv(
         buffer,
         pairs,
         pair_count,
+        out,
+    );
+    tell(answer, at)
+}
+
+#[no_mangle]
+pub extern "C" fn spop_write_actions(
+    fin: bool,
+    abort: bool,
+    stream_id: u64,
+    frame_id: u64,
+    limit: u32,
+    buffer: &[u8],
+    actions: &[u64],
+    action_count: u64,
+    out: &mut [u8],
+    at: &mut u64,
+) -> u64
+    ensures { λ r. ⌜ Told (within (length (now (out .entry))) (actionsAnswer (headOf 103 fin abort «stream_id» «frame_id») limit (now (buffer .entry)) (now (actions .entry)) «action_count»)) r (now (at .exit)) ⌝ }
+    ensures { λ r. ⌜ now (out .exit) ≡ leaves (within (length (now (out .entry))) (actionsAnswer (headOf 103 fin abort «stream_id» «frame_id») limit (now (buffer .entry)) (now (actions .entry)) «action_count»)) (now (out .entry)) ⌝ }
+{
+    let answer = writer::write_actions(
+        fin,
+        abort,
+        stream_id,
+        frame_id,
+        limit,
+        buffer,
+        actions,
+        action_count,
         out,
     );
     tell(answer, at)

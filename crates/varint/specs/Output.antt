@@ -11,7 +11,7 @@ use borrow.Rule.Slice.PartMut.{putMid}
 use borrow.Author.Tests.{le-leb, lt-leb}
 use Rattle.varint.specs.declared.Written.{Written}
 use Rattle.varint.specs.declared.Written.the-variants as w
-use Rattle.varint.specs.Answer.{done, written, within, leaves}
+use Rattle.varint.specs.Answer.{Answer, done, refused, written, within, leaves}
 use Rattle.varint.specs.Promise.{count, Writes}
 use Rattle.varint.specs.Writing.{lt-or-le}
 
@@ -118,6 +118,19 @@ writes-none bytes old h = simp (lt-leb (length bytes) (length old) h) (record { 
 pub writes-all : (bytes old new : List ℕ) (n : ℕ) → length bytes ≤ length old → n ≡ length bytes → new ≡ leaves (written bytes) old
     → Writes (within (length old) (written bytes)) (w.Done n) old new
 writes-all bytes old new n h count e = simp (le-leb (length bytes) (length old) h) (record { says = ap (done tt) count; holds = e })
+
+-- the same of an answer that has other refusals before these
+pub writes-refusal : {a : Answer (List ℕ)} (room n place : ℕ) (old : List ℕ) → a ≡ refused n place
+    → Writes (within room a) (w.Refused (record { number = n; place = place })) old old
+writes-refusal room n place old e = rw e (record { says = refl; holds = refl })
+
+module _ {a : Answer (List ℕ)} (bytes old : List ℕ) (is : a ≡ written bytes) where
+  pub writes-short : length old < length bytes → Writes (within (length old) a) (w.Refused (record { number = 11; place = 0 })) old old
+  writes-short h = rw is (writes-none bytes old h)
+
+  pub writes-whole : (new : List ℕ) (n : ℕ) → length bytes ≤ length old → n ≡ length bytes → new ≡ leaves (written bytes) old
+      → Writes (within (length old) a) (w.Done n) old new
+  writes-whole new n room m e = rw is (writes-all bytes old new n room m e)
 
 -- What a caller learns where it was told that n bytes were written: they are there, at the front.
 pub writes-done : (bytes : List ℕ) {old new : List ℕ} {r : Written} {n : ℕ}

@@ -8,8 +8,8 @@ use Prim.Native.Nat.{ℕ, _+_, _-_, _≤_}
 use native.Mathlib.Omega.{arith}
 use lib.ListN.{length, length-append}
 use Rattle.varint.specs.Answer.{written, leaves}
-use Rattle.varint.specs.Output.{writes-room}
-use Rattle.types.specs.Output.{writes-refusal, writes-short, writes-whole, both-start, both-room, both-leaves}
+use Rattle.varint.specs.Output.{writes-room, writes-refusal, writes-short, writes-whole}
+use Rattle.types.specs.Output.{both-start, both-room, both-leaves}
 use Rattle.frame.specs.Head.{fourBytes, headBytes, frameBytes}
 use Rattle.writer.specs.Table.{records, joined}
 use Rattle.writer.specs.Action.{actionAt, actionBytes}
