@@ -4,7 +4,7 @@ use mathlib.Core.Path.{_≡_, refl, sym, ap, _∙_}
 use mathlib.Core.Logic.{_⊎_, inl, inr, ⊎-elim}
 use mathlib.Core.Bool.{Bool, true, false}
 use mathlib.Core.List.{List, [], _∷_, _++_, append-assoc}
-use Prim.Native.Nat.{ℕ, zero, suc, _+_, _-_, _*_, _^_, _≤_, _<_}
+use Prim.Native.Nat.{ℕ, zero, suc, _+_, _-_, _*_, _/_, _%_, _^_, _≤_, _<_}
 use native.Mathlib.Omega.{arith}
 use lib.Dec.{eqb, leb}
 use lib.ListN.{length, take, drop, getD, length-append, length-drop}
@@ -31,7 +31,15 @@ use Rattle.writer.specs.Answers.{limited-over, limited-in, records-refus
 pub four-says : (n : ℕ) → n < 2 ^ 32
     → 2 ^ 24 * getD (fourBytes n) 0 0 + 2 ^ 16 * getD (fourBytes n) 1 0 + 2 ^ 8 * getD (fourBytes n) 2 0 + getD (fourBytes n) 3 0 ≡ n
 unfolding fourBytes
-four-says n h = omega arith
+four-says n h =
+    let low : n ≡ 2 ^ 8 * (n / 2 ^ 8) + n % 256 = omega arith in
+    let mid : n / 2 ^ 8 ≡ 2 ^ 8 * (n / 2 ^ 16) + n / 2 ^ 8 % 256 = omega arith in
+    let high : n / 2 ^ 16 ≡ 2 ^ 8 * (n / 2 ^ 24) + n / 2 ^ 16 % 256 = omega arith in
+    let top : n / 2 ^ 24 % 256 ≡ n / 2 ^ 24 = omega arith in
+    sum (n / 2 ^ 24) (n / 2 ^ 16) (n / 2 ^ 8) n (n / 2 ^ 24 % 256) (n / 2 ^ 16 % 256) (n / 2 ^ 8 % 256) (n % 256) low mid high top
+  where
+    sum : (d c b n w x y z : ℕ) → n ≡ 2 ^ 8 * b + z → b ≡ 2 ^ 8 * c + y → c ≡ 2 ^ 8 * d + x → w ≡ d → 2 ^ 24 * w + 2 ^ 16 * x + 2 ^ 8 * y + z ≡ n
+    sum d c b n w x y z p q r t = omega arith
 
 -- Where a frame's parts stand: the length of the rest in the first four bytes, the type in the next, the flags in four more, and
 -- then the two numbers and the payload. The rest is within the limit.
