@@ -8,3 +8,5 @@ pub mod Loops
 pub mod Pairs
 pub mod Actions
 pub mod Answers
+pub mod Laws
+pub mod Unique

@@ -1,0 +1,33 @@
+-- No second result meets a promise: for each public call, what its `ensures` says fixes the answer and the lent bytes.
+use mathlib.Core.Path.{_≡_, sym, _∙_}
+use mathlib.Core.Bool.{Bool}
+use mathlib.Core.List.{List}
+use Prim.Native.Nat.{ℕ}
+use lib.ListN.{length}
+use Rattle.varint.specs.declared.Written.{Written}
+use Rattle.varint.specs.Answer.{within}
+use Rattle.varint.specs.Promise.{Writes}
+use Rattle.varint.specs.Unique.{writes-unique}
+use Rattle.writer.specs.declared.Pair.{Pair}
+use Rattle.writer.specs.declared.Action.{Action}
+use Rattle.writer.specs.Pair.{pairRefusal}
+use Rattle.writer.specs.Action.{actionRefusal}
+use Rattle.writer.specs.Frame.{headOf, kvAnswer, actionsAnswer}
+
+pub check-pair-unique : (buffer : List ℕ) (p : Pair) (r q : ℕ) → r ≡ pairRefusal buffer p → q ≡ pairRefusal buffer p → r ≡ q
+check-pair-unique buffer p r q e f = e ∙ sym f
+
+pub check-action-unique : (buffer : List ℕ) (x : Action) (r q : ℕ) → r ≡ actionRefusal buffer x → q ≡ actionRefusal buffer x → r ≡ q
+check-action-unique buffer x r q e f = e ∙ sym f
+
+pub write-kv-unique : (kind : ℕ) (fin abort : Bool) (stream frame limit : ℕ) (buffer pairs : List ℕ) (count : ℕ) (r q : Written) (old new other : List ℕ)
+    → Writes (within (length old) (kvAnswer (headOf kind fin abort stream frame) limit buffer pairs count)) r old new
+    → Writes (within (length old) (kvAnswer (headOf kind fin abort stream frame) limit buffer pairs count)) q old other
+    → (r ≡ q) × (new ≡ other)
+write-kv-unique kind fin abort stream frame limit buffer pairs count r q old new other p s = writes-unique p s
+
+pub write-actions-unique : (fin abort : Bool) (stream frame limit : ℕ) (buffer actions : List ℕ) (count : ℕ) (r q : Written) (old new other : List ℕ)
+    → Writes (within (length old) (actionsAnswer (headOf 103 fin abort stream frame) limit buffer actions count)) r old new
+    → Writes (within (length old) (actionsAnswer (headOf 103 fin abort stream frame) limit buffer actions count)) q old other
+    → (r ≡ q) × (new ≡ other)
+write-actions-unique fin abort stream frame limit buffer actions count r q old new other p s = writes-unique p s
