@@ -85,6 +85,13 @@ uint64_t spop_write_kv(uint64_t type, bool fin, bool abort, uint64_t stream_id, 
                        const uint8_t *buffer, size_t buffer_len, const uint64_t *pairs, size_t pairs_len, uint64_t pair_count,
                        uint8_t *out, size_t out_len, uint64_t *at);
 
+/* Writes an action frame, type 103, with FIN alone. An action has seven numbers: 1 set or 2 unset, scope 0 to 4 (process, session,
+ * transaction, request, response), name start, name length, and a value's kind, a and b, which are 0 for an unset. An action's
+ * refusals, in this order: 14; 16 and 15 for its name; 16 and 15 for its value. */
+uint64_t spop_write_actions(bool fin, bool abort, uint64_t stream_id, uint64_t frame_id, uint32_t limit, const uint8_t *buffer,
+                            size_t buffer_len, const uint64_t *actions, size_t actions_len, uint64_t action_count, uint8_t *out,
+                            size_t out_len, uint64_t *at);
+
 /* The frame size that both sides can keep to: 0 with *at the smaller one, or 13 where either is under 256. */
 uint64_t spop_negotiate_max_frame_size(uint32_t theirs, uint32_t ours, uint64_t *at);
 

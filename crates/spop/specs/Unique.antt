@@ -11,7 +11,7 @@ use Rattle.types.specs.Value.{typed}
 use Rattle.types.specs.Form.{form, size}
 use Rattle.types.specs.Check.{refusal}
 use Rattle.frame.specs.declared.Head.{Head}
-use Rattle.writer.specs.Frame.{kvAnswer}
+use Rattle.writer.specs.Frame.{kvAnswer, actionsAnswer}
 use Rattle.hello.specs.Hello.{frameSize, announced, choice}
 use Rattle.spop.specs.Told.{Told, valueOf, chosenOf}
 use Rattle.spop.specs.Values.{recordIn, numbersOf}
@@ -91,11 +91,19 @@ pub spop-write-value-unique : (l buffer old new other : List ℕ) (r q at also :
     → (r ≡ q) × (at ≡ also) × (new ≡ other)
 spop-write-value-unique l buffer old new other r q at also p s = call-unique p s
 
-module _ (h : Head) (limit : ℕ) (buffer pairs : List ℕ) (count : ℕ) (old : List ℕ) where
-  abbrev kv : Answer (List ℕ)
-  kv = within (length old) (kvAnswer h limit buffer pairs count)
+-- of the writers of frames, whose answer goes by a table of records
+module _ (answer : Answer (List ℕ)) (old : List ℕ) where
+  abbrev Kept : List ℕ → ℕ → ℕ → Type 0
+  Kept new r at = Told (within (length old) answer) r at × (new ≡ leaves (within (length old) answer) old)
 
-  pub spop-write-kv-unique : (new other : List ℕ) (r q at also : ℕ)
-      → Told kv r at × (new ≡ leaves kv old) → Told kv q also × (other ≡ leaves kv old)
+  frame-unique : (new other : List ℕ) (r q at also : ℕ) → Kept new r at → Kept other q also → (r ≡ q) × (at ≡ also) × (new ≡ other)
+  frame-unique new other r q at also p s = call-unique p s
+
+module _ (h : Head) (limit : ℕ) (buffer table : List ℕ) (records : ℕ) (old new other : List ℕ) (r q at also : ℕ) where
+  pub spop-write-kv-unique : Kept (kvAnswer h limit buffer table records) old new r at → Kept (kvAnswer h limit buffer table records) old other q also
       → (r ≡ q) × (at ≡ also) × (new ≡ other)
-  spop-write-kv-unique new other r q at also p s = call-unique p s
+  spop-write-kv-unique = frame-unique (kvAnswer h limit buffer table records) old new other r q at also
+
+  pub spop-write-actions-unique : Kept (actionsAnswer h limit buffer table records) old new r at → Kept (actionsAnswer h limit buffer table records) old other q also
+      → (r ≡ q) × (at ≡ also) × (new ≡ other)
+  spop-write-actions-unique = frame-unique (actionsAnswer h limit buffer table records) old new other r q at also

@@ -1,0 +1,22 @@
+-- `spop::spop_write_actions` meets its contract: what the writer answers is told, and what it leaves is left.
+-- Assumes nothing.
+use borrow.Author.Needs.{needs}
+use Rattle.spop.specs.Told.{told-writes}
+use Rattle.spop.proofs.spop_write_actions.Statement.{statement}
+use Rattle.spop.proofs.spop_write_actions.Tie as tie
+
+write-actions-requires : tie.Need-write-actions-requires
+write-actions-requires c κs = search needs
+
+tell-requires : tie.Need-tell-requires
+tell-requires c κs = search needs
+
+same-length : tie.Need-same-length
+same-length c = search needs
+
+returns : tie.Need-returns
+returns c = let e = c .before .before .before .before .write-actions .ensures in (told-writes e (c .tell .ensures), e .holds)
+
+pub spop-write-actions-spec : {M : Type 1} → statement M
+spop-write-actions-spec =
+    tie.close (tie.spec write-actions-requires tell-requires same-length returns)
