@@ -374,8 +374,8 @@ fn why_not(value: Value, buffer: &[u8]) -> u64
     NO_ROOM
 }
 
-// Writes a value and says how many bytes it wrote: 0 where it is refused, since no written form is empty. That one number says it
-// all spares the writers of each class of kinds the making of a refusal.
+// Writes a value and says how many bytes it wrote: 0 where it is refused, since no written form is empty. One number stays in a
+// register, which an enum's cases from many branches do not.
 fn put_value(value: Value, buffer: &[u8], out: &mut [u8]) -> usize
     ensures { λ r. ⌜ Puts (within (length (now (out .entry))) (form (now (buffer .entry)) (recordOf value))) r (now (out .entry)) (now (out .exit)) ⌝ }
 {
