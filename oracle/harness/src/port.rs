@@ -45,6 +45,21 @@ c_calls! {
         out_len: usize,
         at: *mut u64
     ) -> u64;
+    fn spop_write_actions(
+        fin: bool,
+        abort: bool,
+        stream_id: u64,
+        frame_id: u64,
+        limit: u32,
+        buffer: *const u8,
+        buffer_len: usize,
+        actions: *const u64,
+        actions_len: usize,
+        action_count: u64,
+        out: *mut u8,
+        out_len: usize,
+        at: *mut u64
+    ) -> u64;
 }
 
 pub fn varint_len(n: u64) -> u64 {
@@ -142,6 +157,38 @@ pub fn write_kv(
             buffer.len(),
             pairs.as_ptr(),
             pairs.len(),
+            count,
+            out.as_mut_ptr(),
+            out.len(),
+            at,
+        )
+    }
+}
+
+/// FIN and ABORT are `flags`, the stream's and the frame's number are `ids`.
+#[allow(clippy::too_many_arguments)]
+pub fn write_actions(
+    flags: [bool; 2],
+    ids: [u64; 2],
+    limit: u32,
+    buffer: &[u8],
+    actions: &[u64],
+    count: u64,
+    out: &mut [u8],
+    at: &mut u64,
+) -> u64 {
+    // SAFETY: each slice is lent with its length, and nothing lent overlaps.
+    unsafe {
+        spop_write_actions(
+            flags[0],
+            flags[1],
+            ids[0],
+            ids[1],
+            limit,
+            buffer.as_ptr(),
+            buffer.len(),
+            actions.as_ptr(),
+            actions.len(),
             count,
             out.as_mut_ptr(),
             out.len(),

@@ -33,5 +33,6 @@ parts! {
     text,
     values,
     kv,
+    actions,
     hello,
 }
