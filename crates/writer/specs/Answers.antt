@@ -1,5 +1,6 @@
 -- Laws about a writer's answer: how it unrolls, test by test, and where the parts of its frame stand.
 use mathlib.Core.Path.{_≡_, refl, sym, ap, _∙_}
+use mathlib.Core.Logic.{⊎-elim}
 use mathlib.Core.Bool.{Bool, true, false}
 use mathlib.Core.List.{List, [], _++_, append-assoc}
 use Prim.Native.Nat.{ℕ, _+_, _*_, _^_, _≤_, _<_}
@@ -8,17 +9,19 @@ use lib.Dec.{eqb}
 use lib.ListN.{length, length-append}
 use borrow.Author.Tests.{le-leb, lt-leb, eq-eqb, ne-eqb, eqb-true, eqb-false}
 use Rattle.varint.specs.declared.Refusal.{Refusal}
-use Rattle.varint.specs.declared.Written.{Written}
-use Rattle.varint.specs.declared.Written.the-variants as w
-use Rattle.varint.specs.Answer.{Answer, refused, written}
+use Rattle.varint.specs.Answer.{Answer, refused, written, within}
+use Rattle.varint.specs.Promise.{Writes}
+use Rattle.varint.specs.Writing.{lt-or-le}
+use Rattle.varint.specs.Output.{writes-refusal, writes-short}
 use Rattle.utf8.specs.Stepping.{bool-cases}
 use Rattle.frame.specs.declared.Head.{Head}
 use Rattle.frame.specs.Head.{fourBytes, headBytes, frameBytes}
 use Rattle.frame.specs.Laws.{four-long}
-use Rattle.writer.specs.Table.{records, joined, alone, firstRefused}
+use Rattle.writer.specs.Table.{records, joined, alone, firstRefused, capped}
+use Rattle.writer.specs.Records.{capped-in, capped-below}
 use Rattle.writer.specs.Pair.{pairAt, pairBytes, kvRefusal}
 use Rattle.writer.specs.Action.{actionAt, actionBytes, actionRefusal}
-use Rattle.writer.specs.Frame.{limited, ofRecords, answer, kvAllowed, agentAllowed, kvAnswer, actionsAllowed, actionsAnswer}
+use Rattle.writer.specs.Frame.{refusedWith, frameRefusal, limited, ofRecords, answer, kvAllowed, agentAllowed, kvAnswer, actionsAllowed, actionsAnswer}
 
 -- ---- the limit
 
@@ -49,6 +52,51 @@ module _ (limit : ℕ) (h : Head) (payload : List ℕ) where
       ap length frame-parts
       ∙ length-append (fourBytes (length (headBytes h) + length payload) ++ headBytes h) payload
       ∙ ap (λ (n : ℕ). n + length payload) (start-length (length (headBytes h) + length payload))
+
+-- ---- 12 and 11, of a payload that was measured as far as the limit
+
+module _ (limit room behind : ℕ) where
+  pub refusal-over : limit < behind → frameRefusal limit room behind ≡ 12
+  unfolding frameRefusal
+  refusal-over l = rw (lt-leb behind limit l)
+
+  pub refusal-short : behind ≤ limit → room < 4 + behind → frameRefusal limit room behind ≡ 11
+  unfolding frameRefusal
+  refusal-short l g = rw (le-leb behind limit l, lt-leb (4 + behind) room g)
+
+  pub refusal-none : behind ≤ limit → 4 + behind ≤ room → frameRefusal limit room behind ≡ 0
+  unfolding frameRefusal
+  refusal-none l g = rw (le-leb behind limit l, le-leb (4 + behind) room g)
+
+module _ (limit : ℕ) (h : Head) (payload old : List ℕ) (n len : ℕ) (head-is : n ≡ length (headBytes h)) (is : len ≡ capped limit (length payload)) where
+  within-limit : n + len ≤ limit → len ≡ length payload
+  within-limit l = is ∙ capped-below limit (length payload) (omega arith)
+
+  over-limit : limit < n + len → limit < length (headBytes h) + length payload
+  over-limit l = ⊎-elim (λ g. omega arith) (λ g. omega (arith, capped-in limit (length payload) g)) (lt-or-le limit (length payload))
+
+  pub frame-passed : frameRefusal limit (length old) (n + len) ≡ 0 → (len ≡ length payload) × (n + len ≤ limit) × (4 + (n + len) ≤ length old)
+  frame-passed z =
+      ⊎-elim (λ l. absurd (omega (arith, refusal-over limit (length old) (n + len) l)))
+      (λ l. ⊎-elim (λ g. absurd (omega (arith, refusal-short limit (length old) (n + len) l g))) (λ g. (within-limit l, l, g)) (lt-or-le (length old) (4 + (n + len))))
+      (lt-or-le limit (n + len))
+
+  as-refused : (r m : ℕ) → r ≡ m → Writes (within (length old) (limited limit h payload)) (refusedWith m 0) old old
+      → Writes (within (length old) (limited limit h payload)) (refusedWith r 0) old old
+  as-refused r m e x = rw e x
+
+  pub frame-refused : (r : ℕ) → r ≡ frameRefusal limit (length old) (n + len) → (r ≡ 0 → ⊥) → Writes (within (length old) (limited limit h payload)) (refusedWith r 0) old old
+  frame-refused r e ne =
+      ⊎-elim
+      (λ l. as-refused r 12 (e ∙ refusal-over limit (length old) (n + len) l) (writes-refusal (length old) 12 0 old (limited-over limit h payload (over-limit l))))
+      (λ l. ⊎-elim
+      (λ g.
+      let k = within-limit l in
+      as-refused r 11 (e ∙ refusal-short limit (length old) (n + len) l g)
+      (writes-short (frameBytes h payload) old (limited-in limit h payload (omega arith)) (omega (arith, frame-length limit h payload))))
+      (λ g. absurd (ne (e ∙ refusal-none limit (length old) (n + len) l g)))
+      (lt-or-le (length old) (4 + (n + len))))
+      (lt-or-le limit (n + len))
 
 -- ---- the records
 

@@ -2,7 +2,7 @@
 -- (11 is varint's `within`.)
 use mathlib.Core.Bool.{Bool, true, false, cond, not}
 use mathlib.Core.List.{List, [], _++_}
-use Prim.Native.Nat.{ℕ, _*_}
+use Prim.Native.Nat.{ℕ, _+_, _*_}
 use lib.Dec.{eqb, leb}
 use lib.ListN.{length}
 use Rattle.varint.specs.declared.Refusal.{Refusal}
@@ -26,6 +26,10 @@ headOf kind fin abort stream frame = record { kind = kind; fin = fin; abort = ab
 -- the frame, or 12 where what follows its length bytes is over the limit
 unfoldable pub limited : ℕ → Head → List ℕ → Answer (List ℕ)
 limited limit h payload = cond (leb (length (headBytes h ++ payload)) limit) (written (frameBytes h payload)) (refused 12 0)
+
+-- the same with 11, as a number: of a frame with so many bytes behind its length bytes, where there is so much room
+unfoldable pub frameRefusal : ℕ → ℕ → ℕ → ℕ
+frameRefusal limit room behind = cond (leb behind limit) (cond (leb (4 + behind) room) 0 11) 12
 
 -- a refusal, or what comes where there is none
 abbrev pub unless : Refusal → Answer (List ℕ) → Answer (List ℕ)

@@ -12,7 +12,7 @@ use varint::Written;
 ghost use mathlib.Core.Path.{_≡_};
 ghost use mathlib.Core.Bool.{true};
 ghost use mathlib.Core.List.{[], _∷_};
-ghost use Prim.Native.Nat.{_+_, _*_, _≤_, _<_};
+ghost use Prim.Native.Nat.{_+_, _*_, _^_, _≤_, _<_};
 ghost use lib.ListN.{length};
 ghost use Rattle.varint.specs.Answer.{written, within, leaves};
 ghost use Rattle.varint.specs.Promise.{Writes};
@@ -21,7 +21,7 @@ ghost use Rattle.types.specs.Promise.{recordOf};
 ghost use Rattle.writer.specs.Table.{records, joined, some, alone, firstRefused, capped};
 ghost use Rattle.writer.specs.Pair.{pairAt, pairBytes, pairRefusal, sameKey, kvRefusal};
 ghost use Rattle.writer.specs.Action.{actionAt, noValue, actionWritable, actionBytes, actionRefusal};
-ghost use Rattle.writer.specs.Frame.{refusedWith, headOf, finAlone, agentAllowed, limited, kvAllowed, kvAnswer, actionsAnswer};
+ghost use Rattle.writer.specs.Frame.{refusedWith, frameRefusal, headOf, finAlone, agentAllowed, limited, kvAllowed, kvAnswer, actionsAnswer};
 ghost use Rattle.writer.specs.Loops.{Sound};
 
 // A key is met twice.
@@ -325,17 +325,10 @@ fn kv_frame(
     ensures { λ r. ⌜ Writes (within (length (now (out .entry))) (limited limit head (joined (pairBytes (now (buffer .entry))) (records (pairAt (now (pairs .entry))) 0 count)))) r (now (out .entry)) (now (out .exit)) ⌝ }
 {
     let n = frame::head_len(head);
-    if (limit as usize) < n {
-        return refuse(OVER_LIMIT);
-    }
-    let most = limit - n as u32;
-    let len = pairs_len(pairs, count, buffer, most);
-    if (most as u64) < len {
-        return refuse(OVER_LIMIT);
-    }
-    let behind = n + len as usize;
-    if out.len() < 4 + behind {
-        return refuse(NO_ROOM);
+    let behind = n + pairs_len(pairs, count, buffer, limit) as usize;
+    let number = frame_refusal(behind, limit, out.len());
+    if number != 0 {
+        return refuse(number);
     }
     frame::write_head(behind as u32, head, out);
     let start = 4 + n;
@@ -543,22 +536,31 @@ fn action_frame(
     ensures { λ r. ⌜ Writes (within (length (now (out .entry))) (limited limit head (joined (actionBytes (now (buffer .entry))) (records (actionAt (now (actions .entry))) 0 count)))) r (now (out .entry)) (now (out .exit)) ⌝ }
 {
     let n = frame::head_len(head);
-    if (limit as usize) < n {
-        return refuse(OVER_LIMIT);
-    }
-    let most = limit - n as u32;
-    let len = actions_len(actions, count, buffer, most);
-    if (most as u64) < len {
-        return refuse(OVER_LIMIT);
-    }
-    let behind = n + len as usize;
-    if out.len() < 4 + behind {
-        return refuse(NO_ROOM);
+    let behind = n + actions_len(actions, count, buffer, limit) as usize;
+    let number = frame_refusal(behind, limit, out.len());
+    if number != 0 {
+        return refuse(number);
     }
     frame::write_head(behind as u32, head, out);
     let start = 4 + n;
     put_actions(actions, count, buffer, &mut out[start..]);
     Written::Done(4 + behind)
+}
+
+// What a frame is refused with that has so many bytes behind its length bytes: 12 over the limit, 11 without room; else 0.
+fn frame_refusal(behind: usize, limit: u32, room: usize) -> u64
+    requires { ⌜ behind < 2 ^ 63 ⌝ }
+    ensures { λ r. ⌜ r ≡ frameRefusal limit room behind ⌝ }
+{
+    let most = limit as usize;
+    let whole = 4 + behind;
+    if most < behind {
+        return OVER_LIMIT;
+    }
+    if room < whole {
+        return NO_ROOM;
+    }
+    0
 }
 
 // A refusal at place 0.
