@@ -25,6 +25,7 @@ fn main() {
     numbers();
     texts();
     values();
+    frames();
     sizes();
 }
 
@@ -175,6 +176,99 @@ fn value(input: &[u8], kind: u64, marked: Answer) {
         Typed::Refused(r) => {
             refused(r);
             verdict(marked.number == r.number && marked.at == r.place);
+        },
+    }
+}
+
+// Frames that an agent sends, whole: two of pairs and one of actions, their records in order.
+fn frames() {
+    agent_hello();
+    agent_disconnect();
+    ack();
+}
+
+fn agent_hello() {
+    let pairs = [0, 7, 8, 33, 3, 7, 14, 3, 16_380, 0, 21, 12, 8, 0, 0];
+    let mut out = [0u8; 64];
+    let answer = writer::write_kv(
+        101,
+        true,
+        false,
+        0,
+        0,
+        16_384,
+        b"versionmax-frame-sizecapabilities2.0",
+        &pairs,
+        3,
+        &mut out,
+    );
+    written(
+        b"agent-hello: ",
+        answer,
+        &out,
+        b"\x00\x00\x00\x36\x65\x00\x00\x00\x01\x00\x00\x07version\x08\x032.0\x0Emax-frame-size\x03\xFC\xF0\x06\x0Ccapabilities\x08\x00",
+    );
+}
+
+fn agent_disconnect() {
+    let pairs = [0, 11, 3, 0, 0, 11, 7, 8, 18, 6];
+    let mut out = [0u8; 64];
+    let answer = writer::write_kv(
+        102,
+        true,
+        false,
+        0,
+        0,
+        16_384,
+        b"status-codemessagenormal",
+        &pairs,
+        2,
+        &mut out,
+    );
+    written(
+        b"agent-disconnect: ",
+        answer,
+        &out,
+        b"\x00\x00\x00\x25\x66\x00\x00\x00\x01\x00\x00\x0Bstatus-code\x03\x00\x07message\x08\x06normal",
+    );
+}
+
+fn ack() {
+    let actions = [1, 2, 0, 6, 3, 7, 0, 1, 2, 6, 6, 3, 300, 0];
+    let mut out = [0u8; 64];
+    let answer = writer::write_actions(
+        true,
+        false,
+        1,
+        2,
+        16_384,
+        b"slot_aslot_b",
+        &actions,
+        2,
+        &mut out,
+    );
+    written(
+        b"ack: ",
+        answer,
+        &out,
+        b"\x00\x00\x00\x20\x67\x00\x00\x00\x01\x01\x02\x01\x03\x02\x06slot_a\x03\x07\x01\x03\x02\x06slot_b\x03\xFC\x03",
+    );
+}
+
+fn written(name: &[u8], answer: Written, out: &[u8], marked: &[u8]) {
+    io::write_all(STDOUT_FILENO, name);
+    match answer {
+        Written::Done(k) => {
+            if out.len() < k {
+                verdict(false);
+                return;
+            }
+            print_bytes(&out[0..k]);
+            verdict(check::same(&out[0..k], marked));
+        },
+        Written::Refused(r) => {
+            refused(r);
+            verdict(false);
         },
     }
 }
