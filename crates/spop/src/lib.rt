@@ -229,8 +229,8 @@ fn tell(answer: Written, at: &mut u64) -> u64
     ensures { λ r. ⌜ Told (count answer) r (now (at .exit)) ⌝ }
 {
     match answer {
-        Written::Done(n) => {
-            *at = n as u64;
+        Written::Done(count) => {
+            *at = count as u64;
             DONE
         },
         Written::Refused(r) => refuse(r, at),
