@@ -10,7 +10,9 @@ use Rattle.varint.specs.Answer.{Answer, done, refused}
 unfoldable pub frameSize : ℕ → ℕ → Answer Unit
 frameSize theirs ours = cond (leb 256 theirs && leb 256 ours) (done tt (min theirs ours)) (refused 13 0)
 
--- One of the announced versions, of three numbers each, has the major number 2. One or two numbers at the end are no version.
+-- The agent's version is to be one that HAProxy supports, and "when a major version is announced by HAProxy, it means it also
+-- support all previous minor versions": so 2.0 is one where an announced version, of three numbers each, has the major number 2.
+-- One or two numbers at the end are no version.
 unfoldable pub announced : List ℕ → Bool
 announced [] = false
 announced (major ∷ []) = false

@@ -135,7 +135,8 @@ typed (b ∷ s) = behind moved 1 (content (shape (b % 16)) (b % 16) (b / 16) s)
 -- ---- fields
 
 -- Document 01's 14: whether a kind's two numbers lie in their fields. An unused number is 0, an i32's number is its sign
--- extension to 64 bits, an address has its length, and no number passes 64 bits.
+-- extension to 64 bits, an address has its length, and no integer or length passes 64 bits. A start has no field of its own: one
+-- that is too large points outside, which is 16.
 abbrev pub both : Bool → Bool → Bool
 both p q = cond p q false
 
