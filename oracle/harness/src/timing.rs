@@ -3,7 +3,7 @@
 use std::time::{Duration, Instant};
 
 /// Timed runs of each side. The best counts, since anything else on the machine only adds time.
-const RUNS: usize = 25;
+const RUNS: usize = 60;
 
 /// Long enough that reading the clock does not show.
 const RUN: Duration = Duration::from_millis(4);

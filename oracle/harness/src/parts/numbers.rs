@@ -342,8 +342,9 @@ fn timed_numbers(random: &mut Random, least: usize, most: usize) -> Vec<u64> {
     std::iter::repeat_with(draw).take(TIMED).collect()
 }
 
-// The port is called through C into a library of its own. These keep the original behind a call
-// too, instead of in the middle of the loop that times it.
+// The port is called through C into a library of its own, by the address that the linker gives.
+// These keep the original behind a call too, and the loops reach it by an address as well:
+// at one to two nanoseconds for a call, the kind of call is half of what is timed.
 
 #[inline(never)]
 fn rust_length(n: u64) -> usize {
@@ -366,6 +367,7 @@ fn time_length(name: &str, numbers: &[u64]) {
             black_box(port::varint_len(black_box(n)));
         }
     };
+    let rust_length: fn(u64) -> usize = black_box(rust_length);
     let rust = || {
         for &n in numbers {
             black_box(rust_length(black_box(n)));
@@ -383,6 +385,7 @@ fn time_encode(name: &str, numbers: &[u64]) {
         }
     };
     let mut grown = Vec::with_capacity(16);
+    let rust_encode: fn(u64, &mut Vec<u8>) = black_box(rust_encode);
     let rust = || {
         for &n in numbers {
             grown.clear();
@@ -411,6 +414,7 @@ fn time_decode(name: &str, numbers: &[u64]) {
             }
         }
     };
+    let rust_decode: fn(&[u8]) -> nom::IResult<&[u8], u64> = black_box(rust_decode);
     let rust = || {
         for &start in &starts {
             let input = black_box(&bytes[start..]);

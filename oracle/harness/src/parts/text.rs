@@ -336,6 +336,7 @@ fn time_form(name: &str, texts: &[Vec<u8>]) {
             black_box(port::is_utf8(black_box(text)));
         }
     };
+    let rust_form: fn(&[u8]) -> bool = black_box(rust_form);
     let rust = || {
         for text in texts {
             black_box(rust_form(black_box(text)));
@@ -353,6 +354,7 @@ fn time_lossy(name: &str, texts: &[Vec<u8>]) {
         }
     };
     let mut filled = [0; 192];
+    let rust_lossy: fn(&[u8], &mut [u8]) -> usize = black_box(rust_lossy);
     let rust = || {
         for text in texts {
             black_box(rust_lossy(black_box(text), &mut filled));
@@ -370,6 +372,7 @@ fn time_sameness(name: &str, texts: &[Vec<u8>]) {
             black_box(port::same_text(black_box(text), black_box(copy)));
         }
     };
+    let rust_sameness: fn(&[u8], &[u8]) -> bool = black_box(rust_sameness);
     let rust = || {
         for (text, copy) in texts.iter().zip(&copies) {
             black_box(rust_sameness(black_box(text), black_box(copy)));

@@ -399,6 +399,7 @@ fn time_reading(name: &str, values: &[Timed]) {
             }
         }
     };
+    let rust_read: fn(&[u8]) -> nom::IResult<&[u8], TypedData> = black_box(rust_read);
     let rust = || {
         for one in values {
             if let Ok((rest, value)) = rust_read(black_box(&one.bytes)) {
@@ -420,6 +421,7 @@ fn time_writing(name: &str, values: &[Timed]) {
         }
     };
     let mut grown = Vec::with_capacity(64);
+    let rust_write: fn(&TypedData, &mut Vec<u8>) = black_box(rust_write);
     let rust = || {
         for one in values {
             grown.clear();
