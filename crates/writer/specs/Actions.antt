@@ -14,7 +14,7 @@ use Rattle.types.specs.Promise.{recordOf}
 use Rattle.writer.specs.declared.Action.{Action}
 use Rattle.writer.specs.Pair.{keyOf, pairBytes, pairRefusal}
 use Rattle.writer.specs.Action.{noValue, actionWritable, actionBytes, actionRefusal}
-use Rattle.writer.specs.Pairs.{string-long, passed-key}
+use Rattle.writer.specs.Pairs.{string-long, formed-passed}
 
 module _ (x : Action) where
   pub scope-out : 4 < x .scope → actionWritable x ≡ false
@@ -69,7 +69,7 @@ module _ (buffer : List ℕ) (x : Action) where
     passed-pair = sym (action-pair passed-action) ∙ e
 
     pub unset-long : (x .verb ≡ 1 → ⊥) → length (actionBytes buffer x) ≡ 3 + (length (numberBytes (x .pair .len)) + x .pair .len)
-    unset-long ne = ap length (unset-bytes ne) ∙ omega (arith, string-long buffer (x .pair .start) (x .pair .len) (passed-key buffer (x .pair) passed-pair))
+    unset-long ne = ap length (unset-bytes ne) ∙ omega (arith, string-long buffer (x .pair .start) (x .pair .len) (formed-passed buffer (x .pair) passed-pair .key))
 
     pub set-long : x .verb ≡ 1 → length (actionBytes buffer x) ≡ 3 + length (pairBytes buffer (x .pair))
     set-long s = ap length (set-bytes s) ∙ omega arith

@@ -11,7 +11,7 @@ use Rattle.varint.specs.declared.Written.the-variants as w
 use Rattle.varint.specs.Answer.{Answer, refused, written}
 use Rattle.types.specs.Value.{both}
 use Rattle.frame.specs.declared.Head.{Head}
-use Rattle.frame.specs.Head.{headBytes, frameBytes}
+use Rattle.frame.specs.Head.{fourBytes, headBytes, frameBytes}
 use Rattle.writer.specs.Table.{records, joined, alone, firstRefused}
 use Rattle.writer.specs.Pair.{pairAt, pairBytes, kvRefusal}
 use Rattle.writer.specs.Action.{actionAt, actionBytes, actionRefusal}
@@ -27,9 +27,12 @@ headOf kind fin abort stream frame = record { kind = kind; fin = fin; abort = ab
 unfoldable pub limited : ℕ → Head → List ℕ → Answer (List ℕ)
 limited limit h payload = cond (leb (length (headBytes h ++ payload)) limit) (written (frameBytes h payload)) (refused 12 0)
 
--- the same with 11, as a number: of a frame with so many bytes behind its length bytes, where there is so much room
-unfoldable pub frameRefusal : ℕ → ℕ → ℕ → ℕ
-frameRefusal limit room behind = cond (leb behind limit) (cond (leb (4 + behind) room) 0 11) 12
+-- The front of a frame whose payload is to have so many bytes, where there is so much room: the length bytes and the head, or 12
+-- or 11 of the whole frame.
+unfoldable pub begun : ℕ → ℕ → Head → ℕ → Answer (List ℕ)
+begun room limit h len =
+    let behind = length (headBytes h) + len in
+    cond (leb behind limit) (cond (leb (4 + behind) room) (written (fourBytes behind ++ headBytes h)) (refused 11 0)) (refused 12 0)
 
 -- a refusal, or what comes where there is none
 abbrev pub unless : Refusal → Answer (List ℕ) → Answer (List ℕ)

@@ -249,3 +249,12 @@ first-from refuses at (suc k) i = rw (one-first at k i) (first-step refuses at i
 -- Law: the record that a list is refused with is the first of its records that is, and with number 0 none is.
 pub first-is : {A : Type 0} (refuses : List A → A → ℕ) (at : ℕ → A) (count : ℕ) → First refuses at 0 count (firstRefused refuses 0 [] (records at 0 count))
 first-is refuses at count = rw (none-left at 0) at (first-from refuses at count 0)
+
+-- Law: where no record is refused, each passes behind those before it.
+pub none-before : {A : Type 0} (refuses : List A → A → ℕ) (at : ℕ → A) (count : ℕ) → firstRefused refuses 0 [] (records at 0 count) .number ≡ 0
+    → (i : ℕ) → i < count → refuses (records at 0 i) (at i) ≡ 0
+none-before refuses at count z i h = by-case (first-is refuses at count)
+  where
+    by-case : First refuses at 0 count (firstRefused refuses 0 [] (records at 0 count)) → refuses (records at 0 i) (at i) ≡ 0
+    by-case (none e f) = f i (omega arith) (omega arith)
+    by-case (one ne l g e f) = absurd (ne z)

@@ -8,7 +8,8 @@ use native.Mathlib.Omega.{arith}
 use native.Mathlib.Decide.{ℕ-discrete}
 use lib.Dec.{eqb}
 use lib.ListN.{length, length-append, length-take, length-drop}
-use borrow.Author.Tests.{eq-eqb, ne-eqb, eqb-true, eqb-false, leb-true}
+use borrow.Author.Tests.{le-leb, lt-leb, eq-eqb, ne-eqb, eqb-true, eqb-false, leb-true}
+use Rattle.varint.specs.Answer.{refused, written}
 use Rattle.varint.specs.Number.{numberBytes}
 use Rattle.varint.specs.Writing.{lt-or-le, length-most}
 use Rattle.utf8.specs.Stepping.{bool-cases}
@@ -16,23 +17,22 @@ use Rattle.types.specs.Value.{Record, value}
 use Rattle.types.specs.Form.{part, inside, stringBytes, valueBytes, writableRecord, ranged, form, size}
 use Rattle.types.specs.Check.{stringRefusal, partRefusal}
 use Rattle.types.specs.Promise.{recordOf}
-use Rattle.types.specs.Writing.{shape-cases, bytes-at, string-length, part-length, form-whole, value-bytes}
+use Rattle.types.specs.Writing.{shape-cases, bytes-at, value-some, string-length, part-length, form-unwritable, form-outside, form-whole}
 use Rattle.types.specs.Checking.{string-passed, part-passed}
 use Rattle.writer.specs.declared.Pair.{Pair}
 use Rattle.writer.specs.Table.{some}
-use Rattle.writer.specs.Pair.{keyOf, pairAt, pairBytes, pairRefusal, sameKey, kvRefusal}
+use Rattle.writer.specs.Pair.{keyOf, pairAt, pairBytes, pairForm, pairRefusal, sameKey, kvRefusal}
 
 -- ---- strings and values
 
--- a string that passes lies inside its buffer, and its written form is as long as its length says
-module _ (buffer : List ℕ) (start len : ℕ) (e : stringRefusal buffer start len ≡ 0) where
-  pub string-range : start + len ≤ length buffer
-  string-range = leb-true (start + len) (length buffer) (string-passed buffer start len e .0)
+-- a string that passes lies inside its buffer
+pub string-range : (buffer : List ℕ) (start len : ℕ) → stringRefusal buffer start len ≡ 0 → start + len ≤ length buffer
+string-range buffer start len e = leb-true (start + len) (length buffer) (string-passed buffer start len e .0)
 
-  pub string-long : length (stringBytes (part buffer start len)) ≡ length (numberBytes len) + len
-  string-long =
-      string-length (part buffer start len)
-      ∙ ap (λ (n : ℕ). length (numberBytes n) + n) (part-length buffer start len string-range)
+-- and then its written form is as long as its length says
+pub string-long : (buffer : List ℕ) (start len : ℕ) → start + len ≤ length buffer → length (stringBytes (part buffer start len)) ≡ length (numberBytes len) + len
+string-long buffer start len h =
+    string-length (part buffer start len) ∙ ap (λ (n : ℕ). length (numberBytes n) + n) (part-length buffer start len h)
 
 -- a value's written form has at most eleven bytes beside those that it points at
 pub value-most : (buffer : List ℕ) (v : Record) → length (valueBytes buffer v) ≤ 11 + length buffer
@@ -86,9 +86,68 @@ module _ (buffer : List ℕ) (p : Pair) (e : pairRefusal buffer p ≡ 0) where
       let v = p .value in
       part-passed buffer (v .kind) (v .a) (v .b) (sym (pair-part buffer p passed-fields passed-key) ∙ e) .0
 
+-- A pair that has a written form.
+pub record Formed (buffer : List ℕ) (p : Pair) : Type 0 where
+  pub fields : writableRecord (recordOf (p .value)) ≡ true
+  pub key : p .start + p .len ≤ length buffer
+  pub range : ranged buffer (recordOf (p .value)) ≡ true
+
+-- one that passes is such a pair
+pub formed-passed : (buffer : List ℕ) (p : Pair) → pairRefusal buffer p ≡ 0 → Formed buffer p
+formed-passed buffer p e =
+    record {
+      fields = passed-fields buffer p e;
+      key = string-range buffer (p .start) (p .len) (passed-key buffer p e);
+      range = passed-range buffer p e;
+    }
+
+module _ (buffer : List ℕ) (p : Pair) where
+  pub form-fields : writableRecord (recordOf (p .value)) ≡ false → pairForm buffer p ≡ refused 14 0
+  unfolding pairForm
+  form-fields h = rw h
+
+  pub form-key : writableRecord (recordOf (p .value)) ≡ true → length buffer < p .start + p .len → pairForm buffer p ≡ refused 16 0
+  unfolding pairForm
+  form-key h k = rw (h, lt-leb (p .start + p .len) (length buffer) k)
+
+  pub form-range : writableRecord (recordOf (p .value)) ≡ true → p .start + p .len ≤ length buffer → ranged buffer (recordOf (p .value)) ≡ false
+      → pairForm buffer p ≡ refused 16 0
+  unfolding pairForm
+  form-range h k r = rw (h, le-leb (p .start + p .len) (length buffer) k, r)
+
+module _ {buffer : List ℕ} {p : Pair} (f : Formed buffer p) where
+  pub pair-whole : pairForm buffer p ≡ written (pairBytes buffer p)
+  unfolding pairForm
+  pair-whole = rw (f .fields, le-leb (p .start + p .len) (length buffer) (f .key), f .range)
+
   pub pair-long : length (pairBytes buffer p) ≡ length (numberBytes (p .len)) + p .len + length (valueBytes buffer (recordOf (p .value)))
   unfolding pairBytes
-  pair-long = simp length-append (omega (arith, string-long buffer (p .start) (p .len) passed-key))
+  pair-long = simp length-append (omega (arith, string-long buffer (p .start) (p .len) (f .key)))
+
+pub pair-size : (buffer : List ℕ) (p : Pair) → pairRefusal buffer p ≡ 0 → size (pairForm buffer p) ≡ length (pairBytes buffer p)
+pair-size buffer p e = ap size (pair-whole (formed-passed buffer p e))
+
+-- without a form there is no length: of a key outside the buffer, and of a value that has none
+pub size-key : (buffer : List ℕ) (p : Pair) → length buffer < p .start + p .len → size (pairForm buffer p) ≡ 0
+size-key buffer p k =
+    bool-cases (writableRecord (recordOf (p .value))) (λ h. ap size (form-key buffer p h k)) (λ h. ap size (form-fields buffer p h))
+
+pub size-value : (buffer : List ℕ) (p : Pair) → p .start + p .len ≤ length buffer → size (form buffer (recordOf (p .value))) ≡ 0 → size (pairForm buffer p) ≡ 0
+size-value buffer p k z =
+    bool-cases (writableRecord (recordOf (p .value)))
+    (λ h. bool-cases (ranged buffer (recordOf (p .value)))
+    (λ r. absurd (omega (arith, value-some buffer (p .value .kind) (p .value .a) (p .value .b) h, value-long buffer (recordOf (p .value)) h r)))
+    (λ r. ap size (form-range buffer p h k r)))
+    (λ h. ap size (form-fields buffer p h))
+
+-- with a value's length there is one
+pub size-formed : (buffer : List ℕ) (p : Pair) → p .start + p .len ≤ length buffer → (size (form buffer (recordOf (p .value))) ≡ 0 → ⊥) → Formed buffer p
+size-formed buffer p k some =
+    bool-cases (writableRecord (recordOf (p .value)))
+    (λ h. bool-cases (ranged buffer (recordOf (p .value)))
+    (λ r. record { fields = h; key = k; range = r })
+    (λ r. absurd (some (ap size (form-outside buffer (recordOf (p .value)) h r)))))
+    (λ h. absurd (some (ap size (form-unwritable buffer (recordOf (p .value)) h))))
 
 pub pair-bytes : (buffer : List ℕ) (p : Pair) → pairBytes buffer p ≡ stringBytes (keyOf buffer p) ++ valueBytes buffer (recordOf (p .value))
 unfolding pairBytes

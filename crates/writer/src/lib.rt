@@ -13,16 +13,18 @@ ghost use mathlib.Core.Path.{_≡_};
 ghost use mathlib.Core.Bool.{true};
 ghost use mathlib.Core.List.{[], _∷_};
 ghost use Prim.Native.Nat.{_+_, _*_, _^_, _≤_, _<_};
+ghost use lib.Dec.{leb};
 ghost use lib.ListN.{length};
 ghost use Rattle.varint.specs.Answer.{written, within, leaves};
 ghost use Rattle.varint.specs.Promise.{Writes};
-ghost use Rattle.types.specs.Form.{inside, stringBytes, valueBytes, writableRecord, ranged};
+ghost use Rattle.types.specs.Form.{inside, stringBytes, valueBytes, writableRecord, ranged, size};
 ghost use Rattle.types.specs.Promise.{recordOf};
 ghost use Rattle.writer.specs.Table.{records, joined, some, alone, firstRefused, capped};
-ghost use Rattle.writer.specs.Pair.{pairAt, pairBytes, pairRefusal, sameKey, kvRefusal};
+ghost use Rattle.writer.specs.Pair.{pairAt, pairBytes, pairForm, pairRefusal, sameKey, kvRefusal};
 ghost use Rattle.writer.specs.Action.{actionAt, noValue, actionWritable, actionBytes, actionRefusal};
-ghost use Rattle.writer.specs.Frame.{refusedWith, frameRefusal, headOf, finAlone, agentAllowed, limited, kvAllowed, kvAnswer, actionsAnswer};
+ghost use Rattle.writer.specs.Frame.{refusedWith, headOf, finAlone, agentAllowed, begun, limited, kvAllowed, kvAnswer, actionsAnswer};
 ghost use Rattle.writer.specs.Loops.{Sound};
+ghost use Rattle.writer.specs.Pairs.{Formed};
 
 // A key is met twice.
 pub const MET_TWICE: u64 = 9;
@@ -136,7 +138,7 @@ fn check_pairs(pairs: &[u64], count: usize, buffer: &[u8]) -> Refusal
 }
 
 // A length as far as it matters: all that is over `most` is one more than it.
-fn cap(n: u64, most: u32) -> u64
+pub fn cap(n: u64, most: u32) -> u64
     ensures { λ r. ⌜ r ≡ capped most n ⌝ }
 {
     if n <= most as u64 {
@@ -145,13 +147,19 @@ fn cap(n: u64, most: u32) -> u64
     most as u64 + 1
 }
 
-// How many bytes the written form of a pair has.
-fn pair_len(pair: Pair, buffer: &[u8], most: u32) -> u64
-    requires { ⌜ pairRefusal (now buffer) pair ≡ 0 ⌝ }
-    ensures { λ r. ⌜ r ≡ capped most (length (pairBytes (now (buffer .entry)) pair)) ⌝ }
+// How many bytes the written form of a pair has, as far as it matters; 0 where it has none.
+pub fn pair_len(pair: Pair, buffer: &[u8], most: u32) -> u64
+    ensures { λ r. ⌜ r ≡ capped most (size (pairForm (now (buffer .entry)) pair)) ⌝ }
 {
+    if !types::part_inside(pair.start, pair.len, buffer) {
+        return 0;
+    }
+    let value = types::value_len(pair.value, buffer) as u64;
+    if value == 0 {
+        return 0;
+    }
     let key = cap(varint::varint_len(pair.len) as u64 + pair.len, most);
-    cap(key + types::value_len(pair.value, buffer) as u64, most)
+    cap(key + value, most)
 }
 
 // How many bytes the first records of a table have.
@@ -203,9 +211,9 @@ fn put_value(value: Value, buffer: &[u8], out: &mut [u8]) -> usize
     }
 }
 
-// Writes a pair where there is room.
+// Writes a pair that has a written form, where there is room.
 fn put_pair(pair: Pair, buffer: &[u8], out: &mut [u8]) -> usize
-    requires { ⌜ pairRefusal (now buffer) pair ≡ 0 ⌝ }
+    requires { ⌜ Formed (now buffer) pair ⌝ }
     requires { ⌜ length (pairBytes (now buffer) pair) ≤ length (now out) ⌝ }
     ensures { λ r. ⌜ r ≡ length (pairBytes (now (buffer .entry)) pair) ⌝ }
     ensures { λ r. ⌜ now (out .exit) ≡ leaves (written (pairBytes (now (buffer .entry)) pair)) (now (out .entry)) ⌝ }
@@ -214,6 +222,38 @@ fn put_pair(pair: Pair, buffer: &[u8], out: &mut [u8]) -> usize
     let to = from + pair.len as usize;
     let n = put_string(&buffer[from..to], out);
     n + put_value(pair.value, buffer, &mut out[n..])
+}
+
+// Whether the written form of a pair has at most `room` bytes. The key's bytes are compared by themselves, since the sum of all may
+// pass 64 bits.
+fn pair_fits(pair: Pair, buffer: &[u8], room: usize) -> bool
+    requires { ⌜ Formed (now buffer) pair ⌝ }
+    ensures { λ r. ⌜ r ≡ leb (length (pairBytes (now (buffer .entry)) pair)) room ⌝ }
+{
+    let beside = varint::varint_len(pair.len) + types::value_len(pair.value, buffer);
+    if room < beside {
+        return false;
+    }
+    pair.len as usize <= room - beside
+}
+
+// Writes a pair at the front of `out`. As of a value, it is not asked whether its texts are UTF-8: that is `check_pair`.
+pub fn write_pair(pair: Pair, buffer: &[u8], out: &mut [u8]) -> Written
+    ensures { λ r. ⌜ Writes (within (length (now (out .entry))) (pairForm (now (buffer .entry)) pair)) r (now (out .entry)) (now (out .exit)) ⌝ }
+{
+    if !types::writable(pair.value) {
+        return refuse(NOT_WRITABLE);
+    }
+    if !types::part_inside(pair.start, pair.len, buffer) {
+        return refuse(OUTSIDE);
+    }
+    if !types::in_range(pair.value, buffer) {
+        return refuse(OUTSIDE);
+    }
+    if !pair_fits(pair, buffer, out.len()) {
+        return refuse(NO_ROOM);
+    }
+    Written::Done(put_pair(pair, buffer, out))
 }
 
 // Writes the first records of a table, one after the other, where there is room.
@@ -324,16 +364,17 @@ fn kv_frame(
     requires { ⌜ Sound (pairRefusal (now buffer)) (pairAt (now pairs)) count ⌝ }
     ensures { λ r. ⌜ Writes (within (length (now (out .entry))) (limited limit head (joined (pairBytes (now (buffer .entry))) (records (pairAt (now (pairs .entry))) 0 count)))) r (now (out .entry)) (now (out .exit)) ⌝ }
 {
-    let n = frame::head_len(head);
-    let behind = n + pairs_len(pairs, count, buffer, limit) as usize;
-    let number = frame_refusal(behind, limit, out.len());
-    if number != 0 {
-        return refuse(number);
+    let len = pairs_len(pairs, count, buffer, limit);
+    let begun = begin_frame(head, len, limit, out);
+    match begun {
+        Written::Done(start) => {
+            put_pairs(pairs, count, buffer, &mut out[start..]);
+            return Written::Done(start + len as usize);
+        },
+        Written::Refused(r) => {
+            return Written::Refused(r);
+        },
     }
-    frame::write_head(behind as u32, head, out);
-    let start = 4 + n;
-    put_pairs(pairs, count, buffer, &mut out[start..]);
-    Written::Done(4 + behind)
 }
 
 // Record i of a table of actions.
@@ -535,32 +576,35 @@ fn action_frame(
     requires { ⌜ Sound (actionRefusal (now buffer)) (actionAt (now actions)) count ⌝ }
     ensures { λ r. ⌜ Writes (within (length (now (out .entry))) (limited limit head (joined (actionBytes (now (buffer .entry))) (records (actionAt (now (actions .entry))) 0 count)))) r (now (out .entry)) (now (out .exit)) ⌝ }
 {
-    let n = frame::head_len(head);
-    let behind = n + actions_len(actions, count, buffer, limit) as usize;
-    let number = frame_refusal(behind, limit, out.len());
-    if number != 0 {
-        return refuse(number);
+    let len = actions_len(actions, count, buffer, limit);
+    let begun = begin_frame(head, len, limit, out);
+    match begun {
+        Written::Done(start) => {
+            put_actions(actions, count, buffer, &mut out[start..]);
+            return Written::Done(start + len as usize);
+        },
+        Written::Refused(r) => {
+            return Written::Refused(r);
+        },
     }
-    frame::write_head(behind as u32, head, out);
-    let start = 4 + n;
-    put_actions(actions, count, buffer, &mut out[start..]);
-    Written::Done(4 + behind)
 }
 
-// What a frame is refused with that has so many bytes behind its length bytes: 12 over the limit, 11 without room; else 0.
-fn frame_refusal(behind: usize, limit: u32, room: usize) -> u64
-    requires { ⌜ behind < 2 ^ 63 ⌝ }
-    ensures { λ r. ⌜ r ≡ frameRefusal limit room behind ⌝ }
+// Writes the length bytes and the head of a frame whose payload is to have `len` bytes, where the whole frame is within the limit
+// and finds room: else 12, or 11.
+pub fn begin_frame(head: Head, len: u64, limit: u32, out: &mut [u8]) -> Written
+    ensures { λ r. ⌜ Writes (begun (length (now (out .entry))) limit head len) r (now (out .entry)) (now (out .exit)) ⌝ }
 {
-    let most = limit as usize;
-    let whole = 4 + behind;
-    if most < behind {
-        return OVER_LIMIT;
+    if (limit as u64) < len {
+        return refuse(OVER_LIMIT);
     }
-    if room < whole {
-        return NO_ROOM;
+    let behind = frame::head_len(head) + len as usize;
+    if (limit as usize) < behind {
+        return refuse(OVER_LIMIT);
     }
-    0
+    if out.len() < 4 + behind {
+        return refuse(NO_ROOM);
+    }
+    frame::write_head(behind as u32, head, out)
 }
 
 // A refusal at place 0.

@@ -9,7 +9,7 @@ use Rattle.varint.specs.Writing.{length-most}
 use Rattle.writer.specs.Table.{capped}
 use Rattle.writer.specs.Records.{capped-right, capped-most}
 use Rattle.writer.specs.Pair.{pairBytes}
-use Rattle.writer.specs.Pairs.{string-range, passed-key}
+use Rattle.writer.specs.Pairs.{formed-passed, pair-size}
 use Rattle.writer.specs.Actions.{passed-pair, set-long, unset-long}
 use Rattle.writer.proofs.action_len.Statement.{statement}
 use Rattle.writer.proofs.action_len.Tie as tie
@@ -17,15 +17,23 @@ use Rattle.writer.proofs.action_len.Tie as tie
 range : (c : tie.Start) → let a = c .args in a .action .pair .start + a .action .pair .len ≤ length (a .buffer .now)
 range c =
     let a = c .args in
-    string-range (a .buffer .now) (a .action .pair .start) (a .action .pair .len) (passed-key (a .buffer .now) (a .action .pair) (passed-pair (a .buffer .now) (a .action) (c .pre)))
+    formed-passed (a .buffer .now) (a .action .pair) (passed-pair (a .buffer .now) (a .action) (c .pre)) .key
 
 pair-len-requires : tie.Need-pair-len-requires
-pair-len-requires c κs = let s = c .before .before .before in passed-pair (s .args .buffer .now) (s .args .action) (s .pre)
+pair-len-requires c κs = search needs
+
+length-is : (c : tie.After-pair-len)
+    → let a = c .before .before .before .before .args in
+    c .pair-len .result ≡ capped (a .most) (length (pairBytes (a .buffer .now) (a .action .pair)))
+length-is c =
+    let s = c .before .before .before .before in
+    let a = s .args in
+    c .pair-len .ensures ∙ ap (capped (a .most)) (pair-size (a .buffer .now) (a .action .pair) (passed-pair (a .buffer .now) (a .action) (s .pre)))
 
 add-cap : tie.Need-add-cap
 add-cap c = let s = c .before .before .before .before in
     let a = s .args in
-    omega (arith, c .pair-len .ensures, capped-most (a .most) (length (pairBytes (a .buffer .now) (a .action .pair))), s .fits)
+    omega (arith, length-is c, capped-most (a .most) (length (pairBytes (a .buffer .now) (a .action .pair))), s .fits)
 
 cap-requires : tie.Need-cap-requires
 cap-requires c κs = search needs
@@ -36,7 +44,7 @@ returns c = let k = c .before in
     let s = t .before .before .before in
     let a = s .args in
     c .cap .ensures
-    ∙ ap (λ (n : ℕ). capped (a .most) (3 + n)) (k .pair-len .ensures)
+    ∙ ap (λ (n : ℕ). capped (a .most) (3 + n)) (length-is k)
     ∙ capped-right (a .most) 3 (length (pairBytes (a .buffer .now) (a .action .pair)))
     ∙ ap (capped (a .most)) (sym (set-long (a .buffer .now) (a .action) (s .pre) (t .if1 .taken)))
 

@@ -1,15 +1,17 @@
 -- `writer::pairs_len` meets its contract: the loop measures one record after the other.
 -- Assumes nothing.
 use borrow.Author.Needs.{needs}
-use mathlib.Core.Path.{_≡_, sym, ap, _∙_}
+use mathlib.Core.Path.{_≡_, ap, _∙_}
 use Prim.Native.Nat.{ℕ, _+_, _-_}
 use native.Mathlib.Omega.{arith}
 use lib.ListN.{length}
+use Rattle.types.specs.Form.{size}
 use Rattle.writer.specs.declared.Pair.{Pair}
 use Rattle.writer.specs.Table.{capped}
 use Rattle.writer.specs.Records.{capped-most}
 use Rattle.writer.specs.Loops.{Measuring, measuring-none, measuring-on, measuring-all}
-use Rattle.writer.specs.Pair.{pairAt, pairBytes, pairRefusal}
+use Rattle.writer.specs.Pair.{pairAt, pairBytes, pairForm}
+use Rattle.writer.specs.Pairs.{pair-size}
 use Rattle.writer.proofs.pairs_len.Statement.{statement}
 use Rattle.writer.proofs.pairs_len.Tie as tie
 
@@ -26,16 +28,27 @@ pair-at-requires : tie.Need-pair-at-requires Inv-loop μ-loop
 pair-at-requires c κs = omega (arith, c .before .before .before .before .pre .0)
 
 pair-len-requires : tie.Need-pair-len-requires Inv-loop μ-loop
-pair-len-requires c κs =
-    let l = c .before .before in
+pair-len-requires c κs = search needs
+
+-- the record's length as far as it matters: it is not refused, so it has one
+length-is : (c : tie.After-pair-len Inv-loop μ-loop)
+    → let l = c .before .before .before in
+    let a = l .before .before .before .args in
+    c .pair-len .result ≡ capped (a .most) (length (pairBytes (a .buffer .now) (pairAt (a .pairs .now) (l .loop .i))))
+length-is c =
+    let t = c .before .before in
+    let l = t .before in
     let s = l .before .before .before in
-    ap (pairRefusal (s .args .buffer .now)) (c .pair-at .ensures) ∙ s .pre .1 .each (l .loop .i) (c .before .loop-test .taken)
+    let a = s .args in
+    c .pair-len .ensures
+    ∙ ap (λ (p : Pair). capped (a .most) (size (pairForm (a .buffer .now) p))) (c .before .pair-at .ensures)
+    ∙ ap (capped (a .most)) (pair-size (a .buffer .now) (pairAt (a .pairs .now) (l .loop .i)) (s .pre .1 .each (l .loop .i) (t .loop-test .taken)))
 
 add-cap : tie.Need-add-cap Inv-loop μ-loop
 add-cap c =
     let l = c .before .before .before in
-    let s = l .before .before .before in
-    omega (arith, l .loop .inv .small, c .pair-len .ensures, capped-most (s .args .most) (length (pairBytes (s .args .buffer .now) (c .before .pair-at .result))), s .fits)
+    let a = l .before .before .before .args in
+    omega (arith, l .loop .inv .small, length-is c, capped-most (a .most) (length (pairBytes (a .buffer .now) (pairAt (a .pairs .now) (l .loop .i)))), l .before .before .before .fits)
 
 cap-requires : tie.Need-cap-requires Inv-loop μ-loop
 cap-requires c κs = search needs
@@ -49,10 +62,7 @@ loop-less c = omega (arith, c .before .before .before .loop-test .taken)
 loop-again : tie.Need-loop-again Inv-loop μ-loop
 loop-again c =
     let t = c .before .before .before in
-    let s = t .before .before .before .before in
-    measuring-on (t .before .loop .inv) (t .loop-test .taken) (c .before .pair-len .result) (c .cap .result)
-    (c .before .pair-len .ensures ∙ ap (λ (p : Pair). capped (s .args .most) (length (pairBytes (s .args .buffer .now) p))) (c .before .before .pair-at .ensures))
-    (c .cap .ensures)
+    measuring-on (t .before .loop .inv) (t .loop-test .taken) (c .before .pair-len .result) (c .cap .result) (length-is (c .before)) (c .cap .ensures)
 
 returns : tie.Need-returns Inv-loop μ-loop
 returns c = measuring-all (c .before .loop .inv) (c .loop-test .left)

@@ -11,7 +11,7 @@ use Rattle.types.specs.Form.{stringBytes}
 use Rattle.types.specs.Writing.{part-lent}
 use Rattle.types.specs.Output.{both-start, both-room, both-count, both-leaves}
 use Rattle.writer.specs.Pair.{keyOf, pairBytes}
-use Rattle.writer.specs.Pairs.{string-range, passed-key}
+use Rattle.writer.specs.Pairs.{formed-passed}
 use Rattle.writer.specs.Actions.{passed-scope, passed-pair, set-bytes, unset-bytes}
 use Rattle.writer.proofs.put_action.Statement.{statement}
 use Rattle.writer.proofs.put_action.Tie as tie
@@ -38,7 +38,7 @@ unset-room t = let s = start-2 t in rw (unset-bytes (s .args .buffer .now) (s .a
 range : (c : tie.Start) → let a = c .args in a .action .pair .start + a .action .pair .len ≤ length (a .buffer .now)
 range c =
     let a = c .args in
-    string-range (a .buffer .now) (a .action .pair .start) (a .action .pair .len) (passed-key (a .buffer .now) (a .action .pair) (passed-pair (a .buffer .now) (a .action) (c .pre .0)))
+    formed-passed (a .buffer .now) (a .action .pair) (passed-pair (a .buffer .now) (a .action) (c .pre .0)) .key
 
 -- what the name's writer did
 name-count : (c : tie.After-put-string)
@@ -83,7 +83,7 @@ put-pair-requires c κs = let k = c .before .before .before in
     let t = k .before .before .before in
     let s = start t in
     let a = s .args in
-    (passed-pair (a .buffer .now) (a .action) (s .pre .0), both-room (set-start t) (pairBytes (a .buffer .now) (a .action .pair)) (a .out .now) _ 3 refl (k .put-three .ensures) (set-room t))
+    (formed-passed (a .buffer .now) (a .action .pair) (passed-pair (a .buffer .now) (a .action) (s .pre .0)), both-room (set-start t) (pairBytes (a .buffer .now) (a .action .pair)) (a .out .now) _ 3 refl (k .put-three .ensures) (set-room t))
 
 add-result : tie.Need-add-result
 add-result c = let p = c .before .before in

@@ -13,12 +13,12 @@ use Rattle.types.specs.Promise.{recordOf}
 use Rattle.types.specs.Writing.{part-lent}
 use Rattle.types.specs.Output.{both-start, both-room, both-count, both-leaves}
 use Rattle.writer.specs.Pair.{keyOf}
-use Rattle.writer.specs.Pairs.{string-range, passed-fields, passed-key, passed-range, pair-bytes}
+use Rattle.writer.specs.Pairs.{pair-bytes}
 use Rattle.writer.proofs.put_pair.Statement.{statement}
 use Rattle.writer.proofs.put_pair.Tie as tie
 
 range : (c : tie.Start) → c .args .pair .start + c .args .pair .len ≤ length (c .args .buffer .now)
-range c = let a = c .args in string-range (a .buffer .now) (a .pair .start) (a .pair .len) (passed-key (a .buffer .now) (a .pair) (c .pre .0))
+range c = c .pre .0 .key
 
 room : (c : tie.Start)
     → let a = c .args in
@@ -90,9 +90,9 @@ put-value-requires : tie.Need-put-value-requires
 put-value-requires c κs = let k = c .before .before .before in
     let s = k .before .before .before .before .before in
     let a = s .args in (
-      passed-fields (a .buffer .now) (a .pair) (s .pre .0),
+      s .pre .0 .fields,
       (
-        passed-range (a .buffer .now) (a .pair) (s .pre .0),
+        s .pre .0 .range,
         both-room (stringBytes (keyOf (a .buffer .now) (a .pair))) (valueBytes (a .buffer .now) (recordOf (a .pair .value))) (a .out .now) _ _ (key-count k) (key-leaves k) (room s),
       ),
     )

@@ -9,6 +9,7 @@ use Rattle.varint.specs.Answer.{written, leaves}
 use Rattle.writer.specs.declared.Pair.{Pair}
 use Rattle.writer.specs.Loops.{Putting, putting-none, putting-length, putting-start, putting-room, putting-most, putting-on, putting-count, putting-all}
 use Rattle.writer.specs.Pair.{pairAt, pairBytes, pairRefusal}
+use Rattle.writer.specs.Pairs.{formed-passed}
 use Rattle.writer.proofs.put_pairs.Statement.{statement}
 use Rattle.writer.proofs.put_pairs.Tie as tie
 
@@ -38,7 +39,7 @@ put-pair-requires c κs =
     let t = c .before .before in
     let s = t .before .before .before .before .before in
     let same = c .before .pair-at .ensures in (
-      ap (pairRefusal (s .args .buffer .now)) same ∙ s .pre .1 .0 .each (t .before .loop .i) (t .loop-test .taken),
+      formed-passed (s .args .buffer .now) _ (ap (pairRefusal (s .args .buffer .now)) same ∙ s .pre .1 .0 .each (t .before .loop .i) (t .loop-test .taken)),
       rw (ap (pairBytes (s .args .buffer .now)) same) (putting-room (t .before .loop .inv) (t .loop-test .taken)),
     )
 

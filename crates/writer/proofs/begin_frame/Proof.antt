@@ -1,0 +1,93 @@
+-- `writer::begin_frame` meets its contract: past the two tests the head finds its room too.
+-- Assumes nothing.
+use borrow.Author.Needs.{needs}
+use mathlib.Core.Path.{_≡_, ap}
+use mathlib.Core.List.{_++_}
+use Prim.Native.Nat.{ℕ, _+_, _≤_, _<_}
+use native.Mathlib.Omega.{arith}
+use lib.ListN.{length}
+use borrow.Author.Tests.{le-leb}
+use Rattle.varint.specs.Writing.{length-most}
+use Rattle.varint.specs.Answer.{written, within}
+use Rattle.varint.specs.Promise.{Writes}
+use Rattle.frame.specs.Head.{fourBytes, headBytes}
+use Rattle.frame.specs.Laws.{head-length}
+use Rattle.writer.specs.Answers.{begun-over, begun-short, begun-in, front-length, writes-refused}
+use Rattle.writer.proofs.begin_frame.Statement.{statement}
+use Rattle.writer.proofs.begin_frame.Tie as tie
+
+refuse-requires : tie.Need-refuse-requires
+refuse-requires c κs = search needs
+
+returns : tie.Need-returns
+returns c =
+    let a = c .before .before .before .args in
+    rw (c .refuse .ensures) (writes-refused 12 (a .out .now) (begun-over (length (a .out .now)) (a .limit) (a .head) (a .len) (omega (arith, c .before .if1 .taken))))
+
+head-len-requires : tie.Need-head-len-requires
+head-len-requires c κs = search needs
+
+add-behind : tie.Need-add-behind
+add-behind c =
+    let s = c .before .before .before in
+    let h = s .args .head in
+    omega (arith, c .head-len .ensures, head-length h, length-most (h .stream), length-most (h .frame), c .before .if1 .left, s .fits)
+
+refuse-requires-2 : tie.Need-refuse-requires-2
+refuse-requires-2 c κs = search needs
+
+returns-2 : tie.Need-returns-2
+returns-2 c =
+    let a = c .before .before .before .before .before .args in
+    rw (c .refuse2 .ensures)
+    (writes-refused 12 (a .out .now) (begun-over (length (a .out .now)) (a .limit) (a .head) (a .len) (omega (arith, c .before .if2 .taken, c .before .before .head-len .ensures))))
+
+add-if3 : tie.Need-add-if3
+add-if3 c = search needs
+
+refuse-requires-3 : tie.Need-refuse-requires-3
+refuse-requires-3 c κs = search needs
+
+returns-3 : tie.Need-returns-3
+returns-3 c =
+    let a = c .before .before .before .before .before .before .args in
+    let n = c .before .before .before .head-len .ensures in
+    rw (c .refuse3 .ensures)
+    (writes-refused 11 (a .out .now) (begun-short (length (a .out .now)) (a .limit) (a .head) (a .len) (omega (arith, c .before .before .if2 .left, n)) (omega (arith, c .before .if3 .taken, n))))
+
+cast-write-head : tie.Need-cast-write-head
+cast-write-head c = search needs
+
+write-head-requires : tie.Need-write-head-requires
+write-head-requires c κs = search needs
+
+same-length : tie.Need-same-length
+same-length c = search needs
+
+returns-4 : tie.Need-returns-4
+returns-4 c =
+    let e = c .before .before .before .before in
+    let a = e .before .before .before .before .before .args in
+    let n = e .before .before .head-len .ensures in
+    let behind = length (headBytes (a .head)) + a .len in
+    let fits : 4 + behind ≤ length (a .out .now) = omega (arith, e .if3 .left, n) in
+    rw (begun-in (length (a .out .now)) (a .limit) (a .head) (a .len) (omega (arith, e .before .if2 .left, n)) fits)
+    (simp (le-leb (length (fourBytes behind ++ headBytes (a .head))) (length (a .out .now)) (omega (arith, front-length (a .head) (a .len)))) at (rw n at (c .before .before .write-head .ensures)))
+
+pub begin-frame-spec : {M : Type 1} → statement M
+begin-frame-spec =
+    tie.close
+    (tie.spec
+    refuse-requires
+    returns
+    head-len-requires
+    add-behind
+    refuse-requires-2
+    returns-2
+    add-if3
+    refuse-requires-3
+    returns-3
+    cast-write-head
+    write-head-requires
+    same-length
+    returns-4)
