@@ -1,47 +1,49 @@
+-- `notify::check_pairs` meets its contract: the loop checks one pair after the other.
+-- Assumes nothing.
+use borrow.Author.Needs.{needs}
+use mathlib.Core.Path.{_≡_, sym, ap, _∙_}
+use Prim.Native.Nat.{ℕ, _+_, _-_}
+use native.Mathlib.Omega.{arith}
+use Rattle.writer.specs.Table.{alone}
+use Rattle.writer.specs.Pair.{pairAt, pairRefusal}
+use Rattle.writer.specs.Loops.{Checking, checking-none, checking-here, checking-on, checking-all}
 use Rattle.notify.proofs.check_pairs.Statement.{statement}
 use Rattle.notify.proofs.check_pairs.Tie as tie
-use Rattle.notify.proofs.check_pairs.Reads as reads
-use Rattle.notify.proofs.check_pairs.Lts as lts
-use Rattle.notify.proofs.pair_at.Reads as pair-at-reads
-use Rattle.writer.proofs.check_pair.Reads as check-pair-reads
 
 abbrev Inv-loop : tie.InvT-loop
-Inv-loop pairs count buffer i₀ i = ?
+Inv-loop pairs count buffer i₀ i = Checking (alone (pairRefusal buffer)) (pairAt pairs) count i
 
 abbrev μ-loop : tie.MeasureT-loop
-μ-loop pairs count buffer i₀ i = ?
+μ-loop pairs count buffer i₀ i = count - i
 
--- src/lib.rt:147:5
 loop-holds : tie.Need-loop-holds Inv-loop μ-loop
-loop-holds c = ?
+loop-holds c = checking-none _ _ _
 
--- src/lib.rt:148:41
 pair-at-requires : tie.Need-pair-at-requires Inv-loop μ-loop
-pair-at-requires c κs = ?
+pair-at-requires c κs = omega (arith, c .before .before .before .before .pre, c .loop-test .taken)
 
--- src/lib.rt:148:13
 check-pair-requires : tie.Need-check-pair-requires Inv-loop μ-loop
-check-pair-requires c κs = ?
+check-pair-requires c κs = search needs
 
--- src/lib.rt:150:13
+own : (c : tie.After-check-pair Inv-loop μ-loop)
+    → let a = c .before .before .before .before .before .before .args in
+    c .check-pair .result ≡ pairRefusal (a .buffer .now) (pairAt (a .pairs .now) (c .before .before .before .loop .i))
+own c = c .check-pair .ensures ∙ ap (pairRefusal (c .before .before .before .before .before .before .args .buffer .now)) (c .before .pair-at .ensures)
+
 returns : tie.Need-returns Inv-loop μ-loop
-returns c = ?
+returns c = sym (checking-here (c .before .before .before .before .loop .inv) (c .before .before .before .loop-test .taken) _ (sym (own (c .before))) (c .if1 .taken))
 
--- src/lib.rt:152:9
 add-i : tie.Need-add-i Inv-loop μ-loop
-add-i c = ?
+add-i c = omega (arith, c .before .before .before .loop-test .taken, c .before .before .before .before .before .before .before .fits)
 
--- src/lib.rt:147:5
 loop-less : tie.Need-loop-less Inv-loop μ-loop
-loop-less c = ?
+loop-less c = omega (arith, c .before .before .before .loop-test .taken)
 
--- src/lib.rt:147:5
 loop-again : tie.Need-loop-again Inv-loop μ-loop
-loop-again c = ?
+loop-again c = checking-on (c .before .before .before .before .loop .inv) (c .before .before .before .loop-test .taken) (sym (own (c .before)) ∙ c .if1 .left)
 
--- src/lib.rt:142:1
 returns-2 : tie.Need-returns-2 Inv-loop μ-loop
-returns-2 c = ?
+returns-2 c = sym (checking-all (c .before .loop .inv) (c .loop-test .left))
 
 pub check-pairs-spec : {M : Type 1} → statement M
 check-pairs-spec =

@@ -1,60 +1,50 @@
+-- `notify::message_at` meets its contract: four reads.
+-- Assumes nothing.
 use borrow.Author.Needs.{needs}
+use native.Mathlib.Nat.{add-zero}
+use Rattle.notify.specs.Message.{messageAt}
 use Rattle.notify.proofs.message_at.Statement.{statement}
 use Rattle.notify.proofs.message_at.Tie as tie
-use Rattle.notify.proofs.message_at.Reads as reads
-use Rattle.notify.proofs.message_at.Lts as lts
 
--- src/lib.rt:47:14
 mul-at : tie.Need-mul-at
 mul-at c = search needs
 
--- src/lib.rt:49:16
 mul-t4 : tie.Need-mul-t4
 mul-t4 c = search needs
 
--- src/lib.rt:49:16
 shared-slice-read-t6 : tie.Need-shared-slice-read-t6
 shared-slice-read-t6 c = search needs
 
--- src/lib.rt:50:23
 add-t7 : tie.Need-add-t7
 add-t7 c = search needs
 
--- src/lib.rt:50:14
 mul-t8 : tie.Need-mul-t8
 mul-t8 c = search needs
 
--- src/lib.rt:50:14
 shared-slice-read-t10 : tie.Need-shared-slice-read-t10
 shared-slice-read-t10 c = search needs
 
--- src/lib.rt:51:25
 add-t11 : tie.Need-add-t11
 add-t11 c = search needs
 
--- src/lib.rt:51:16
 mul-t12 : tie.Need-mul-t12
 mul-t12 c = search needs
 
--- src/lib.rt:51:16
 shared-slice-read-t14 : tie.Need-shared-slice-read-t14
 shared-slice-read-t14 c = search needs
 
--- src/lib.rt:52:25
 add-t15 : tie.Need-add-t15
 add-t15 c = search needs
 
--- src/lib.rt:52:16
 mul-t16 : tie.Need-mul-t16
 mul-t16 c = search needs
 
--- src/lib.rt:52:16
 shared-slice-read-t18 : tie.Need-shared-slice-read-t18
 shared-slice-read-t18 c = search needs
 
--- src/lib.rt:43:1
 returns : tie.Need-returns
-returns c = ?
+unfolding messageAt
+returns c = simp add-zero
 
 pub message-at-spec : {M : Type 1} → statement M
 message-at-spec =

@@ -1,54 +1,80 @@
+-- `notify::put_name` meets its contract: the name, and one byte behind it.
+-- Assumes nothing.
 use borrow.Author.Needs.{needs}
+use mathlib.Core.Path.{_≡_, ap, _∙_}
+use mathlib.Core.List.{List, [], _∷_, _++_}
+use Prim.Native.Nat.{ℕ, _+_, _≤_}
+use native.Mathlib.Omega.{arith}
+use lib.ListN.{length, length-append}
+use Rattle.varint.specs.Answer.{written, within, leaves}
+use Rattle.varint.specs.Promise.{Writes}
+use Rattle.varint.specs.Output.{Partly, partly-next, partly-place, partly-count, partly-all}
+use Rattle.types.specs.Form.{part, stringBytes}
+use Rattle.types.specs.Output.{room-leaves}
+use Rattle.types.specs.Writing.{part-lent}
+use Rattle.notify.specs.Messages.{name-bytes, counted-room, one-left}
 use Rattle.notify.proofs.put_name.Statement.{statement}
 use Rattle.notify.proofs.put_name.Tie as tie
-use Rattle.notify.proofs.put_name.Reads as reads
-use Rattle.notify.proofs.put_name.Lts as lts
-use Rattle.notify.proofs.wrote.Reads as wrote-reads
-use Rattle.types.proofs.write_string.Reads as write-string-reads
 
--- src/lib.rt:226:14
+abbrev name : tie.Start → List ℕ
+name s = let a = s .args in stringBytes (part (a .buffer .now) (a .message .start) (a .message .len))
+
+room : (s : tie.Start) → length (name s ++ (s .args .message .count ∷ [])) ≤ length (s .args .out .now)
+room s = rw (name-bytes (s .args .buffer .now) (s .args .message)) at (s .pre .1 .1)
+
+name-room : (s : tie.Start) → length (name s) ≤ length (s .args .out .now)
+name-room s = omega (arith, room s, length-append (name s) (s .args .message .count ∷ []))
+
+-- what the string writer did
+told : (c : tie.After-write-string)
+    → let s = c .before .before .before .before .before in
+    Writes (within (length (s .args .out .now)) (written (name s))) (c .write-string .result) (s .args .out .now) (c .write-string .last .1 .0)
+told c = let a = c .before .before .before .before .before .args in rw (part-lent (a .buffer .now) (a .message .start) (a .message .len)) at (c .write-string .ensures)
+
+named : (c : tie.After-wrote)
+    → let s = c .before .before .before .before .before .before .before .before in
+    Partly (name s ++ (s .args .message .count ∷ [])) (s .args .out .now) (c .wrote .result) (s .args .message .count ∷ []) (c .before .before .before .write-string .last .1 .0)
+named c =
+    let s = c .before .before .before .before .before .before .before .before in
+    one-left (name s) (s .args .message .count) (s .args .out .now) _ _
+    (c .wrote .ensures ∙ counted-room (name s) (told (c .before .before .before)) (name-room s))
+    (room-leaves (name s) (told (c .before .before .before)) (name-room s)) (room s)
+
 add-to : tie.Need-add-to
-add-to c = search needs
+add-to c = let s = c .before .before in omega (arith, s .pre .0, s .good)
 
--- src/lib.rt:227:39
 sub-write-string : tie.Need-sub-write-string
 sub-write-string c = search needs
 
--- src/lib.rt:227:39
 part-write-string-start : tie.Need-part-write-string-start
 part-write-string-start c = search needs
 
--- src/lib.rt:227:39
 part-write-string-end : tie.Need-part-write-string-end
-part-write-string-end c = search needs
+part-write-string-end c = c .before .before .pre .0
 
--- src/lib.rt:227:19
 write-string-requires : tie.Need-write-string-requires
 write-string-requires c κs = search needs
 
--- src/lib.rt:227:9
 wrote-requires : tie.Need-wrote-requires
 wrote-requires c κs = search needs
 
--- src/lib.rt:228:14
 cast-out : tie.Need-cast-out
-cast-out c = search needs
+cast-out c = omega (arith, c .before .before .before .before .before .before .before .before .before .pre .1 .0)
 
--- src/lib.rt:228:5
 slice-write-out : tie.Need-slice-write-out
-slice-write-out c = ?
+slice-write-out c = partly-place (named (c .before))
 
--- src/lib.rt:229:5
 add-result : tie.Need-add-result
-add-result c = ?
+add-result c = let s = c .before .before .before .before .before .before .before .before .before in omega (arith, partly-place (named (c .before)), room s, s .good, partly-count (partly-next (named (c .before))))
 
--- src/lib.rt:218:1
 same-length : tie.Need-same-length
 same-length c = search needs
 
--- src/lib.rt:218:1
 returns : tie.Need-returns
-returns c = ?
+returns c =
+    let s = c .before .before .before .before .before .before .before .before .before in
+    let all = partly-next (named (c .before)) in
+    rw (name-bytes (s .args .buffer .now) (s .args .message)) (partly-count all, partly-all all)
 
 pub put-name-spec : {M : Type 1} → statement M
 put-name-spec =
