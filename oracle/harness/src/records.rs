@@ -294,10 +294,14 @@ pub fn drawn_value(random: &mut Random, room: u64) -> Value {
         0 | 1 => [kind, random.below(3).min(kind), unused(random)],
         2 => [
             kind,
-            i64::from(random.next() as i32) as u64 ^ (unused(random) << 40),
+            i64::from(inputs::number(random) as i32) as u64 ^ (unused(random) << 40),
             unused(random),
         ],
-        3 => [kind, random.next() >> random.within(31, 63), unused(random)],
+        3 => [
+            kind,
+            u64::from(inputs::number(random) as u32) ^ (unused(random) << 32),
+            unused(random),
+        ],
         4 | 5 => [kind, inputs::number(random), unused(random)],
         6 | 7 => {
             let length = if kind == 6 { 4 } else { 16 };
