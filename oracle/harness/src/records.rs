@@ -26,6 +26,7 @@ pub const OVER_LIMIT: u64 = 12;
 pub const NOT_WRITABLE: u64 = 14;
 pub const NOT_TEXT: u64 = 15;
 pub const OUTSIDE: u64 = 16;
+pub const TOO_MANY: u64 = 17;
 
 /// Kind, a, b.
 pub type Value = [u64; 3];
@@ -246,14 +247,12 @@ impl Wrote {
     }
 }
 
-/// The difference between the two sides of a call.
-pub fn difference(name: &str, call: &impl Debug, port: &Wrote, rust: &Wrote) -> Difference {
-    Difference::in_call(name)
-        .row("with", format!("{call:?}"))
-        .row("port", port.answer)
-        .row("", hex(&port.area))
-        .row("rust", rust.answer)
-        .row("", hex(&rust.area))
+/// The difference between the two sides of a call, each with its name.
+pub fn difference(name: &str, call: &impl Debug, sides: [(&str, &Wrote); 2]) -> Difference {
+    let head = Difference::in_call(name).row("with", format!("{call:?}"));
+    sides.into_iter().fold(head, |rows, (side, wrote)| {
+        rows.row(side, wrote.answer).row("", hex(&wrote.area))
+    })
 }
 
 /// Makes the limit or the room just enough for a frame of this length, or one too small.

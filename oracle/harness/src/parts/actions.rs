@@ -100,7 +100,7 @@ fn compare(call: &Call) -> Result<(), Difference> {
     if port == rust {
         return Ok(());
     }
-    Err(records::difference("write_actions", call, &port, &rust))
+    Err(records::difference("write_actions", call, [("port", &port), ("rust", &rust)]))
 }
 
 pub fn diff(random: &mut Random, rounds: u64) -> Result<String, Difference> {

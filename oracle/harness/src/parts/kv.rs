@@ -134,7 +134,7 @@ fn compare(call: &Call) -> Result<(), Difference> {
     if port == rust {
         return Ok(());
     }
-    Err(records::difference("write_kv", call, &port, &rust))
+    Err(records::difference("write_kv", call, [("port", &port), ("rust", &rust)]))
 }
 
 pub fn diff(random: &mut Random, rounds: u64) -> Result<String, Difference> {
