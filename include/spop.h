@@ -14,6 +14,7 @@
  *   14  not writable    a number outside its field; *at: the record's index, 0 for metadata and for a value on its own
  *   15  not UTF-8       a text is not well-formed; *at: the same
  *   16  outside         a record points outside the buffer, or the table has fewer; *at: the record's index, or 0
+ *   17  too many        a message with more than 255 arguments; *at: the message's index
  *
  * *at is always set. Whatever else is lent changes only after 0, and of an output only the bytes that are written.
  *
@@ -91,6 +92,33 @@ uint64_t spop_write_kv(uint64_t type, bool fin, bool abort, uint64_t stream_id, 
 uint64_t spop_write_actions(bool fin, bool abort, uint64_t stream_id, uint64_t frame_id, uint32_t limit, const uint8_t *buffer,
                             size_t buffer_len, const uint64_t *actions, size_t actions_len, uint64_t action_count, uint8_t *out,
                             size_t out_len, uint64_t *at);
+
+/* Writes a NOTIFY frame, type 3, with FIN alone. A message has four numbers: name start, name length, first pair (how many pairs
+ * the messages before it have) and pair count, which is at most 255. A pair has five, as above; its key is the argument's name.
+ * Names may be empty and may repeat. The pairs of the messages follow each other without a gap: the first message's run starts at
+ * pair 0, each other run where the one before it ends, and the last ends at pair_count.
+ *
+ * It answers, the first of these that holds:
+ *
+ *    14  at 0         the flags are not FIN alone
+ *    16  at 0         the message table has fewer than message_count, or then the pair table fewer than pair_count
+ *    14  at 0         there are pairs and no message
+ *        for each message in turn, at its index:
+ *    14               its run does not start where the one before it ends, or it is the last and does not end at pair_count
+ *    17               it has more than 255 arguments
+ *    16, 15           its name is outside the buffer, or not UTF-8
+ *        when all messages have passed, for each pair in turn, at its index in the pair table:
+ *    14               a number outside its field
+ *    16, 15           its key is outside the buffer, or not UTF-8
+ *    16, 15           its value is outside the buffer, or a string that is not UTF-8
+ *    12  at 0         the frame is over the limit
+ *    11  at 0         the output is too short
+ *
+ * A message and a pair may have the same index: 14, 15 and 16 do not say which of the two tables they speak of. */
+uint64_t spop_write_notify(bool fin, bool abort, uint64_t stream_id, uint64_t frame_id, uint32_t limit, const uint8_t *buffer,
+                           size_t buffer_len, const uint64_t *messages, size_t messages_len, uint64_t message_count,
+                           const uint64_t *pairs, size_t pairs_len, uint64_t pair_count, uint8_t *out, size_t out_len,
+                           uint64_t *at);
 
 /* The frame size that both sides can keep to: 0 with *at the smaller one, or 13 where either is under 256. */
 uint64_t spop_negotiate_max_frame_size(uint32_t theirs, uint32_t ours, uint64_t *at);

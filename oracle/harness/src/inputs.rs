@@ -100,6 +100,19 @@ pub fn edges() -> Vec<u64> {
     all
 }
 
+/// Adds a well-formed sequence of UTF-8, of any length.
+pub fn sequence(random: &mut Random, bytes: &mut Vec<u8>) {
+    let scalar = match random.below(4) {
+        0 => random.within(0x00, 0x7f),
+        1 => random.within(0x80, 0x7ff),
+        2 => random.within(0x800, 0xffff),
+        _ => random.within(0x1_0000, 0x10_ffff),
+    };
+    // What lies between D800 and DFFF is no scalar value, and then a mark stands for it.
+    let scalar = char::from_u32(scalar as u32).unwrap_or(char::REPLACEMENT_CHARACTER);
+    bytes.extend_from_slice(scalar.encode_utf8(&mut [0; 4]).as_bytes());
+}
+
 /// Adds one to four bytes.
 pub fn append(random: &mut Random, bytes: &mut Vec<u8>) {
     for _ in 0..random.within(1, 4) {

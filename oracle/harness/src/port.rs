@@ -60,6 +60,24 @@ c_calls! {
         out_len: usize,
         at: *mut u64
     ) -> u64;
+    fn spop_write_notify(
+        fin: bool,
+        abort: bool,
+        stream_id: u64,
+        frame_id: u64,
+        limit: u32,
+        buffer: *const u8,
+        buffer_len: usize,
+        messages: *const u64,
+        messages_len: usize,
+        message_count: u64,
+        pairs: *const u64,
+        pairs_len: usize,
+        pair_count: u64,
+        out: *mut u8,
+        out_len: usize,
+        at: *mut u64
+    ) -> u64;
 }
 
 pub fn varint_len(n: u64) -> u64 {
@@ -190,6 +208,43 @@ pub fn write_actions(
             actions.as_ptr(),
             actions.len(),
             count,
+            out.as_mut_ptr(),
+            out.len(),
+            at,
+        )
+    }
+}
+
+/// FIN and ABORT are `flags`, the stream's and the frame's number are `ids`.
+#[allow(clippy::too_many_arguments)]
+pub fn write_notify(
+    flags: [bool; 2],
+    ids: [u64; 2],
+    limit: u32,
+    buffer: &[u8],
+    messages: &[u64],
+    message_count: u64,
+    pairs: &[u64],
+    pair_count: u64,
+    out: &mut [u8],
+    at: &mut u64,
+) -> u64 {
+    // SAFETY: each slice is lent with its length, and nothing lent overlaps.
+    unsafe {
+        spop_write_notify(
+            flags[0],
+            flags[1],
+            ids[0],
+            ids[1],
+            limit,
+            buffer.as_ptr(),
+            buffer.len(),
+            messages.as_ptr(),
+            messages.len(),
+            message_count,
+            pairs.as_ptr(),
+            pairs.len(),
+            pair_count,
             out.as_mut_ptr(),
             out.len(),
             at,

@@ -1,15 +1,22 @@
 //! Records in a lent buffer, as the paper has them: what they stand for in the Rust, and what they are refused with.
 
-use crate::inputs::{self, Random};
+use crate::{
+    answers::Answer,
+    inputs::{self, Random},
+    text::{Difference, hex},
+};
 use spop::{
     SpopFrame,
-    actions::Action,
-    frame::{FramePayload, FrameType, Metadata},
+    actions::{Action, VarScope},
+    frame::{FrameFlags, FramePayload, FrameType, Metadata},
     types::TypedData,
+    varint::encode_varint_into,
 };
 use std::{
     borrow::Cow,
     collections::HashMap,
+    fmt::Debug,
+    hint::black_box,
     net::{Ipv4Addr, Ipv6Addr},
 };
 
@@ -19,6 +26,7 @@ pub const OVER_LIMIT: u64 = 12;
 pub const NOT_WRITABLE: u64 = 14;
 pub const NOT_TEXT: u64 = 15;
 pub const OUTSIDE: u64 = 16;
+pub const TOO_MANY: u64 = 17;
 
 /// Kind, a, b.
 pub type Value = [u64; 3];
@@ -77,6 +85,28 @@ pub fn value(record: Value, buffer: &[u8]) -> Result<TypedData, u64> {
     })
 }
 
+/// A pair's key and value, or what its five numbers are refused with: 14, 16 and 15 for the key, 16 and 15 for the value.
+pub fn pair(record: &[u64], buffer: &[u8]) -> Result<(String, TypedData), u64> {
+    let numbers = [record[2], record[3], record[4]];
+    writable(numbers)?;
+    let key = text(buffer, record[0], record[1])?;
+    Ok((key, value(numbers, buffer)?))
+}
+
+/// Adds the written form of a string.
+pub fn add_string(text: &str, bytes: &mut Vec<u8>) {
+    encode_varint_into(text.len() as u64, bytes);
+    bytes.extend_from_slice(text.as_bytes());
+}
+
+/// The written form of a pair.
+pub fn encoding(key: &str, value: &TypedData) -> Vec<u8> {
+    let mut bytes = Vec::new();
+    add_string(key, &mut bytes);
+    value.to_bytes(&mut bytes);
+    bytes
+}
+
 // ---------------------------------------------------------------- frames
 
 #[derive(Debug)]
@@ -110,6 +140,131 @@ impl SpopFrame for Frame {
     }
 }
 
+impl Frame {
+    pub fn ack(stream_id: u64, frame_id: u64, actions: Vec<Action>) -> Self {
+        Self {
+            kind: FrameType::Ack,
+            metadata: Metadata {
+                flags: FrameFlags::new(true, false),
+                stream_id,
+                frame_id,
+            },
+            payload: Payload::Actions(actions),
+        }
+    }
+
+    /// The Rust's side of a race: writes the frame into a `Vec` that has room for it.
+    pub fn race(&self) -> impl FnMut() {
+        let mut grown = Vec::with_capacity(self.written().len());
+        move || {
+            grown.clear();
+            black_box(self)
+                .serialize_into(&mut grown)
+                .expect("the Rust writes this frame");
+            black_box(&grown);
+        }
+    }
+
+    pub fn written(&self) -> Vec<u8> {
+        self.serialize().expect("the Rust writes this frame")
+    }
+}
+
+/// A set-var of the transaction, whose scope is the number 2.
+pub fn set_var(name: String, value: TypedData) -> Action {
+    let scope = VarScope::Transaction;
+    Action::SetVar { scope, name, value }
+}
+
+/// Puts bytes behind those of the buffer, and answers their start and length.
+pub fn lend(bytes: &[u8], buffer: &mut Vec<u8>) -> [u64; 2] {
+    let start = buffer.len() as u64;
+    buffer.extend_from_slice(bytes);
+    [start, bytes.len() as u64]
+}
+
+/// The five numbers of a pair whose bytes are put behind those of the buffer.
+pub fn lend_pair(key: &str, value: &TypedData, buffer: &mut Vec<u8>) -> [u64; 5] {
+    let [start, length] = lend(key.as_bytes(), buffer);
+    let [kind, a, b] = match value {
+        TypedData::UInt32(n) => [3, u64::from(*n), 0],
+        TypedData::Int64(n) => [4, *n as u64, 0],
+        TypedData::String(text) => {
+            let [start, length] = lend(text.as_bytes(), buffer);
+            [8, start, length]
+        }
+        _ => unreachable!("no such value is timed"),
+    };
+    [start, length, kind, a, b]
+}
+
+// ---------------------------------------------------------------- writers
+
+const UNTOUCHED: u64 = 0xa5c3_96e1_5a3c_691e;
+const FILL: u8 = 0x6b;
+
+/// Bytes behind the lent output, which have to stay.
+const BEHIND: usize = 8;
+
+/// What a writer answers, and the output that it was lent with the bytes behind it.
+#[derive(PartialEq)]
+pub struct Wrote {
+    pub answer: Answer,
+    pub area: Vec<u8>,
+}
+
+impl Wrote {
+    /// Lends an output of `room` bytes to a call of the port.
+    pub fn by_port(room: usize, call: impl FnOnce(&mut [u8], &mut u64) -> u64) -> Self {
+        let (mut area, mut at) = (vec![FILL; room + BEHIND], UNTOUCHED);
+        let number = call(&mut area[..room], &mut at);
+        let answer = Answer::new(number, at);
+        Self { answer, area }
+    }
+
+    /// What is to be done with a frame, or with a refusal and its place: after the refusals of records come those of
+    /// limit and room, and none of them changes a byte.
+    pub fn expected(frame: Result<Vec<u8>, (u64, u64)>, limit: u32, room: usize) -> Self {
+        let mut area = vec![FILL; room + BEHIND];
+        let answer = match frame {
+            Err((number, place)) => Answer::new(number, place),
+            Ok(bytes) if bytes.len() as u64 - 4 > u64::from(limit) => Answer::new(OVER_LIMIT, 0),
+            Ok(bytes) if bytes.len() > room => Answer::new(NO_ROOM, 0),
+            Ok(bytes) => {
+                area[..bytes.len()].copy_from_slice(&bytes);
+                Answer::done(bytes.len())
+            }
+        };
+        Self { answer, area }
+    }
+
+    /// The length of the frame, where one was written.
+    pub fn length(&self) -> Option<usize> {
+        match self.answer {
+            Answer::Paper { number: 0, at } => Some(at as usize),
+            _ => None,
+        }
+    }
+}
+
+/// The difference between the two sides of a call, each with its name.
+pub fn difference(name: &str, call: &impl Debug, sides: [(&str, &Wrote); 2]) -> Difference {
+    let head = Difference::in_call(name).row("with", format!("{call:?}"));
+    sides.into_iter().fold(head, |rows, (side, wrote)| {
+        rows.row(side, wrote.answer).row("", hex(&wrote.area))
+    })
+}
+
+/// Makes the limit or the room just enough for a frame of this length, or one too small.
+pub fn to_an_edge(random: &mut Random, length: usize, limit: &mut u32, room: &mut usize) {
+    match random.below(4) {
+        0 => *room = length,
+        1 => *room = length - 1,
+        2 => *limit = length as u32 - 4,
+        _ => *limit = length as u32 - 5,
+    }
+}
+
 // ---------------------------------------------------------------- drawing
 
 /// The longest buffer that is drawn.
@@ -138,10 +293,14 @@ pub fn drawn_value(random: &mut Random, room: u64) -> Value {
         0 | 1 => [kind, random.below(3).min(kind), unused(random)],
         2 => [
             kind,
-            i64::from(random.next() as i32) as u64 ^ (unused(random) << 40),
+            i64::from(inputs::number(random) as i32) as u64 ^ (unused(random) << 40),
             unused(random),
         ],
-        3 => [kind, random.next() >> random.within(31, 63), unused(random)],
+        3 => [
+            kind,
+            u64::from(inputs::number(random) as u32) ^ (unused(random) << 32),
+            unused(random),
+        ],
         4 | 5 => [kind, inputs::number(random), unused(random)],
         6 | 7 => {
             let length = if kind == 6 { 4 } else { 16 };

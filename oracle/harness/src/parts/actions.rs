@@ -1,23 +1,17 @@
 //! Action frames, byte by byte.
 
 use crate::{
-    answers::Answer,
     inputs::{self, Random},
     port,
-    records::{self, Frame, NO_ROOM, NOT_WRITABLE, OUTSIDE, OVER_LIMIT, Payload},
-    text::{Difference, hex},
+    records::{self, Frame, NOT_WRITABLE, OUTSIDE, Wrote},
+    text::Difference,
     timing,
 };
 use spop::{
-    SpopFrame,
     actions::{Action, VarScope},
-    frame::{FrameFlags, FrameType, Metadata},
     types::TypedData,
 };
 use std::hint::black_box;
-
-const UNTOUCHED: u64 = 0xa5c3_96e1_5a3c_691e;
-const FILL: u8 = 0x6b;
 
 /// The most actions that are drawn.
 const MOST: usize = 6;
@@ -35,44 +29,25 @@ struct Call {
     room: usize,
 }
 
-#[derive(PartialEq)]
-struct Wrote {
-    answer: Answer,
-    area: Vec<u8>,
-}
-
 impl Call {
     fn by_port(&self) -> Wrote {
-        let (mut area, mut at) = (vec![FILL; self.room + 8], UNTOUCHED);
-        let number = port::write_actions(
-            [self.fin, self.abort],
-            [self.stream, self.frame],
-            self.limit,
-            &self.buffer,
-            &self.actions,
-            self.count,
-            &mut area[..self.room],
-            &mut at,
-        );
-        let answer = Answer::new(number, at);
-        Wrote { answer, area }
+        Wrote::by_port(self.room, |out, at| {
+            port::write_actions(
+                [self.fin, self.abort],
+                [self.stream, self.frame],
+                self.limit,
+                &self.buffer,
+                &self.actions,
+                self.count,
+                out,
+                at,
+            )
+        })
     }
 
     /// Refusals are a plain reading of the paper; the bytes are the Rust's.
     fn by_rust(&self) -> Wrote {
-        let mut area = vec![FILL; self.room + 8];
-        let answer = match self.expected() {
-            Err((number, index)) => Answer::new(number, index),
-            Ok(bytes) if bytes.len() as u64 - 4 > u64::from(self.limit) => {
-                Answer::new(OVER_LIMIT, 0)
-            }
-            Ok(bytes) if bytes.len() > self.room => Answer::new(NO_ROOM, 0),
-            Ok(bytes) => {
-                area[..bytes.len()].copy_from_slice(&bytes);
-                Answer::done(bytes.len())
-            }
-        };
-        Wrote { answer, area }
+        Wrote::expected(self.expected(), self.limit, self.room)
     }
 
     fn expected(&self) -> Result<Vec<u8>, (u64, u64)> {
@@ -87,20 +62,7 @@ impl Call {
             let action = action(record, &self.buffer);
             actions.push(action.map_err(|number| (number, index as u64))?);
         }
-        let frame = ack(self.stream, self.frame, actions);
-        Ok(frame.serialize().expect("the Rust writes action frames"))
-    }
-}
-
-fn ack(stream: u64, frame: u64, actions: Vec<Action>) -> Frame {
-    Frame {
-        kind: FrameType::Ack,
-        metadata: Metadata {
-            flags: FrameFlags::new(true, false),
-            stream_id: stream,
-            frame_id: frame,
-        },
-        payload: Payload::Actions(actions),
+        Ok(Frame::ack(self.stream, self.frame, actions).written())
     }
 }
 
@@ -138,12 +100,7 @@ fn compare(call: &Call) -> Result<(), Difference> {
     if port == rust {
         return Ok(());
     }
-    Err(Difference::in_call("write_actions")
-        .row("with", format!("{call:?}"))
-        .row("port", port.answer)
-        .row("", hex(&port.area))
-        .row("rust", rust.answer)
-        .row("", hex(&rust.area)))
+    Err(records::difference("write_actions", call, [("port", &port), ("rust", &rust)]))
 }
 
 pub fn diff(random: &mut Random, rounds: u64) -> Result<String, Difference> {
@@ -151,15 +108,9 @@ pub fn diff(random: &mut Random, rounds: u64) -> Result<String, Difference> {
     for _ in 0..rounds {
         let mut call = drawn(random);
         compare(&call)?;
-        if let Answer::Paper { number: 0, at } = call.by_port().answer {
+        if let Some(length) = call.by_port().length() {
             done += 1;
-            // The edges of limit and room, one each time.
-            match random.below(4) {
-                0 => call.room = at as usize,
-                1 => call.room = at as usize - 1,
-                2 => call.limit = at as u32 - 4,
-                _ => call.limit = at as u32 - 5,
-            }
+            records::to_an_edge(random, length, &mut call.limit, &mut call.room);
             compare(&call)?;
         }
     }
@@ -223,26 +174,10 @@ pub fn bench(_: &mut Random) {
 fn time(name: &str, count: usize, value: fn(usize) -> TypedData) {
     let (mut buffer, mut table, mut actions) = (Vec::new(), Vec::new(), Vec::new());
     for index in 0..count {
-        let text = format!("slot{index:02}");
-        let start = buffer.len() as u64;
-        buffer.extend_from_slice(text.as_bytes());
-        let value = value(index);
-        let numbers = match &value {
-            TypedData::UInt32(n) => [3, u64::from(*n), 0],
-            TypedData::String(text) => {
-                let start = buffer.len() as u64;
-                buffer.extend_from_slice(text.as_bytes());
-                [8, start, text.len() as u64]
-            }
-            _ => unreachable!("no such value is timed"),
-        };
-        table.extend([1, 2, start, 6]);
-        table.extend(numbers);
-        actions.push(Action::SetVar {
-            scope: VarScope::Transaction,
-            name: text,
-            value,
-        });
+        let (name, value) = (format!("slot{index:02}"), value(index));
+        table.extend([1, 2]);
+        table.extend(records::lend_pair(&name, &value, &mut buffer));
+        actions.push(records::set_var(name, value));
     }
     let (mut lent, mut at) = (vec![0; 16_384], 0);
     let port = || {
@@ -258,16 +193,7 @@ fn time(name: &str, count: usize, value: fn(usize) -> TypedData) {
         ));
         black_box((&lent, &at));
     };
-    let frame = ack(1, 2, actions);
-    let mut grown = Vec::with_capacity(16_384);
-    let rust = || {
-        grown.clear();
-        black_box(&frame)
-            .serialize_into(&mut grown)
-            .expect("the Rust writes action frames");
-        black_box(&grown);
-    };
-    timing::race(name, 1, port, rust);
+    timing::race(name, 1, port, Frame::ack(1, 2, actions).race());
 }
 
 /// The refusals are the paper's, and the bytes are compared here.

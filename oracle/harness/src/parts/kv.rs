@@ -1,23 +1,17 @@
 //! KV frames: the port's pairs in their order, the Rust's as the set that its map holds.
 
 use crate::{
-    answers::Answer,
     inputs::{self, Random},
     port,
-    records::{self, Frame, NO_ROOM, NOT_WRITABLE, OUTSIDE, OVER_LIMIT, Payload, REPEATED},
-    text::{Difference, hex},
+    records::{self, Frame, NOT_WRITABLE, OUTSIDE, Payload, REPEATED, Wrote, encoding},
+    text::Difference,
     timing,
 };
 use spop::{
-    SpopFrame,
     frame::{FrameFlags, FrameType, Metadata},
     types::TypedData,
-    varint::encode_varint_into,
 };
 use std::{collections::HashMap, hint::black_box};
-
-const UNTOUCHED: u64 = 0xa5c3_96e1_5a3c_691e;
-const FILL: u8 = 0x6b;
 
 /// The most pairs that are drawn.
 const MOST: usize = 6;
@@ -36,45 +30,26 @@ struct Call {
     room: usize,
 }
 
-#[derive(PartialEq)]
-struct Wrote {
-    answer: Answer,
-    area: Vec<u8>,
-}
-
 impl Call {
     fn by_port(&self) -> Wrote {
-        let (mut area, mut at) = (vec![FILL; self.room + 8], UNTOUCHED);
-        let number = port::write_kv(
-            self.kind,
-            [self.fin, self.abort],
-            [self.stream, self.frame],
-            self.limit,
-            &self.buffer,
-            &self.pairs,
-            self.count,
-            &mut area[..self.room],
-            &mut at,
-        );
-        let answer = Answer::new(number, at);
-        Wrote { answer, area }
+        Wrote::by_port(self.room, |out, at| {
+            port::write_kv(
+                self.kind,
+                [self.fin, self.abort],
+                [self.stream, self.frame],
+                self.limit,
+                &self.buffer,
+                &self.pairs,
+                self.count,
+                out,
+                at,
+            )
+        })
     }
 
     /// Refusals are a plain reading of the paper; the bytes are the Rust's, a pair's after the other.
     fn by_rust(&self) -> Wrote {
-        let mut area = vec![FILL; self.room + 8];
-        let answer = match self.expected() {
-            Err((number, index)) => Answer::new(number, index),
-            Ok(bytes) if bytes.len() as u64 - 4 > u64::from(self.limit) => {
-                Answer::new(OVER_LIMIT, 0)
-            }
-            Ok(bytes) if bytes.len() > self.room => Answer::new(NO_ROOM, 0),
-            Ok(bytes) => {
-                area[..bytes.len()].copy_from_slice(&bytes);
-                Answer::done(bytes.len())
-            }
-        };
-        Wrote { answer, area }
+        Wrote::expected(self.expected(), self.limit, self.room)
     }
 
     fn frame_type(&self) -> Result<FrameType, (u64, u64)> {
@@ -102,10 +77,7 @@ impl Call {
     }
 
     fn pair(&self, record: &[u64], earlier: &[(String, TypedData)]) -> Result<(String, TypedData), u64> {
-        let value = [record[2], record[3], record[4]];
-        records::writable(value)?;
-        let key = records::text(&self.buffer, record[0], record[1])?;
-        let value = records::value(value, &self.buffer)?;
+        let (key, value) = records::pair(record, &self.buffer)?;
         if earlier.iter().any(|(other, _)| *other == key) {
             return Err(REPEATED);
         }
@@ -127,7 +99,7 @@ impl Call {
             },
             payload: Payload::Pairs(map),
         };
-        let mut whole = frame.serialize().expect("the Rust writes KV frames");
+        let mut whole = frame.written();
         let payload: usize = encodings.iter().map(Vec::len).sum();
         let head = whole.len() - payload;
         let mut sides = [encodings.clone(), order];
@@ -155,14 +127,6 @@ fn cut(mut bytes: &[u8], encodings: &[Vec<u8>]) -> bool {
     left.is_empty()
 }
 
-fn encoding(key: &str, value: &TypedData) -> Vec<u8> {
-    let mut bytes = Vec::new();
-    encode_varint_into(key.len() as u64, &mut bytes);
-    bytes.extend_from_slice(key.as_bytes());
-    value.to_bytes(&mut bytes);
-    bytes
-}
-
 // ---------------------------------------------------------------- comparing
 
 fn compare(call: &Call) -> Result<(), Difference> {
@@ -170,12 +134,7 @@ fn compare(call: &Call) -> Result<(), Difference> {
     if port == rust {
         return Ok(());
     }
-    Err(Difference::in_call("write_kv")
-        .row("with", format!("{call:?}"))
-        .row("port", port.answer)
-        .row("", hex(&port.area))
-        .row("rust", rust.answer)
-        .row("", hex(&rust.area)))
+    Err(records::difference("write_kv", call, [("port", &port), ("rust", &rust)]))
 }
 
 pub fn diff(random: &mut Random, rounds: u64) -> Result<String, Difference> {
@@ -183,15 +142,9 @@ pub fn diff(random: &mut Random, rounds: u64) -> Result<String, Difference> {
     for _ in 0..rounds {
         let mut call = drawn(random);
         compare(&call)?;
-        if let Answer::Paper { number: 0, at } = call.by_port().answer {
+        if let Some(length) = call.by_port().length() {
             done += 1;
-            // The edges of limit and room, one each time.
-            match random.below(4) {
-                0 => call.room = at as usize,
-                1 => call.room = at as usize - 1,
-                2 => call.limit = at as u32 - 4,
-                _ => call.limit = at as u32 - 5,
-            }
+            records::to_an_edge(random, length, &mut call.limit, &mut call.room);
             compare(&call)?;
         }
     }
@@ -281,15 +234,7 @@ pub fn bench(_: &mut Random) {
         },
         payload: Payload::Pairs(map),
     };
-    let mut grown = Vec::with_capacity(256);
-    let rust = || {
-        grown.clear();
-        black_box(&frame)
-            .serialize_into(&mut grown)
-            .expect("the Rust writes KV frames");
-        black_box(&grown);
-    };
-    timing::race("write_kv, AGENT-HELLO", 1, port, rust);
+    timing::race("write_kv, AGENT-HELLO", 1, port, frame.race());
 }
 
 /// The writers' answers are the paper's and the Rust's map has no order, so there is no list of them.

@@ -34,5 +34,6 @@ parts! {
     values,
     kv,
     actions,
+    notify,
     hello,
 }

@@ -212,10 +212,10 @@ fn draw(random: &mut Random) -> Vec<u8> {
     while bytes.len() < length {
         match random.below(8) {
             0..=2 => (0..random.within(1, 12)).for_each(|_| bytes.push(random.byte() & 0x7f)),
-            3..=5 => sequence(random, &mut bytes),
+            3..=5 => inputs::sequence(random, &mut bytes),
             6 => {
                 let start = bytes.len();
-                sequence(random, &mut bytes);
+                inputs::sequence(random, &mut bytes);
                 bytes.truncate(start + 1 + random.index(bytes.len() - start));
             }
             _ => bytes.push(random.byte()),
@@ -223,18 +223,6 @@ fn draw(random: &mut Random) -> Vec<u8> {
     }
     bytes.truncate(LONGEST);
     bytes
-}
-
-fn sequence(random: &mut Random, bytes: &mut Vec<u8>) {
-    let scalar = match random.below(4) {
-        0 => random.within(0x00, 0x7f),
-        1 => random.within(0x80, 0x7ff),
-        2 => random.within(0x800, 0xffff),
-        _ => random.within(0x1_0000, 0x10_ffff),
-    };
-    // What lies between D800 and DFFF is no scalar value, and then a mark stands for it.
-    let scalar = char::from_u32(scalar as u32).unwrap_or(char::REPLACEMENT_CHARACTER);
-    bytes.extend_from_slice(scalar.encode_utf8(&mut [0; 4]).as_bytes());
 }
 
 /// The same, its lossy text, it with one byte changed, cut, with bytes appended, or another text.
