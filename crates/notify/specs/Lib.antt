@@ -4,4 +4,5 @@ pub mod Notify
 pub mod Ready
 pub mod Messages
 pub mod Answers
+pub mod Laws
 pub mod Unique

@@ -147,6 +147,29 @@ module _ (buffer : List ℕ) (total count : ℕ) (list : List Message) where
       (λ t. absurd (omega (arith, sym (ap (λ (r : Refusal). r .number) (list-stray (eqb-true count 0 c) (eqb-false total 0 t))) ∙ z))))
       (λ c. sym (ap (λ (r : Refusal). r .number) (list-some (eqb-false count 0 c))) ∙ z)
 
+-- a list that passes has its runs one behind the other, and the last ends at the last pair
+module _ (buffer : List ℕ) (total count : ℕ) (at : ℕ → Message) where
+  pub starts-at : ((j : ℕ) → j < count → listRefusal buffer total count (records at 0 j) (at j) ≡ 0)
+      → (i : ℕ) → i < count → at i .first ≡ ends 0 (records at 0 i)
+  starts-at pass i h = eqb-true (at i .first) _ (starts-well buffer total _ _ (at i) (passes buffer total count at pass i h))
+
+  pub last-ends : messagesRefusal buffer total count (records at 0 count) .number ≡ 0
+      → ((j : ℕ) → j < count → listRefusal buffer total count (records at 0 j) (at j) ≡ 0) → ends 0 (records at 0 count) ≡ total
+  last-ends z pass =
+      bool-cases (eqb count 0)
+      (λ c.
+      let none = eqb-true count 0 c in
+      ap (λ (k : ℕ). ends 0 (records at 0 k)) none ∙ ends-start at
+      ∙ bool-cases (eqb total 0) (λ t. sym (eqb-true total 0 t))
+      (λ t. absurd (omega (arith, sym (ap (λ (r : Refusal). r .number) (list-stray buffer total count (records at 0 count) none (eqb-false total 0 t))) ∙ z))))
+      (λ c.
+      let some = eqb-false count 0 c in
+      let i = count - 1 in
+      let last : i + 1 ≡ count = omega arith in
+      ap (λ (k : ℕ). ends 0 (records at 0 k)) (sym last)
+      ∙ ends-on at i
+      ∙ sym (eqb-true total (at i .first + at i .count) (ends-well buffer total _ _ (at i) (passes buffer total count at pass i (omega arith)) (eq-eqb (i + 1) count last))))
+
 -- Messages and pairs that pass are ready to be written.
 pub all-ready : (buffer messages pairs : List ℕ) (count total : ℕ) → total * 5 ≤ length pairs
     → messagesRefusal buffer total count (records (messageAt messages) 0 count) .number ≡ 0

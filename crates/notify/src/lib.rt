@@ -178,7 +178,10 @@ fn message_len(message: Message, pairs: &[u64], buffer: &[u8], most: u32) -> u64
     requires { ⌜ Ready (now buffer) (now pairs) message ⌝ }
     ensures { λ r. ⌜ r ≡ capped most (length (messageBytes (now (buffer .entry)) (now (pairs .entry)) message)) ⌝ }
 {
-    let name = writer::cap(varint::varint_len(message.len) as u64 + message.len + 1, most);
+    let name = writer::cap(
+        varint::varint_len(message.len) as u64 + message.len + 1,
+        most,
+    );
     let first = message.first as usize;
     let count = message.count as usize;
     writer::cap(name + run_len(pairs, first, count, buffer, most), most)
@@ -240,8 +243,7 @@ fn put_run(pairs: &[u64], first: usize, count: usize, buffer: &[u8], out: &mut [
     let mut at = 0;
     let mut i = 0;
     while i < count {
-        let pair = pair_at(pairs, first + i);
-        at += wrote(writer::write_pair(pair, buffer, &mut out[at..]));
+        at += wrote(writer::write_pair(pair_at(pairs, first + i), buffer, &mut out[at..]));
         i += 1;
     }
     at
@@ -261,7 +263,13 @@ fn put_message(message: Message, pairs: &[u64], buffer: &[u8], out: &mut [u8]) -
 }
 
 // Writes the messages, one after the other, where there is room.
-fn put_messages(messages: &[u64], count: usize, pairs: &[u64], buffer: &[u8], out: &mut [u8]) -> usize
+fn put_messages(
+    messages: &[u64],
+    count: usize,
+    pairs: &[u64],
+    buffer: &[u8],
+    out: &mut [u8],
+) -> usize
     requires { ⌜ count * 4 ≤ length (now messages) ⌝ }
     requires { ⌜ AllReady (now buffer) (now pairs) (now messages) count ⌝ }
     requires { ⌜ length (joined (messageBytes (now buffer) (now pairs)) (records (messageAt (now messages)) 0 count)) ≤ length (now out) ⌝ }

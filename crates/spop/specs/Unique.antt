@@ -12,6 +12,7 @@ use Rattle.types.specs.Form.{form, size}
 use Rattle.types.specs.Check.{refusal}
 use Rattle.frame.specs.declared.Head.{Head}
 use Rattle.writer.specs.Frame.{kvAnswer, actionsAnswer}
+use Rattle.notify.specs.Notify.{notifyAnswer}
 use Rattle.hello.specs.Hello.{frameSize, announced, choice}
 use Rattle.spop.specs.Told.{Told, valueOf, chosenOf}
 use Rattle.spop.specs.Values.{recordIn, numbersOf}
@@ -107,3 +108,9 @@ module _ (h : Head) (limit : ℕ) (buffer table : List ℕ) (records : ℕ) (old
   pub spop-write-actions-unique : Kept (actionsAnswer h limit buffer table records) old new r at → Kept (actionsAnswer h limit buffer table records) old other q also
       → (r ≡ q) × (at ≡ also) × (new ≡ other)
   spop-write-actions-unique = frame-unique (actionsAnswer h limit buffer table records) old new other r q at also
+
+pub spop-write-notify-unique : (h : Head) (limit : ℕ) (buffer messages : List ℕ) (count : ℕ) (pairs : List ℕ) (total : ℕ) (old new other : List ℕ) (r q at also : ℕ)
+    → Kept (notifyAnswer h limit buffer messages count pairs total) old new r at → Kept (notifyAnswer h limit buffer messages count pairs total) old other q also
+    → (r ≡ q) × (at ≡ also) × (new ≡ other)
+spop-write-notify-unique h limit buffer messages count pairs total old new other r q at also =
+    frame-unique (notifyAnswer h limit buffer messages count pairs total) old new other r q at also

@@ -10,6 +10,7 @@ ghost use Rattle.varint.specs.Number.{number, numberBytes};
 ghost use Rattle.varint.specs.Promise.{count, numberRead};
 ghost use Rattle.utf8.specs.Text.{isUtf8, lossy, sameText};
 ghost use Rattle.writer.specs.Frame.{headOf, kvAnswer, actionsAnswer};
+ghost use Rattle.notify.specs.Notify.{notifyAnswer};
 ghost use Rattle.hello.specs.Hello.{frameSize, announced, choice};
 ghost use Rattle.types.specs.Value.{typed};
 ghost use Rattle.types.specs.Form.{form, size};
@@ -192,6 +193,40 @@ pub extern "C" fn spop_write_actions(
         buffer,
         actions,
         action_count,
+        out,
+    );
+    tell(answer, at)
+}
+
+#[no_mangle]
+pub extern "C" fn spop_write_notify(
+    fin: bool,
+    abort: bool,
+    stream_id: u64,
+    frame_id: u64,
+    limit: u32,
+    buffer: &[u8],
+    messages: &[u64],
+    message_count: u64,
+    pairs: &[u64],
+    pair_count: u64,
+    out: &mut [u8],
+    at: &mut u64,
+) -> u64
+    ensures { λ r. ⌜ Told (within (length (now (out .entry))) (notifyAnswer (headOf 3 fin abort «stream_id» «frame_id») limit (now (buffer .entry)) (now (messages .entry)) «message_count» (now (pairs .entry)) «pair_count»)) r (now (at .exit)) ⌝ }
+    ensures { λ r. ⌜ now (out .exit) ≡ leaves (within (length (now (out .entry))) (notifyAnswer (headOf 3 fin abort «stream_id» «frame_id») limit (now (buffer .entry)) (now (messages .entry)) «message_count» (now (pairs .entry)) «pair_count»)) (now (out .entry)) ⌝ }
+{
+    let answer = notify::write_notify(
+        fin,
+        abort,
+        stream_id,
+        frame_id,
+        limit,
+        buffer,
+        messages,
+        message_count,
+        pairs,
+        pair_count,
         out,
     );
     tell(answer, at)

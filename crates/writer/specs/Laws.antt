@@ -83,7 +83,7 @@ framed h limit payload l =
 
 -- ---- what an accepted answer has passed
 
-clash : {G : Type 0} {a : Answer (List ℕ)} {number place n : ℕ} {bytes : List ℕ} → a ≡ refused number place → a ≡ done bytes n → G
+pub clash : {G : Type 0} {a : Answer (List ℕ)} {number place n : ℕ} {bytes : List ℕ} → a ≡ refused number place → a ≡ done bytes n → G
 clash p q = let z : _≡_ {A = ℕ} 0 1 = cc in absurd (omega arith)
 
 module _ (limit : ℕ) (h : Head) (payload bytes : List ℕ) (n : ℕ) (is : limited limit h payload ≡ done bytes n) where

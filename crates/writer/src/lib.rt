@@ -598,10 +598,13 @@ pub fn begin_frame(head: Head, len: u64, limit: u32, out: &mut [u8]) -> Written
         return refuse(OVER_LIMIT);
     }
     let behind = frame::head_len(head) + len as usize;
-    if (limit as usize) < behind {
+    let most = limit as usize;
+    let whole = 4 + behind;
+    let room = out.len();
+    if most < behind {
         return refuse(OVER_LIMIT);
     }
-    if out.len() < 4 + behind {
+    if room < whole {
         return refuse(NO_ROOM);
     }
     frame::write_head(behind as u32, head, out)

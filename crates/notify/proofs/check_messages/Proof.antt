@@ -61,8 +61,7 @@ loop-less c = omega (arith, c .before .before .before .loop-test .taken)
 
 loop-again : tie.Need-loop-again Inv-loop μ-loop
 loop-again c =
-    let l = c .before .before .before .before .loop in
-    (
+    let l = c .before .before .before .before .loop in (
       checking-on (l .inv .0) (c .before .before .before .loop-test .taken) (sym (own (c .before)) ∙ c .if1 .left),
       ap (λ (m : Message). m .first + m .count) (c .before .before .message-at .ensures) ∙ sym (ends-on (messageAt (c .before .before .before .before .before .before .before .args .messages .now)) (l .i)),
     )

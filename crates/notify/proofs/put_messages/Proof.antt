@@ -37,8 +37,7 @@ put-message-requires : tie.Need-put-message-requires Inv-loop μ-loop
 put-message-requires c κs =
     let a = c .before .before .before .before .before .before .before .before .args in
     let l = c .before .before .before .loop in
-    let same = c .before .message-at .ensures in
-    (
+    let same = c .before .message-at .ensures in (
       rw same (c .before .before .before .before .before .before .before .before .pre .1 .0 .each (l .i) (c .before .before .loop-test .taken)),
       rw (ap (messageBytes (a .buffer .now) (a .pairs .now)) same) (putting-room (l .inv) (c .before .before .loop-test .taken)),
     )

@@ -59,7 +59,7 @@ told c =
     let l = c .before .before .before .before .loop in
     let pair = runAt (a .pairs .now) (a .first) (l .i) in
     let form : pairForm (a .buffer .now) (c .before .before .pair-at .result) ≡ written (pairBytes (a .buffer .now) pair)
-        = ap (pairForm (a .buffer .now)) (c .before .before .pair-at .ensures) ∙ pair-whole (formed-passed (a .buffer .now) pair (s .pre .1 .0 .each (l .i) (c .before .before .before .loop-test .taken))) in
+    = ap (pairForm (a .buffer .now)) (c .before .before .pair-at .ensures) ∙ pair-whole (formed-passed (a .buffer .now) pair (s .pre .1 .0 .each (l .i) (c .before .before .before .loop-test .taken))) in
     rw form at (c .write-pair .ensures)
 
 count-is : (c : tie.After-wrote Inv-loop μ-loop)

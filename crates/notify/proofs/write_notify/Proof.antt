@@ -120,11 +120,10 @@ notify-frame-requires c κs =
     let q = c .before .before .before .check-pairs in
     let k = c .before .before .before .before .before .before .check-messages in
     let e = c .before .before .before .before .before .before .before in
-    let a = e .before .before .before .before .before .before .before .before .args in
-    (
+    let a = e .before .before .before .before .before .before .before .before .args in (
       held-messages (e .before),
       all-ready (a .buffer .now) (a .messages .now) (a .pairs .now) (a .message-count) (a .pair-count) (held-pairs e)
-      (ap (λ (r : Refusal). r .number) (sym (k .ensures)) ∙ c .before .before .before .before .if5 .left) (ap (λ (r : Refusal). r .number) (sym (q .ensures)) ∙ c .before .if6 .left),
+          (ap (λ (r : Refusal). r .number) (sym (k .ensures)) ∙ c .before .before .before .before .if5 .left) (ap (λ (r : Refusal). r .number) (sym (q .ensures)) ∙ c .before .if6 .left),
     )
 
 same-length : tie.Need-same-length

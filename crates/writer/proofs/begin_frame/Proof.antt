@@ -3,7 +3,7 @@
 use borrow.Author.Needs.{needs}
 use mathlib.Core.Path.{_≡_, ap}
 use mathlib.Core.List.{_++_}
-use Prim.Native.Nat.{ℕ, _+_, _≤_, _<_}
+use Prim.Native.Nat.{ℕ, _+_, _^_, _≤_, _<_}
 use native.Mathlib.Omega.{arith}
 use lib.ListN.{length}
 use borrow.Author.Tests.{le-leb}
@@ -27,11 +27,18 @@ returns c =
 head-len-requires : tie.Need-head-len-requires
 head-len-requires c κs = search needs
 
-add-behind : tie.Need-add-behind
-add-behind c =
+-- what follows the length bytes is little over the limit at most
+small : (c : tie.After-head-len) → c .head-len .result + c .before .before .before .args .len < 2 ^ 33
+small c =
     let s = c .before .before .before in
     let h = s .args .head in
     omega (arith, c .head-len .ensures, head-length h, length-most (h .stream), length-most (h .frame), c .before .if1 .left, s .fits)
+
+add-behind : tie.Need-add-behind
+add-behind c = omega (arith, small c)
+
+add-whole : tie.Need-add-whole
+add-whole c = omega (arith, small c)
 
 refuse-requires-2 : tie.Need-refuse-requires-2
 refuse-requires-2 c κs = search needs
@@ -41,9 +48,6 @@ returns-2 c =
     let a = c .before .before .before .before .before .args in
     rw (c .refuse2 .ensures)
     (writes-refused 12 (a .out .now) (begun-over (length (a .out .now)) (a .limit) (a .head) (a .len) (omega (arith, c .before .if2 .taken, c .before .before .head-len .ensures))))
-
-add-if3 : tie.Need-add-if3
-add-if3 c = search needs
 
 refuse-requires-3 : tie.Need-refuse-requires-3
 refuse-requires-3 c κs = search needs
@@ -82,9 +86,9 @@ begin-frame-spec =
     returns
     head-len-requires
     add-behind
+    add-whole
     refuse-requires-2
     returns-2
-    add-if3
     refuse-requires-3
     returns-3
     cast-write-head
