@@ -1,5 +1,5 @@
 -- Bytes below 128 are text, each a character of its own.
-use mathlib.Core.Path.{_≡_, refl, sym, _∙_}
+use mathlib.Core.Path.{_≡_, refl, sym, ap, _∙_}
 use mathlib.Core.Bool.{Bool, true, false, _&&_, and-assoc, and-true}
 use mathlib.Core.List.{List, [], _∷_, _++_}
 use Prim.Native.Nat.{ℕ, suc, _+_, _-_, _<_, _≤_, zero-le}
@@ -40,6 +40,9 @@ pub ascii-eight : (s : List ℕ) → 8 ≤ length s
     ≡ ascii (take 8 s)
 ascii-eight s h = simp (ascii-next s 7 0 (omega arith), ascii-next s 6 1 (omega arith), ascii-next s 5 2 (omega arith), ascii-next s 4 3 (omega arith), ascii-next s 3 4 (omega arith), ascii-next s 2 5 (omega arith), ascii-next s 1 6 (omega arith), ascii-next s 0 7 (omega arith), ascii-none, and-assoc, and-true)
 
+pub ascii-four : (s : List ℕ) → 4 ≤ length s → ltb (getD s 0 0) 128 && ltb (getD s 1 0) 128 && ltb (getD s 2 0) 128 && ltb (getD s 3 0) 128 ≡ ascii (take 4 s)
+ascii-four s h = simp (ascii-next s 3 0 (omega arith), ascii-next s 2 1 (omega arith), ascii-next s 1 2 (omega arith), ascii-next s 0 3 (omega arith), ascii-none, and-assoc, and-true)
+
 -- ---- as far as it goes
 
 -- the first n bytes are there and are ASCII
@@ -67,3 +70,42 @@ ascii-to-one s n a h e = record {
   there = omega arith;
   are = rw (add-one, take-suc s n 0 h) (ascii-both (take n s) (getD s n 0 ∷ []) (a .are) (simp (lt-ltb (getD s n 0) 128 e)));
 }
+
+-- ---- to the end
+
+-- a front of ASCII is ASCII
+ascii-front : (s t : List ℕ) → ascii (s ++ t) ≡ true → ascii s ≡ true
+unfolding ascii
+ascii-front [] t p = refl
+ascii-front (b ∷ s) t p =
+    bool-cases (ltb b 128)
+    (λ e. simp e (ascii-front s t (simp e at p)))
+    (λ e. let f = simp e at p in not-both f refl)
+
+ascii-less : (s : List ℕ) (n from : ℕ) → AsciiTo s n → from ≤ n → ascii (take from s) ≡ true
+ascii-less s n from a h =
+    let all : from + (n - from) ≡ n = omega arith in
+    ascii-front (take from s) (take (n - from) (drop from s))
+    (ap ascii (sym (take-add from (n - from) s) ∙ ap (λ (k : ℕ). take k s) all) ∙ a .are)
+
+-- the rest from `from` on is ASCII, and so is more than all before it
+pub ascii-to-end : (s : List ℕ) (n from k : ℕ) → AsciiTo s n → from ≤ n → from + k ≡ length s → ascii (take k (drop from s)) ≡ true → AsciiTo s (length s)
+ascii-to-end s n from k a h e are =
+    record {
+      there = omega arith;
+      are =
+          ap (λ (m : ℕ). ascii (take m s)) (sym e)
+          ∙ ap ascii (take-add from k s)
+          ∙ ascii-both (take from s) (take k (drop from s)) (ascii-less s n from a h) are;
+    }
+
+-- two tests that both hold
+pub both-first : (p q : Bool) → p && q ≡ true → p ≡ true
+both-first p q e = bool-cases p (λ t. t) (λ t. let f = simp t at e in not-both f refl)
+
+pub both-second : (p q : Bool) → p && q ≡ true → q ≡ true
+both-second p q e = bool-cases p (λ t. simp t at e) (λ t. let f = simp t at e in not-both f refl)
+
+-- so are few bytes whose first four and last four are
+pub ascii-few : (s : List ℕ) (from : ℕ) → from ≤ 4 → from + 4 ≡ length s → ascii (take 4 s) ≡ true → ascii (take 4 (drop from s)) ≡ true → AsciiTo s (length s)
+ascii-few s from h e first last = ascii-to-end s 4 from 4 (record { there = omega arith; are = first }) h e last

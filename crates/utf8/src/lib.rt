@@ -5,7 +5,7 @@ use varint::NO_ROOM;
 use varint::Refusal;
 use varint::Written;
 ghost use mathlib.Core.Path.{_≡_};
-ghost use mathlib.Core.Bool.{_&&_};
+ghost use mathlib.Core.Bool.{true, _&&_};
 ghost use Prim.Native.Nat.{suc, _-_, _≤_};
 ghost use lib.ListN.{length, take, drop};
 ghost use lib.Dec.{leb};
@@ -214,14 +214,54 @@ fn step_on(s: &[u8], bytes: usize, second: Range) -> Step
 fn stride(s: &[u8]) -> Step
     ensures { λ r. ⌜ Advances (now (s .entry)) (seen r) ⌝ }
 {
-    let n = ascii_run(s, ascii_eights(s));
+    let n = ascii_front(s);
     if 0 < n {
         return Step::Char(n);
     }
     front_step(s)
 }
 
-// How many bytes of ASCII stand at the front, where the first n are.
+// How many bytes of ASCII stand at the front.
+fn ascii_front(s: &[u8]) -> usize
+    ensures { λ r. ⌜ AsciiTo (now (s .entry)) r ⌝ }
+{
+    let n = ascii_eights(s);
+    if ascii_rest(s, n) {
+        return s.len();
+    }
+    ascii_run(s, n)
+}
+
+// Whether all bytes are ASCII, where the first n are: by the last eight, or the first and the last four, which may be tested twice.
+// A yes is sure, and a no may be of bytes that are too few.
+fn ascii_rest(s: &[u8], n: usize) -> bool
+    requires { ⌜ AsciiTo (now s) n ⌝ }
+    ensures { λ r. ⌜ (r ≡ true → AsciiTo (now (s .entry)) (length (now (s .entry)))) ⌝ }
+{
+    let len = s.len();
+    if 8 <= len {
+        let from = len - 8;
+        if n < from {
+            return false;
+        }
+        return eight_ascii(&s[from..]);
+    }
+    if 4 <= len {
+        let from = len - 4;
+        return four_ascii(s) & four_ascii(&s[from..]);
+    }
+    false
+}
+
+// Whether the first four bytes are ASCII.
+fn four_ascii(s: &[u8]) -> bool
+    requires { ⌜ 4 ≤ length (now s) ⌝ }
+    ensures { λ r. ⌜ r ≡ ascii (take 4 (now (s .entry))) ⌝ }
+{
+    (s[0] < 128) & (s[1] < 128) & (s[2] < 128) & (s[3] < 128)
+}
+
+// How many bytes of ASCII stand at the front, where the first n are: byte by byte.
 fn ascii_run(s: &[u8], n: usize) -> usize
     requires { ⌜ AsciiTo (now s) n ⌝ }
     ensures { λ r. ⌜ AsciiTo (now (s .entry)) r ⌝ }

@@ -6,14 +6,11 @@ use borrow.Author.Needs.{needs}
 use Rattle.utf8.proofs.stride.Statement.{statement}
 use Rattle.utf8.proofs.stride.Tie as tie
 
-ascii-eights-requires : tie.Need-ascii-eights-requires
-ascii-eights-requires c κs = search needs
-
-ascii-run-requires : tie.Need-ascii-run-requires
-ascii-run-requires c κs = search needs
+ascii-front-requires : tie.Need-ascii-front-requires
+ascii-front-requires c κs = search needs
 
 returns : tie.Need-returns
-returns c = let a = c .before .ascii-run .ensures in text-advances _ _ (c .if1 .taken) (a .there) (ascii-well _ (a .are))
+returns c = let a = c .before .ascii-front .ensures in text-advances _ _ (c .if1 .taken) (a .there) (ascii-well _ (a .are))
 
 front-step-requires : tie.Need-front-step-requires
 front-step-requires c κs = search needs
@@ -24,4 +21,4 @@ returns-2 c = rw (c .front-step .ensures) (step-advances _)
 pub stride-spec : {M : Type 1} → statement M
 stride-spec =
     tie.close
-    (tie.spec ascii-eights-requires ascii-run-requires returns front-step-requires returns-2)
+    (tie.spec ascii-front-requires returns front-step-requires returns-2)

@@ -1,0 +1,25 @@
+-- `utf8::ascii_front` meets its contract: as far as the tests say, or byte by byte.
+-- Assumes nothing.
+use borrow.Author.Needs.{needs}
+use Rattle.utf8.proofs.ascii_front.Statement.{statement}
+use Rattle.utf8.proofs.ascii_front.Tie as tie
+
+ascii-eights-requires : tie.Need-ascii-eights-requires
+ascii-eights-requires c κs = search needs
+
+ascii-rest-requires : tie.Need-ascii-rest-requires
+ascii-rest-requires c κs = search needs
+
+returns : tie.Need-returns
+returns c = c .before .ascii-rest .ensures (c .if1 .taken)
+
+ascii-run-requires : tie.Need-ascii-run-requires
+ascii-run-requires c κs = search needs
+
+returns-2 : tie.Need-returns-2
+returns-2 c = search needs
+
+pub ascii-front-spec : {M : Type 1} → statement M
+ascii-front-spec =
+    tie.close
+    (tie.spec ascii-eights-requires ascii-rest-requires returns ascii-run-requires returns-2)
