@@ -185,6 +185,7 @@ fn frames() {
     agent_hello();
     agent_disconnect();
     ack();
+    upload();
 }
 
 fn agent_hello() {
@@ -252,6 +253,32 @@ fn ack() {
         answer,
         &out,
         b"\x00\x00\x00\x20\x67\x00\x00\x00\x01\x01\x02\x01\x03\x02\x06slot_a\x03\x07\x01\x03\x02\x06slot_b\x03\xFC\x03",
+    );
+}
+
+// The frame that the paper's listing is of.
+fn upload() {
+    let messages = [0, 5, 0, 2];
+    let pairs = [5, 4, 3, 7, 0, 9, 2, 1, 1, 0];
+    let mut out = [0u8; 64];
+    let answer = notify::write_notify(
+        true,
+        false,
+        1,
+        2,
+        16_384,
+        b"delayslotok",
+        &messages,
+        1,
+        &pairs,
+        2,
+        &mut out,
+    );
+    written(
+        b"notify: ",
+        answer,
+        &out,
+        b"\x00\x00\x00\x19\x03\x00\x00\x00\x01\x01\x02\x05delay\x02\x04slot\x03\x07\x02ok\x11",
     );
 }
 

@@ -31,7 +31,7 @@ ascii-next : (s : List ℕ) (n i : ℕ) → i < length s → ascii (take (suc n)
 unfolding ascii
 ascii-next s n i h = rw (drop-cons s i 0 h)
 
-ascii-none : ascii [] ≡ true
+pub ascii-none : ascii [] ≡ true
 unfolding ascii
 ascii-none = refl
 
@@ -61,8 +61,18 @@ ascii-both (b ∷ s) t p q =
 pub ascii-to-none : (s : List ℕ) → AsciiTo s 0
 ascii-to-none s = record { there = zero-le; are = ascii-none }
 
-pub ascii-to-eight : (s : List ℕ) (n : ℕ) → AsciiTo s n → 8 ≤ length s - n → ascii (take 8 (drop n s)) ≡ true → AsciiTo s (n + 8)
-ascii-to-eight s n a h e = record { there = omega (arith, a .there); are = rw (take-add n 8 s) (ascii-both (take n s) (take 8 (drop n s)) (a .are) e) }
+-- k more of them, in a block
+pub ascii-to-block : (s : List ℕ) (n k : ℕ) → AsciiTo s n → k ≤ length s - n → ascii (take k (drop n s)) ≡ true → AsciiTo s (n + k)
+ascii-to-block s n k a h e = record { there = omega (arith, a .there); are = rw (take-add n k s) (ascii-both (take n s) (take k (drop n s)) (a .are) e) }
+
+-- a test of one byte more
+ascii-last : (s : List ℕ) (b : ℕ) → ascii (s ++ (b ∷ [])) ≡ ascii s && ltb b 128
+unfolding ascii
+ascii-last [] b = and-true (ltb b 128)
+ascii-last (x ∷ s) b = ap (λ (p : Bool). ltb x 128 && p) (ascii-last s b) ∙ sym (and-assoc (ltb x 128) (ascii s) (ltb b 128))
+
+pub ascii-test : (s : List ℕ) (i : ℕ) → i < length s → ascii (take i s) && ltb (getD s i 0) 128 ≡ ascii (take (i + 1) s)
+ascii-test s i h = sym (rw (add-one, take-suc s i 0 h) (ascii-last (take i s) (getD s i 0)))
 
 pub ascii-to-one : (s : List ℕ) (n : ℕ) → AsciiTo s n → n < length s → getD s n 0 < 128 → AsciiTo s (n + 1)
 unfolding ascii

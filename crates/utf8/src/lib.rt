@@ -226,6 +226,9 @@ fn ascii_front(s: &[u8]) -> usize
     ensures { λ r. ⌜ AsciiTo (now (s .entry)) r ⌝ }
 {
     let n = ascii_eights(s);
+    if n == s.len() {
+        return n;
+    }
     if ascii_rest(s, n) {
         return s.len();
     }
@@ -280,7 +283,7 @@ fn ascii_run(s: &[u8], n: usize) -> usize
 fn ascii_eights(s: &[u8]) -> usize
     ensures { λ r. ⌜ AsciiTo (now (s .entry)) r ⌝ }
 {
-    let mut at = 0;
+    let mut at = ascii_blocks(s);
     while 8 <= s.len() - at {
         if !eight_ascii(&s[at..]) {
             return at;
@@ -288,6 +291,34 @@ fn ascii_eights(s: &[u8]) -> usize
         at += 8;
     }
     at
+}
+
+// As many of them as come in blocks of 32.
+fn ascii_blocks(s: &[u8]) -> usize
+    ensures { λ r. ⌜ AsciiTo (now (s .entry)) r ⌝ }
+{
+    let mut at = 0;
+    while 32 <= s.len() - at {
+        if !block_ascii(&s[at..]) {
+            return at;
+        }
+        at += 32;
+    }
+    at
+}
+
+// Whether the first 32 bytes are ASCII. The loop has no way out before its end, so the compiler can take them together.
+fn block_ascii(s: &[u8]) -> bool
+    requires { ⌜ 32 ≤ length (now s) ⌝ }
+    ensures { λ r. ⌜ r ≡ ascii (take 32 (now (s .entry))) ⌝ }
+{
+    let mut all = true;
+    let mut i = 0;
+    while i < 32 {
+        all = all & (s[i] < 128);
+        i += 1;
+    }
+    all
 }
 
 // Whether the first eight bytes are ASCII. No test waits for the one before, so the compiler can take them together.

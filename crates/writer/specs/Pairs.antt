@@ -3,10 +3,10 @@ use mathlib.Core.Path.{_≡_, refl, sym, ap, _∙_}
 use mathlib.Core.Logic.{⊎-elim}
 use mathlib.Core.Bool.{Bool, true, false}
 use mathlib.Core.List.{List, _++_}
-use Prim.Native.Nat.{ℕ, zero, suc, _+_, _≤_, _<_}
+use Prim.Native.Nat.{ℕ, _+_, _-_, _≤_, _<_}
 use native.Mathlib.Omega.{arith}
 use native.Mathlib.Decide.{ℕ-discrete}
-use lib.Dec.{eqb}
+use lib.Dec.{eqb, leb}
 use lib.ListN.{length, length-append, length-take, length-drop}
 use borrow.Author.Tests.{le-leb, lt-leb, eq-eqb, ne-eqb, eqb-true, eqb-false, leb-true}
 use Rattle.varint.specs.Answer.{refused, written}
@@ -47,6 +47,26 @@ value-most buffer (value k a b) =
   where
     most : length (part buffer a b) ≤ length buffer
     most = simp (length-take, length-drop) (omega arith)
+
+-- and those are at most as many as its second number says
+pub value-bound : (buffer : List ℕ) (k a b : ℕ) → length (valueBytes buffer (value k a b)) ≤ 11 + b
+value-bound buffer k a b =
+    shape-cases k
+    (λ e is. rw (bytes-at buffer k a b _ is) (omega arith))
+    (λ e is. rw (bytes-at buffer k a b _ is) (omega arith))
+    (λ w l g is. rw (bytes-at buffer k a b _ is) (omega (arith, length-most a)))
+    (λ n l g is. rw (bytes-at buffer k a b _ is) (omega (arith, most)))
+    (λ l g is. rw (bytes-at buffer k a b _ is) (omega (arith, most, string-length (part buffer a b), length-most (length (part buffer a b)))))
+    (λ l is. rw (bytes-at buffer k a b _ is) (omega arith))
+  where
+    most : length (part buffer a b) ≤ b
+    most = simp (length-take, length-drop) (omega arith)
+
+-- a part that is compared with what the others leave of the room
+pub rest-fits : (n beside whole room : ℕ) → whole ≡ beside + n → beside ≤ room → leb n (room - beside) ≡ leb whole room
+rest-fits n beside whole room e h =
+    ⊎-elim (λ l. lt-leb n (room - beside) l ∙ sym (lt-leb whole room (omega arith))) (λ l. le-leb n (room - beside) l ∙ sym (le-leb whole room (omega arith)))
+    (lt-or-le (room - beside) n)
 
 -- a value that passes has its written form's length
 module _ (buffer : List ℕ) (v : Record) (h : writableRecord v ≡ true) (r : ranged buffer v ≡ true) where

@@ -20,6 +20,9 @@ use Rattle.writer.specs.Frame.{headOf, begun, kvAnswer, actionsAnswer}
 pub check-pair-unique : (buffer : List ℕ) (p : Pair) (r q : ℕ) → r ≡ pairRefusal buffer p → q ≡ pairRefusal buffer p → r ≡ q
 check-pair-unique buffer p r q e f = e ∙ sym f
 
+pub cap-unique : (most n r q : ℕ) → r ≡ capped most n → q ≡ capped most n → r ≡ q
+cap-unique most n r q e f = e ∙ sym f
+
 pub pair-len-unique : (buffer : List ℕ) (p : Pair) (most r q : ℕ) → r ≡ capped most (size (pairForm buffer p)) → q ≡ capped most (size (pairForm buffer p)) → r ≡ q
 pair-len-unique buffer p most r q e f = e ∙ sym f
 

@@ -224,12 +224,29 @@ fn put_pair(pair: Pair, buffer: &[u8], out: &mut [u8]) -> usize
     n + put_value(pair.value, buffer, &mut out[n..])
 }
 
-// Whether the written form of a pair has at most `room` bytes. The key's bytes are compared by themselves, since the sum of all may
-// pass 64 bits.
+// Whether 21 bytes and two lengths more are at most `room`.
+fn pair_room(n: u64, m: u64, room: usize) -> bool
+    ensures { λ r. ⌜ r ≡ leb (21 + n + m) room ⌝ }
+{
+    let most = room as u64;
+    if most < 21 {
+        return false;
+    }
+    if most - 21 < n {
+        return false;
+    }
+    m <= most - 21 - n
+}
+
+// Whether the written form of a pair has at most `room` bytes. It has 21 at most beside those that it points at, which spares the
+// measuring where there is room. They are compared one by one, since the sum of all may pass 64 bits.
 fn pair_fits(pair: Pair, buffer: &[u8], room: usize) -> bool
     requires { ⌜ Formed (now buffer) pair ⌝ }
     ensures { λ r. ⌜ r ≡ leb (length (pairBytes (now (buffer .entry)) pair)) room ⌝ }
 {
+    if pair_room(pair.len, pair.value.b, room) {
+        return true;
+    }
     let beside = varint::varint_len(pair.len) + types::value_len(pair.value, buffer);
     if room < beside {
         return false;

@@ -7,7 +7,7 @@ use native.Mathlib.Omega.{arith}
 use lib.ListN.{length, take, drop, length-drop}
 use borrow.Author.Tests.{not-false}
 use Rattle.varint.specs.Output.{lent-tail}
-use Rattle.utf8.specs.Ascii.{ascii, AsciiTo, ascii-to-none, ascii-to-eight}
+use Rattle.utf8.specs.Ascii.{ascii, AsciiTo, ascii-to-block}
 use Rattle.utf8.proofs.ascii_eights.Statement.{statement}
 use Rattle.utf8.proofs.ascii_eights.Tie as tie
 
@@ -17,8 +17,11 @@ Inv-loop s at₀ at = AsciiTo s at
 abbrev μ-loop : tie.MeasureT-loop
 μ-loop s at₀ at = length s - at
 
+ascii-blocks-requires : tie.Need-ascii-blocks-requires Inv-loop μ-loop
+ascii-blocks-requires c κs = search needs
+
 loop-holds : tie.Need-loop-holds Inv-loop μ-loop
-loop-holds c = ascii-to-none _
+loop-holds c = c .ascii-blocks .ensures
 
 sub-loop : tie.Need-sub-loop Inv-loop μ-loop
 sub-loop c = c .loop .inv .there
@@ -34,7 +37,7 @@ part-eight-ascii-end c = search needs
 
 eight-ascii-requires : tie.Need-eight-ascii-requires Inv-loop μ-loop
 eight-ascii-requires c κs = let k = c .before .before in
-    let s = k .before .before .args .s .now in
+    let s = k .before .before .before .args .s .now in
     rw (lent-tail (k .loop .at) s) (omega (arith, length-drop (k .loop .at) s, c .before .loop-test .taken))
 
 returns : tie.Need-returns Inv-loop μ-loop
@@ -48,8 +51,8 @@ loop-less c = omega (arith, c .before .before .before .loop-test .taken)
 
 loop-again : tie.Need-loop-again Inv-loop μ-loop
 loop-again c = let k = c .before .before .before .before in
-    let s = k .before .before .args .s .now in
-    ascii-to-eight s (k .loop .at) (k .loop .inv) (c .before .before .before .loop-test .taken)
+    let s = k .before .before .before .args .s .now in
+    ascii-to-block s (k .loop .at) 8 (k .loop .inv) (c .before .before .before .loop-test .taken)
     (rw (lent-tail (k .loop .at) s) at (sym (c .before .eight-ascii .ensures) ∙ not-false _ (c .if1 .left)))
 
 returns-2 : tie.Need-returns-2 Inv-loop μ-loop
@@ -61,6 +64,7 @@ ascii-eights-spec =
     (tie.spec
     Inv-loop
     μ-loop
+    ascii-blocks-requires
     loop-holds
     sub-loop
     sub-eight-ascii

@@ -7,19 +7,28 @@ use Rattle.utf8.proofs.ascii_front.Tie as tie
 ascii-eights-requires : tie.Need-ascii-eights-requires
 ascii-eights-requires c κs = search needs
 
+returns : tie.Need-returns
+returns c = search needs
+
 ascii-rest-requires : tie.Need-ascii-rest-requires
 ascii-rest-requires c κs = search needs
 
-returns : tie.Need-returns
-returns c = c .before .ascii-rest .ensures (c .if1 .taken)
+returns-2 : tie.Need-returns-2
+returns-2 c = c .before .ascii-rest .ensures (c .if2 .taken)
 
 ascii-run-requires : tie.Need-ascii-run-requires
 ascii-run-requires c κs = search needs
 
-returns-2 : tie.Need-returns-2
-returns-2 c = search needs
+returns-3 : tie.Need-returns-3
+returns-3 c = search needs
 
 pub ascii-front-spec : {M : Type 1} → statement M
 ascii-front-spec =
     tie.close
-    (tie.spec ascii-eights-requires ascii-rest-requires returns ascii-run-requires returns-2)
+    (tie.spec
+    ascii-eights-requires
+    returns
+    ascii-rest-requires
+    returns-2
+    ascii-run-requires
+    returns-3)
