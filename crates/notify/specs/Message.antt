@@ -2,13 +2,12 @@
 --
 --     LIST-OF-MESSAGES : [ <MESSAGE-NAME> <NB-ARGS:1 byte> <KV-LIST> ... ]
 --     MESSAGE-NAME     : <STRING>
-use mathlib.Core.Bool.{Bool, true, cond, not}
+use mathlib.Core.Bool.{Bool, cond, not, _&&_, _||_}
 use mathlib.Core.List.{List, [], _∷_, _++_}
 use Prim.Native.Nat.{ℕ, _+_}
 use lib.Dec.{eqb, leb}
 use lib.ListN.{length}
 use Rattle.varint.specs.declared.Refusal.{Refusal}
-use Rattle.types.specs.Value.{both}
 use Rattle.types.specs.Form.{part, stringBytes}
 use Rattle.types.specs.Check.{stringRefusal}
 use Rattle.writer.specs.declared.Pair.{Pair}
@@ -35,7 +34,7 @@ messageBytes buffer pairs m = nameBytes buffer m ++ joined (pairBytes buffer) (r
 -- does not end at the last of all pairs; 17 over 255 arguments; its name's range 16 and text 15; else 0.
 unfoldable pub messageRefusal : List ℕ → ℕ → ℕ → Bool → Message → ℕ
 messageRefusal buffer total from last m =
-    cond (both (eqb (m .first) from) (cond last (eqb total (m .first + m .count)) true))
+    cond (eqb (m .first) from && (not last || eqb total (m .first + m .count)))
     (cond (leb (m .count) 255) (stringRefusal buffer (m .start) (m .len)) 17)
     14
 
@@ -51,6 +50,6 @@ listRefusal buffer total count earlier m = messageRefusal buffer total (ends 0 e
 -- The first message that is refused. Without a message there is to be no pair.
 unfoldable pub messagesRefusal : List ℕ → ℕ → ℕ → List Message → Refusal
 messagesRefusal buffer total count list =
-    cond (both (eqb count 0) (not (eqb total 0)))
+    cond (eqb count 0 && not (eqb total 0))
     (record { number = 14; place = 0 })
     (firstRefused (listRefusal buffer total count) 0 [] list)

@@ -1,7 +1,7 @@
 -- Laws about reading a string and a value: how each unrolls, what an accepted one says of the bytes, and that bytes
 -- appended change neither it nor any refusal but 3.
 use mathlib.Core.Path.{_≡_, refl, sym, ap, _∙_}
-use mathlib.Core.Bool.{Bool, true, false, cond, true≢false}
+use mathlib.Core.Bool.{Bool, true, false, cond, _&&_, true≢false}
 use mathlib.Core.Logic.{⊎-elim}
 use mathlib.Core.List.{List, [], _∷_, _++_}
 use Prim.Native.Nat.{ℕ, suc, _+_, _-_, _/_, _%_, _^_, _≤_, _<_}
@@ -15,7 +15,7 @@ use Rattle.varint.specs.Number.{worth, more, number}
 use Rattle.varint.specs.Writing.{lt-or-le}
 use Rattle.varint.specs.Output.{lent-tail}
 use Rattle.varint.specs.Reading.{more-none, more-eleventh, more-over, more-last, more-on, number-none, number-one, number-more, accepted, kept as number-kept, accepted-kept}
-use Rattle.types.specs.Value.{next, behind, Span, span, string, Shape, nothing, flag, integer, address, text, reserved, Width, signed32, unsigned32, whole64, shapes, shape, Record, value, points, moved, signExtended, kept, spanned, content, typed, both, inWidth, inFields}
+use Rattle.types.specs.Value.{next, behind, Span, span, string, Shape, nothing, flag, integer, address, text, reserved, Width, signed32, unsigned32, whole64, shapes, shape, Record, value, points, moved, signExtended, kept, spanned, content, typed, inWidth, inFields}
 
 -- an answer is a success or a refusal
 pub answer-cases : {A G : Type 0} (a : Answer A)
@@ -196,7 +196,7 @@ Fields (address n) a b = b ≡ n
 Fields text a b = b < 2 ^ 64
 Fields reserved a b = ⊥
 
-both-true : (p q : Bool) → both p q ≡ true → (p ≡ true) × (q ≡ true)
+both-true : (p q : Bool) → p && q ≡ true → (p ≡ true) × (q ≡ true)
 both-true true q e = (refl, e)
 both-true false q e = absurd (true≢false (sym e))
 

@@ -17,7 +17,7 @@
 --
 -- (The line of 5 is misprinted there as 32 bits, UNIT64.) The type is the low half of the first byte and the flags are the high
 -- half, as the Rust has them. A boolean is the lowest flag.
-use mathlib.Core.Bool.{Bool, true, false, cond}
+use mathlib.Core.Bool.{Bool, true, false, cond, _&&_}
 use mathlib.Core.List.{List, [], _∷_}
 use Prim.Native.Nat.{ℕ, _+_, _-_, _/_, _%_, _^_}
 use lib.Dec.{ltb, leb, eqb}
@@ -137,18 +137,15 @@ typed (b ∷ s) = behind moved 1 (content (shape (b % 16)) (b % 16) (b / 16) s)
 -- Document 01's 14: whether a kind's two numbers lie in their fields. An unused number is 0, an i32's number is its sign
 -- extension to 64 bits, an address has its length, and no integer or length passes 64 bits. A start has no field of its own: one
 -- that is too large points outside, which is 16.
-abbrev pub both : Bool → Bool → Bool
-both p q = cond p q false
-
 abbrev pub inWidth : Width → ℕ → Bool
 inWidth signed32 a = eqb a (signExtended a)
 inWidth unsigned32 a = ltb a (2 ^ 32)
 inWidth whole64 a = ltb a (2 ^ 64)
 
 abbrev pub inFields : Shape → ℕ → ℕ → Bool
-inFields nothing a b = both (eqb a 0) (eqb b 0)
-inFields flag a b = both (ltb a 2) (eqb b 0)
-inFields (integer w) a b = both (inWidth w a) (eqb b 0)
+inFields nothing a b = eqb a 0 && eqb b 0
+inFields flag a b = ltb a 2 && eqb b 0
+inFields (integer w) a b = inWidth w a && eqb b 0
 inFields (address n) a b = eqb b n
 inFields text a b = ltb b (2 ^ 64)
 inFields reserved a b = false

@@ -1,6 +1,6 @@
 -- Laws about the written form of strings and values: how it unrolls and how long it is, and what the tests before it say.
 use mathlib.Core.Path.{_≡_, refl, sym, ap, _∙_}
-use mathlib.Core.Bool.{Bool, true, false, cond}
+use mathlib.Core.Bool.{Bool, true, false, cond, and-true, and-false}
 use mathlib.Core.Logic.{⊎-elim}
 use mathlib.Core.List.{List, [], _∷_, _++_}
 use Prim.Native.Nat.{ℕ, _+_, _-_, _*_, _^_, _≤_, _<_}
@@ -12,7 +12,7 @@ use borrow.Author.Tests.{lt-ltb, le-ltb, le-leb, lt-leb, ne-eqb, leb-true}
 use Rattle.varint.specs.Answer.{refused, written}
 use Rattle.varint.specs.Number.{numberBytes}
 use Rattle.varint.specs.Writing.{lt-or-le}
-use Rattle.types.specs.Value.{Shape, nothing, flag, integer, address, text, reserved, Width, whole64, shape, Record, value, points, both, inWidth, inFields}
+use Rattle.types.specs.Value.{Shape, nothing, flag, integer, address, text, reserved, Width, whole64, shape, Record, value, points, inWidth, inFields}
 use Rattle.types.specs.Form.{part, inside, stringBytes, formed, valueBytes, writableRecord, ranged, form}
 use Rattle.types.specs.Reading.{shape-is, shape-reserved, shape-listed, shape-integer, shape-text, in-fields, fields-in}
 
@@ -89,10 +89,6 @@ module _ (k a : ℕ) (bytes : List ℕ) where
 
 -- ---- the tests
 
-pub test-same : (p : Bool) → cond p true false ≡ p
-test-same true = refl
-test-same false = refl
-
 -- the test of a first number, beside an unused one that is 0
 abbrev pub firstField : Shape → ℕ → Bool
 firstField nothing a = eqb a 0
@@ -103,18 +99,14 @@ firstField text a = ltb 0 (2 ^ 64)
 firstField reserved a = false
 
 pub first-field : (sh : Shape) (a : ℕ) → inFields sh a 0 ≡ firstField sh a
-first-field nothing a = test-same (eqb a 0)
-first-field flag a = test-same (ltb a 2)
-first-field (integer w) a = test-same (inWidth w a)
+first-field nothing a = and-true (eqb a 0)
+first-field flag a = and-true (ltb a 2)
+first-field (integer w) a = and-true (inWidth w a)
 first-field (address n) a = refl
 first-field text a = refl
 first-field reserved a = refl
 
 -- where the second number is unused it is 0
-both-false : (p : Bool) → both p false ≡ false
-both-false true = refl
-both-false false = refl
-
 module _ (k a b : ℕ) where
   pub field-at : (sh : Shape) → shape k ≡ sh → inFields (shape k) a b ≡ inFields sh a b
   field-at sh is = ap (λ (x : Shape). inFields x a b) is
@@ -122,9 +114,9 @@ module _ (k a b : ℕ) where
   pub unused : k < 6 → (b ≡ 0 → ⊥) → inFields (shape k) a b ≡ false
   unused h no0 =
       shape-cases k
-      (λ e is. field-at nothing is ∙ rw (ne-eqb b 0 no0) (both-false (eqb a 0)))
-      (λ e is. field-at flag is ∙ rw (ne-eqb b 0 no0) (both-false (ltb a 2)))
-      (λ w l g is. field-at (integer w) is ∙ rw (ne-eqb b 0 no0) (both-false (inWidth w a)))
+      (λ e is. field-at nothing is ∙ rw (ne-eqb b 0 no0) (and-false (eqb a 0)))
+      (λ e is. field-at flag is ∙ rw (ne-eqb b 0 no0) (and-false (ltb a 2)))
+      (λ w l g is. field-at (integer w) is ∙ rw (ne-eqb b 0 no0) (and-false (inWidth w a)))
       (λ n l g is. absurd (omega arith))
       (λ l g is. absurd (omega arith))
       (λ l is. absurd (omega arith))

@@ -8,11 +8,11 @@
 --     NB-ARGS           : <2>
 --     VAR-NAME          : <STRING>
 --     VAR-VALUE         : <TYPED-DATA>
-use mathlib.Core.Bool.{Bool, true, cond}
+use mathlib.Core.Bool.{Bool, cond, _&&_, _||_}
 use mathlib.Core.List.{List, _∷_, _++_}
 use Prim.Native.Nat.{ℕ}
 use lib.Dec.{eqb, leb}
-use Rattle.types.specs.Value.{Record, value, both}
+use Rattle.types.specs.Value.{Record, value}
 use Rattle.types.specs.Form.{stringBytes, valueBytes}
 use Rattle.types.specs.Promise.{recordOf}
 use Rattle.writer.specs.declared.Action.{Action}
@@ -41,11 +41,11 @@ actionBytes buffer x =
 
 -- three numbers that are 0
 abbrev pub noValue : Record → Bool
-noValue (value kind a b) = both (eqb kind 0) (both (eqb a 0) (eqb b 0))
+noValue (value kind a b) = eqb kind 0 && (eqb a 0 && eqb b 0)
 
 -- a scope from 0 to 4, and a set with any value or an unset with none
 unfoldable pub actionWritable : Action → Bool
-actionWritable x = both (leb (x .scope) 4) (cond (eqb (x .verb) 1) true (both (eqb (x .verb) 2) (noValue (recordOf (x .pair .value)))))
+actionWritable x = leb (x .scope) 4 && (eqb (x .verb) 1 || (eqb (x .verb) 2 && noValue (recordOf (x .pair .value))))
 
 -- What an action is refused with: 14 for its own numbers, and then as a pair: 14 for a set's value, the name's range 16, its text
 -- 15, the value's range 16, a string's text 15; else 0. An unset's three numbers are those of a null, which is refused with none.

@@ -1,6 +1,6 @@
 -- What a writer answers, in document 01's order: metadata 14, the count of records 16, the first refused record, the limit 12.
 -- (11 is varint's `within`.)
-use mathlib.Core.Bool.{Bool, true, false, cond, not}
+use mathlib.Core.Bool.{Bool, true, false, cond, not, _&&_, _||_}
 use mathlib.Core.List.{List, [], _++_}
 use Prim.Native.Nat.{ℕ, _+_, _*_}
 use lib.Dec.{eqb, leb}
@@ -9,7 +9,6 @@ use Rattle.varint.specs.declared.Refusal.{Refusal}
 use Rattle.varint.specs.declared.Written.{Written}
 use Rattle.varint.specs.declared.Written.the-variants as w
 use Rattle.varint.specs.Answer.{Answer, refused, written}
-use Rattle.types.specs.Value.{both}
 use Rattle.frame.specs.declared.Head.{Head}
 use Rattle.frame.specs.Head.{fourBytes, headBytes, frameBytes}
 use Rattle.writer.specs.Table.{records, joined, alone, firstRefused}
@@ -46,21 +45,18 @@ ofRecords refuses bytes limit h list = unless (firstRefused refuses 0 [] list) (
 unfoldable pub answer : Bool → ℕ → ℕ → List ℕ → Answer (List ℕ) → Answer (List ℕ)
 answer allowed width count table a = cond allowed (cond (leb (count * width) (length table)) a (refused 16 0)) (refused 14 0)
 
-abbrev pub either : Bool → Bool → Bool
-either p q = cond p true q
-
 -- FIN alone
 abbrev pub finAlone : Bool → Bool → Bool
-finAlone fin abort = both fin (not abort)
+finAlone fin abort = fin && not abort
 
 -- HAPROXY-HELLO and HAPROXY-DISCONNECT have any metadata; AGENT-HELLO and AGENT-DISCONNECT have FIN alone and both numbers 0
 abbrev pub agentAllowed : Head → Bool
-agentAllowed h = both (finAlone (h .fin) (h .abort)) (both (eqb (h .stream) 0) (eqb (h .frame) 0))
+agentAllowed h = finAlone (h .fin) (h .abort) && (eqb (h .stream) 0 && eqb (h .frame) 0)
 
 unfoldable pub kvAllowed : Head → Bool
 kvAllowed h =
-    cond (either (eqb (h .kind) 1) (eqb (h .kind) 2)) true
-    (cond (either (eqb (h .kind) 101) (eqb (h .kind) 102)) (agentAllowed h) false)
+    cond (eqb (h .kind) 1 || eqb (h .kind) 2) true
+    (cond (eqb (h .kind) 101 || eqb (h .kind) 102) (agentAllowed h) false)
 
 unfoldable pub kvAnswer : Head → ℕ → List ℕ → List ℕ → ℕ → Answer (List ℕ)
 kvAnswer h limit buffer pairs count =

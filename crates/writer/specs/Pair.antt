@@ -4,13 +4,12 @@
 --     KV-NAME          : <STRING>
 --     KV-VALUE         : <TYPED-DATA>
 use mathlib.Core.Path.{_≡_}
-use mathlib.Core.Bool.{Bool, cond}
+use mathlib.Core.Bool.{Bool, cond, _&&_}
 use mathlib.Core.List.{List, _++_}
 use Prim.Native.Nat.{ℕ, _<_}
 use lib.ListN.{length}
 use Rattle.varint.specs.Answer.{Answer, refused, written}
 use Rattle.utf8.specs.Text.{sameText}
-use Rattle.types.specs.Value.{both}
 use Rattle.types.specs.Form.{part, inside, stringBytes, valueBytes, writableRecord, ranged}
 use Rattle.types.specs.Check.{stringRefusal, partRefusal}
 use Rattle.types.specs.Promise.{recordOf}
@@ -37,7 +36,7 @@ pairBytes buffer p = stringBytes (keyOf buffer p) ++ valueBytes buffer (recordOf
 unfoldable pub pairForm : List ℕ → Pair → Answer (List ℕ)
 pairForm buffer p =
     cond (writableRecord (recordOf (p .value)))
-    (cond (both (inside buffer (p .start) (p .len)) (ranged buffer (recordOf (p .value)))) (written (pairBytes buffer p)) (refused 16 0))
+    (cond (inside buffer (p .start) (p .len) && ranged buffer (recordOf (p .value))) (written (pairBytes buffer p)) (refused 16 0))
     (refused 14 0)
 
 -- What a pair on its own is refused with, in document 01's order: 14, the key's range 16, its text 15, the value's range 16, a
