@@ -6,21 +6,19 @@ use mathlib.Core.List.{List, [], _∷_, _++_, append-assoc}
 use Prim.Native.Nat.{ℕ, zero, suc, _+_, _-_, _*_, _≤_, _<_}
 use native.Mathlib.Omega.{arith}
 use lib.Dec.{eqb, leb}
-use lib.ListN.{length, drop, length-append}
-use lib.Seq.{take-at, drop-at}
+use lib.ListN.{length, length-append}
 use borrow.Author.Tests.{le-leb, lt-leb, eq-eqb, ne-eqb, eqb-true, eqb-false, leb-true, leb-false}
 use Rattle.varint.specs.declared.Refusal.{Refusal}
 use Rattle.varint.specs.declared.Written.{Written}
 use Rattle.varint.specs.declared.Written.the-variants as w
-use Rattle.varint.specs.Answer.{written, within, leaves}
+use Rattle.varint.specs.Answer.{written, within}
 use Rattle.varint.specs.Promise.{Writes}
-use Rattle.varint.specs.Output.{Partly}
 use Rattle.varint.specs.Number.{numberBytes}
 use Rattle.varint.specs.Writing.{lt-or-le}
+use Rattle.varint.specs.Parts.{room-done, room-refused}
 use Rattle.utf8.specs.Stepping.{bool-cases}
 use Rattle.types.specs.Form.{part, stringBytes}
 use Rattle.types.specs.Check.{stringRefusal}
-use Rattle.types.specs.Output.{room-done, room-refused}
 use Rattle.writer.specs.Table.{records, joined, alone, firstRefused}
 use Rattle.writer.specs.Pair.{pairAt, pairBytes, pairRefusal}
 use Rattle.writer.specs.Records.{records-snoc}
@@ -216,14 +214,3 @@ pub counted-room : (bytes : List ℕ) {old new : List ℕ} {r : Written} → Wri
     → counted r ≡ length bytes
 counted-room bytes {r = w.Done n} p room = room-done bytes p room n refl
 counted-room bytes {r = w.Refused x} p room = room-refused bytes p room x refl
-
--- a string is written, and one byte behind it is left to write
-pub one-left : (front : List ℕ) (b : ℕ) (old out : List ℕ) (n : ℕ) → n ≡ length front → out ≡ leaves (written front) old
-    → length (front ++ (b ∷ [])) ≤ length old → Partly (front ++ (b ∷ [])) old n (b ∷ []) out
-one-left front b old out n count first room =
-    record {
-      room = room;
-      so-far = rw count (first ∙ ap (λ (l : List ℕ). l ++ drop (length front) old) (sym (take-at front (b ∷ []) (length front) refl)));
-      to-do = drop-at front (b ∷ []) n (sym count);
-      at-most = omega (arith, length-append front (b ∷ []));
-    }

@@ -1,40 +1,18 @@
--- Laws about what writers leave: a writer that has room, one that refuses, and a part copied byte by byte.
-use mathlib.Core.Path.{_≡_, refl, sym, ap, _∙_}
-use mathlib.Core.List.{List, [], _∷_, _++_}
+-- Laws about what the writing of a value leaves: nothing where it has no form or no room, four bytes, and bytes behind a type byte.
+use mathlib.Core.Path.{_≡_, refl, ap, _∙_}
+use mathlib.Core.List.{List, [], _∷_}
 use mathlib.Core.Logic.{⊎-elim}
-use Prim.Native.Nat.{ℕ, suc, _+_, _-_, _≤_, _<_}
-use native.Mathlib.Numerals.{add-one}
+use Prim.Native.Nat.{ℕ, _+_, _-_, _≤_, _<_}
 use native.Mathlib.Omega.{arith}
-use lib.ListN.{length, take, drop, getD, set, length-append, length-drop, drop-of-length-le}
-use lib.Seq.{drop-cons}
+use lib.ListN.{length, take, drop, getD, set}
 use borrow.Rule.Slice.PartMut.{putMid}
 use borrow.Author.Tests.{le-leb, lt-leb}
-use Rattle.varint.specs.declared.Refusal.{Refusal}
-use Rattle.varint.specs.declared.Written.{Written}
-use Rattle.varint.specs.declared.Written.the-variants as w
 use Rattle.varint.specs.Answer.{Answer, done, refused, written, within, tells, leaves}
-use Rattle.varint.specs.Promise.{count, Writes}
 use Rattle.varint.specs.Writing.{lt-or-le}
-use Rattle.varint.specs.Output.{Partly, partly-none, partly-next, partly-place, partly-all, lent-tail, leaves-length, leaves-byte, leaves-tail}
+use Rattle.varint.specs.Output.{Partly, partly-none, partly-all, leaves-length, leaves-byte}
+use Rattle.varint.specs.Parts.{both-start, both-room, both-count, both-leaves, copy-place, copy-next, copy-all}
 use Rattle.types.specs.Form.{size}
 use Rattle.types.specs.Promise.{Puts}
-
--- where there is room, all is written
-module _ (bytes : List ℕ) {old new : List ℕ} {r : Written} (p : Writes (within (length old) (written bytes)) r old new) (room : length bytes ≤ length old) where
-  pub room-count : count r ≡ done tt (length bytes)
-  room-count = simp (le-leb (length bytes) (length old) room) at (p .says)
-
-  pub room-leaves : new ≡ leaves (written bytes) old
-  room-leaves = simp (le-leb (length bytes) (length old) room) at (p .holds)
-
-  pub room-done : (n : ℕ) → r ≡ w.Done n → n ≡ length bytes
-  room-done n is = let e : done tt n ≡ done tt (length bytes) = sym (ap count is) ∙ room-count in cc
-
-  pub room-refused : {G : Type 0} (x : Refusal) → r ≡ w.Refused x → G
-  room-refused x is =
-      let e : refused (x .number) (x .place) ≡ done tt (length bytes) = sym (ap count is) ∙ room-count in
-      let z : _≡_ {A = ℕ} 0 1 = cc in
-      absurd (omega arith)
 
 -- what has no written form is not written
 pub puts-refusal : {a : Answer (List ℕ)} (room n : ℕ) (old : List ℕ) → a ≡ refused n 0 → Puts (within room a) 0 old old
@@ -63,21 +41,6 @@ told-short {a} bytes room is some none =
     (λ h. let z : length bytes ≡ 0 = simp (le-leb (length bytes) room h) at (rw is at none) in absurd (omega arith))
     (lt-or-le room (length bytes))
 
--- a copy, one byte more
-module _ {bytes old out : List ℕ} {at : ℕ} (p : Partly bytes old at (drop at bytes) out) (h : at < length bytes) where
-  copied : Partly bytes old at (getD bytes at 0 ∷ drop (suc at) bytes) out
-  copied = rw (drop-cons bytes at 0 h) at p
-
-  pub copy-place : at < length out
-  copy-place = partly-place copied
-
-  pub copy-next : Partly bytes old (at + 1) (drop (at + 1) bytes) (set out at (getD bytes at 0))
-  copy-next = rw (add-one at) (rw (add-one at) at (partly-next copied))
-
--- and at its end
-pub copy-all : {bytes old out : List ℕ} {at : ℕ} → Partly bytes old at (drop at bytes) out → length bytes ≤ at → Partly bytes old at [] out
-copy-all {bytes} p h = rw (drop-of-length-le bytes h) at p
-
 -- four bytes, one after the other
 module _ (bytes old : List ℕ) (four : length bytes ≡ 4) (room : length bytes ≤ length old) where
   none : Partly bytes old 0 (drop 0 bytes) old
@@ -104,29 +67,7 @@ module _ (bytes old : List ℕ) (four : length bytes ≡ 4) (room : length bytes
   pub four-all : set (set (set (set old 0 (getD bytes 0 0)) 1 (getD bytes 1 0)) 2 (getD bytes 2 0)) 3 (getD bytes 3 0) ≡ leaves (written bytes) old
   four-all = partly-all (copy-all (copy-next three (omega (arith, four))) (omega (arith, four)))
 
--- Two parts: `front` is written, which made out of old, and n bytes long; `rest` goes behind it, by whoever is lent `&mut out[n..]`.
-module _ (front rest old out : List ℕ) (n : ℕ) (count : n ≡ length front) (first : out ≡ leaves (written front) old)
-    (room : length (front ++ rest) ≤ length old) where
-  long : length front + length rest ≤ length old
-  long = omega (arith, length-append front rest)
-
-  pub both-length : length out ≡ length old
-  both-length = ap length first ∙ leaves-length front old (omega (arith, long))
-
-  pub both-start : n ≤ length out
-  both-start = omega (arith, long, both-length)
-
-  pub both-room : length rest ≤ length (take (length out - n) (drop n out))
-  both-room = rw (lent-tail n out) (simp length-drop (omega (arith, long, both-length)))
-
-  pub both-count : (k : ℕ) → k ≡ length rest → n + k ≡ length (front ++ rest)
-  both-count k e = omega (arith, length-append front rest)
-
-  pub both-leaves : (tail : List ℕ) → tail ≡ leaves (written rest) (take (length out - n) (drop n out))
-      → putMid n (length out - n) out tail ≡ leaves (written (front ++ rest)) old
-  both-leaves tail e = leaves-tail front rest old out tail n (sym count) first e
-
--- Such a front of one byte, as a store leaves it: old has room for b and for what goes behind it.
+-- A front of one byte, as a store leaves it: old has room for b and for what goes behind it.
 pub record Tagged (b : ℕ) (rest old : List ℕ) : Type 0 where
   pub room : length (b ∷ rest) ≤ length old
 

@@ -9,6 +9,5 @@ pub mod Lossy
 pub mod Ascii
 pub mod Same
 pub mod Advance
-pub mod Parts
 pub mod Walk
 pub mod Unique

@@ -4,5 +4,6 @@ pub mod Number
 pub mod Promise
 pub mod Writing
 pub mod Output
+pub mod Parts
 pub mod Reading
 pub mod Unique

@@ -16,8 +16,8 @@ use Rattle.varint.specs.Answer.{Answer, done, refused, written, within, tells, 
 use Rattle.varint.specs.Promise.{count, Writes}
 use Rattle.varint.specs.Writing.{lt-or-le}
 use Rattle.varint.specs.Output.{writes-whole}
+use Rattle.varint.specs.Parts.{both-start, both-room, both-leaves}
 use Rattle.utf8.specs.Stepping.{bool-cases}
-use Rattle.types.specs.Output.{both-start, both-room, both-leaves}
 use Rattle.frame.specs.declared.Head.{Head}
 use Rattle.frame.specs.Head.{fourBytes, headBytes, frameBytes}
 use Rattle.frame.specs.Laws.{four-long}

@@ -11,6 +11,7 @@ use Rattle.varint.specs.declared.Refusal.{Refusal}
 use Rattle.varint.specs.Answer.{written, leaves}
 use Rattle.varint.specs.Writing.{lt-or-le}
 use Rattle.varint.specs.Output.{Partly, partly-none, partly-length, partly-count, partly-all}
+use Rattle.varint.specs.Parts.{part-start, part-room, part-most, partly-part}
 use Rattle.writer.specs.Table.{records, joined, some, firstRefused, capped}
 use Rattle.writer.specs.Records
 
@@ -137,17 +138,17 @@ module _ {A : Type 0} {bytes : A → List ℕ} {at : ℕ → A} {count : ℕ} {o
     parts = rw one-more at (p .partly)
 
     pub putting-start : place ≤ length out
-    putting-start = Records.part-start (bytes (at i)) _ parts
+    putting-start = part-start (bytes (at i)) _ parts
 
     pub putting-room : length (bytes (at i)) ≤ length (take (length out - place) (drop place out))
-    putting-room = Records.part-room (bytes (at i)) _ parts
+    putting-room = part-room (bytes (at i)) _ parts
 
     pub putting-most : place + length (bytes (at i)) ≤ length old
-    putting-most = Records.part-most (bytes (at i)) _ parts
+    putting-most = part-most (bytes (at i)) _ parts
 
     pub putting-on : (n : ℕ) (tail : List ℕ) → n ≡ length (bytes (at i)) → tail ≡ leaves (written (bytes (at i))) (take (length out - place) (drop place out))
         → Putting bytes at count old (i + 1) (place + n) (putMid place (length out - place) out tail)
-    putting-on n tail en et = record { partly = rw en (Records.partly-part (bytes (at i)) _ parts tail et) }
+    putting-on n tail en et = record { partly = rw en (partly-part (bytes (at i)) _ parts tail et) }
 
   done-parts : count ≤ i → Partly (joined bytes (records at 0 count)) old place [] out
   done-parts h = rw (ap (joined bytes) (Records.records-end at i count h) ∙ Records.joined-none bytes) at (p .partly)

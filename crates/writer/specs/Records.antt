@@ -1,19 +1,14 @@
 -- Laws about the records of a table: how the definitions unroll, one record at a time, as the loops go.
 use mathlib.Core.Path.{_≡_, refl, sym, ap, _∙_}
 use mathlib.Core.Logic.{⊎-elim}
-use mathlib.Core.Bool.{Bool, true, false, cond}
-use mathlib.Core.List.{List, [], _∷_, _++_, append-assoc, append-nil}
+use mathlib.Core.Bool.{Bool, true, false}
+use mathlib.Core.List.{List, [], _∷_, _++_}
 use Prim.Native.Nat.{ℕ, zero, suc, _+_, _-_, _≤_, _<_}
 use native.Mathlib.Numerals.{add-one}
 use native.Mathlib.Omega.{arith}
-use lib.ListN.{length, take, drop, length-append, length-take, length-drop}
-use lib.Seq.{length-take-le, drop-drop, take-add, take-at, drop-at}
-use borrow.Rule.Slice.PartMut.{putMid}
-use borrow.Author.Tests.{le-leb, lt-leb, eq-eqb, ne-eqb}
+use borrow.Author.Tests.{le-leb, lt-leb, ne-eqb}
 use Rattle.varint.specs.declared.Refusal.{Refusal}
-use Rattle.varint.specs.Answer.{written, leaves}
 use Rattle.varint.specs.Writing.{lt-or-le}
-use Rattle.varint.specs.Output.{Partly, partly-length, lent-tail, leaves-tail}
 use Rattle.writer.specs.Table.{records, joined, some, firstRefused, capped}
 
 -- ---- records
@@ -126,46 +121,3 @@ capped-right most a b = ap (capped most) (omega arith) ∙ capped-left most b a 
 pub capped-on : (most t a b : ℕ) → capped most (t + (a + b)) ≡ capped most (capped most (t + capped most a) + b)
 capped-on most t a b =
     sym (capped-left most (t + capped most a) b ∙ ap (capped most) (omega arith) ∙ capped-right most (t + b) a ∙ ap (capped most) (omega arith))
-
--- ---- a part that another writer wrote into the tail behind what is written, `&mut out[at..]`
-
-module _ {bytes old : List ℕ} {at : ℕ} {out : List ℕ} (front rest : List ℕ) (p : Partly bytes old at (front ++ rest) out) where
-  counts : length bytes ≡ at + length front + length rest
-  counts = omega (arith, p .at-most, length-drop at bytes, ap length (p .to-do), length-append front rest)
-
-  pub part-start : at ≤ length out
-  part-start = omega (arith, p .room, counts, partly-length p)
-
-  pub part-room : length front ≤ length (take (length out - at) (drop at out))
-  part-room = rw (lent-tail at out) (simp length-drop (omega (arith, p .room, counts, partly-length p)))
-
-  pub part-most : at + length front ≤ length old
-  part-most = omega (arith, p .room, counts)
-
-  front-long : length (take at bytes) ≡ at
-  front-long = length-take-le at bytes (p .at-most)
-
-  front-new : take (at + length front) bytes ≡ take at bytes ++ front
-  front-new =
-      take-add at (length front) bytes
-      ∙ ap (λ (l : List ℕ). take at bytes ++ take (length front) l) (p .to-do)
-      ∙ ap (λ (l : List ℕ). take at bytes ++ l) (take-at front rest (length front) refl)
-
-  front-old : out ≡ leaves (written (take at bytes)) old
-  front-old = p .so-far ∙ ap (λ (n : ℕ). take at bytes ++ drop n old) (sym front-long)
-
-  module _ (tail : List ℕ) (then : tail ≡ leaves (written front) (take (length out - at) (drop at out))) where
-    made : putMid at (length out - at) out tail ≡ take (at + length front) bytes ++ drop (at + length front) old
-    made =
-        leaves-tail (take at bytes) front old out tail at front-long front-old then
-        ∙ ap (λ (n : ℕ). (take at bytes ++ front) ++ drop n old) (length-append (take at bytes) front ∙ ap (λ (n : ℕ). n + length front) front-long)
-        ∙ ap (λ (l : List ℕ). l ++ drop (at + length front) old) (sym front-new)
-
-    pub partly-part : Partly bytes old (at + length front) rest (putMid at (length out - at) out tail)
-    partly-part =
-        record {
-          room = p .room;
-          so-far = made;
-          to-do = sym (drop-drop (length front) at bytes) ∙ ap (drop (length front)) (p .to-do) ∙ drop-at front rest (length front) refl;
-          at-most = omega (arith, counts);
-        }

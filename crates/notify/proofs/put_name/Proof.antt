@@ -9,10 +9,10 @@ use lib.ListN.{length, length-append}
 use Rattle.varint.specs.Answer.{written, within, leaves}
 use Rattle.varint.specs.Promise.{Writes}
 use Rattle.varint.specs.Output.{Partly, partly-next, partly-place, partly-count, partly-all}
+use Rattle.varint.specs.Parts.{room-leaves, one-left}
 use Rattle.types.specs.Form.{part, stringBytes}
-use Rattle.types.specs.Output.{room-leaves}
 use Rattle.types.specs.Writing.{part-lent}
-use Rattle.notify.specs.Messages.{name-bytes, counted-room, one-left}
+use Rattle.notify.specs.Messages.{name-bytes, counted-room}
 use Rattle.notify.proofs.put_name.Statement.{statement}
 use Rattle.notify.proofs.put_name.Tie as tie
 

@@ -8,7 +8,7 @@ use native.Mathlib.Omega.{arith}
 use lib.ListN.{length, take, drop}
 use Rattle.varint.specs.Answer.{written, within}
 use Rattle.varint.specs.Promise.{Writes}
-use Rattle.types.specs.Output.{room-leaves}
+use Rattle.varint.specs.Parts.{room-leaves}
 use Rattle.writer.specs.Loops.{Putting, putting-none, putting-length, putting-start, putting-room, putting-most, putting-on, putting-count, putting-all}
 use Rattle.writer.specs.Pair.{pairBytes, pairForm, pairRefusal}
 use Rattle.writer.specs.Pairs.{formed-passed, pair-whole}

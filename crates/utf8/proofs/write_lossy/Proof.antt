@@ -13,7 +13,7 @@ use Rattle.utf8.specs.Text.{lossy, size, becomes}
 use Rattle.utf8.specs.Promise.{seen}
 use Rattle.utf8.specs.Lossy.{lossy-none}
 use Rattle.utf8.specs.Advance.{Advances, textSize, becomes-length, rest-there, rest-some}
-use Rattle.utf8.specs.Parts.{part-room, part-next}
+use Rattle.varint.specs.Parts.{part-fits, partly-part}
 use Rattle.utf8.proofs.write_lossy.Statement.{statement}
 use Rattle.utf8.proofs.write_lossy.Tie as tie
 
@@ -39,7 +39,7 @@ room c =
     let k = c .before .before .before in
     let s = drop (k .loop .at) (k .before .before .before .args .bytes .now) in
     let x = seen (c .stride .result) in
-    rw (sym (becomes-length s x (on c .there))) (part-room _ _ (k .loop .n) (becomes x s) (lossy (drop (size x) s)) (k .loop .out) (next c))
+    rw (sym (becomes-length s x (on c .there))) (part-fits (becomes x s) (lossy (drop (size x) s)) (next c))
 
 -- the step's bytes are there
 further : (c : tie.After-stride Inv-loop μ-loop)
@@ -117,7 +117,7 @@ loop-again c = let e = c .before .before .before .before .before .before .before
     let s = drop (k .loop .at) bytes in
     let x = seen (e .stride .result) in (
       rw (c .before .text-len .ensures, c .step-len .ensures, sym (drop-drop (size x) (k .loop .at) bytes), sym (becomes-length s x (on e .there)))
-          (part-next _ _ (k .loop .n) (becomes x s) (lossy (drop (size x) s)) (k .loop .out) (next e) _ (rw (lent-tail (k .loop .at) bytes) at (c .before .before .before .before .put .ensures))),
+          (partly-part (becomes x s) (lossy (drop (size x) s)) (next e) _ (rw (lent-tail (k .loop .at) bytes) at (c .before .before .before .before .put .ensures))),
       rw (c .step-len .ensures) (further e .0),
     )
 

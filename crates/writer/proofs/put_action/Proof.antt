@@ -7,9 +7,9 @@ use Prim.Native.Nat.{ℕ, _+_, _-_, _≤_}
 use native.Mathlib.Omega.{arith}
 use lib.ListN.{length, take, drop}
 use Rattle.varint.specs.Answer.{written, leaves}
+use Rattle.varint.specs.Parts.{both-start, both-room, both-count, both-leaves}
 use Rattle.types.specs.Form.{stringBytes}
 use Rattle.types.specs.Writing.{part-lent}
-use Rattle.types.specs.Output.{both-start, both-room, both-count, both-leaves}
 use Rattle.writer.specs.Pair.{keyOf, pairBytes}
 use Rattle.writer.specs.Pairs.{formed-passed}
 use Rattle.writer.specs.Actions.{passed-scope, passed-pair, set-bytes, unset-bytes}

@@ -4,10 +4,10 @@ use borrow.Author.Needs.{needs}
 use lib.ListN.{length}
 use Rattle.varint.specs.Answer.{written, within}
 use Rattle.varint.specs.Promise.{Writes}
+use Rattle.varint.specs.Parts.{room-done, room-leaves, room-refused}
 use Rattle.types.specs.Form.{valueBytes}
 use Rattle.types.specs.Promise.{recordOf}
 use Rattle.types.specs.Writing.{form-whole}
-use Rattle.types.specs.Output.{room-done, room-leaves, room-refused}
 use Rattle.writer.proofs.put_value.Statement.{statement}
 use Rattle.writer.proofs.put_value.Tie as tie
 
