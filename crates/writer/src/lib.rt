@@ -394,6 +394,34 @@ fn kv_frame(
     }
 }
 
+// What a check of some records found: the first that is refused, with number 0 where none is, and then how many bytes they have as
+// far as it matters.
+struct Checked {
+    refusal: Refusal,
+    len: u64,
+}
+
+fn refused_at(number: u64, place: usize) -> Checked
+    ensures { λ r. ⌜ r ≡ record { refusal = record { number = number; place = place }; len = 0 } ⌝ }
+{
+    Checked {
+        refusal: Refusal { number, place },
+        len: 0,
+    }
+}
+
+fn passed(len: u64) -> Checked
+    ensures { λ r. ⌜ r ≡ record { refusal = record { number = 0; place = 0 }; len = len } ⌝ }
+{
+    Checked {
+        refusal: Refusal {
+            number: 0,
+            place: 0,
+        },
+        len,
+    }
+}
+
 // Record i of a table of actions.
 fn action_at(actions: &[u64], i: usize) -> Action
     requires { ⌜ i * 7 + 7 ≤ length (now actions) ⌝ }
@@ -454,26 +482,6 @@ pub fn check_action(action: Action, buffer: &[u8]) -> u64
     check_pair(action.pair, buffer)
 }
 
-// The first action that is refused, and its index; 0 where none is.
-fn check_actions(actions: &[u64], count: usize, buffer: &[u8]) -> Refusal
-    requires { ⌜ count * 7 ≤ length (now actions) ⌝ }
-    ensures { λ r. ⌜ r ≡ firstRefused (alone (actionRefusal (now (buffer .entry)))) 0 [] (records (actionAt (now (actions .entry))) 0 count) ⌝ }
-    ensures { λ r. ⌜ (r .number ≡ 0 → Sound (actionRefusal (now (buffer .entry))) (actionAt (now (actions .entry))) count) ⌝ }
-{
-    let mut i = 0;
-    while i < count {
-        let number = check_action(action_at(actions, i), buffer);
-        if number != 0 {
-            return Refusal { number, place: i };
-        }
-        i += 1;
-    }
-    Refusal {
-        number: 0,
-        place: 0,
-    }
-}
-
 // How many bytes the written form of an action has.
 fn action_len(action: Action, buffer: &[u8], most: u32) -> u64
     requires { ⌜ actionRefusal (now buffer) action ≡ 0 ⌝ }
@@ -486,19 +494,26 @@ fn action_len(action: Action, buffer: &[u8], most: u32) -> u64
     cap(3 + (varint::varint_len(len) as u64 + len), most)
 }
 
-// How many bytes the first records of a table have.
-fn actions_len(actions: &[u64], count: usize, buffer: &[u8], most: u32) -> u64
+// The first action that is refused, and its index; 0 where none is. Each is measured where it is checked, so that what the check
+// found need not be found again.
+fn check_actions(actions: &[u64], count: usize, buffer: &[u8], most: u32) -> Checked
     requires { ⌜ count * 7 ≤ length (now actions) ⌝ }
-    requires { ⌜ Sound (actionRefusal (now buffer)) (actionAt (now actions)) count ⌝ }
-    ensures { λ r. ⌜ r ≡ capped most (length (joined (actionBytes (now (buffer .entry))) (records (actionAt (now (actions .entry))) 0 count))) ⌝ }
+    ensures { λ r. ⌜ r .refusal ≡ firstRefused (alone (actionRefusal (now (buffer .entry)))) 0 [] (records (actionAt (now (actions .entry))) 0 count) ⌝ }
+    ensures { λ r. ⌜ (r .refusal .number ≡ 0 → Sound (actionRefusal (now (buffer .entry))) (actionAt (now (actions .entry))) count) ⌝ }
+    ensures { λ r. ⌜ (r .refusal .number ≡ 0 → r .len ≡ capped most (length (joined (actionBytes (now (buffer .entry))) (records (actionAt (now (actions .entry))) 0 count)))) ⌝ }
 {
     let mut len = 0;
     let mut i = 0;
     while i < count {
-        len = cap(len + action_len(action_at(actions, i), buffer, most), most);
+        let action = action_at(actions, i);
+        let number = check_action(action, buffer);
+        if number != 0 {
+            return refused_at(number, i);
+        }
+        len = cap(len + action_len(action, buffer, most), most);
         i += 1;
     }
-    len
+    passed(len)
 }
 
 // Writes three bytes.
@@ -566,7 +581,8 @@ pub fn write_actions(
         return refuse(OUTSIDE);
     }
     let count = action_count as usize;
-    let bad = check_actions(actions, count, buffer);
+    let checked = check_actions(actions, count, buffer, limit);
+    let bad = checked.refusal;
     if bad.number != 0 {
         return Written::Refused(bad);
     }
@@ -577,12 +593,13 @@ pub fn write_actions(
         stream: stream_id,
         frame: frame_id,
     };
-    action_frame(head, limit, buffer, actions, count, out)
+    action_frame(head, checked.len, limit, buffer, actions, count, out)
 }
 
-// The same of records that are not refused.
+// The same of records that are not refused, and have `len` bytes.
 fn action_frame(
     head: Head,
+    len: u64,
     limit: u32,
     buffer: &[u8],
     actions: &[u64],
@@ -591,9 +608,9 @@ fn action_frame(
 ) -> Written
     requires { ⌜ count * 7 ≤ length (now actions) ⌝ }
     requires { ⌜ Sound (actionRefusal (now buffer)) (actionAt (now actions)) count ⌝ }
+    requires { ⌜ len ≡ capped limit (length (joined (actionBytes (now buffer)) (records (actionAt (now actions)) 0 count))) ⌝ }
     ensures { λ r. ⌜ Writes (within (length (now (out .entry))) (limited limit head (joined (actionBytes (now (buffer .entry))) (records (actionAt (now (actions .entry))) 0 count)))) r (now (out .entry)) (now (out .exit)) ⌝ }
 {
-    let len = actions_len(actions, count, buffer, limit);
     let begun = begin_frame(head, len, limit, out);
     match begun {
         Written::Done(start) => {

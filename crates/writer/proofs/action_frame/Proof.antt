@@ -1,4 +1,4 @@
--- `writer::action_frame` meets its contract: the records are measured, the frame is begun, and they are written into the tail behind its head.
+-- `writer::action_frame` meets its contract: the frame is begun, and the records are written into the tail behind its head.
 -- Assumes nothing.
 use borrow.Author.Needs.{needs}
 use mathlib.Core.List.{List}
@@ -10,14 +10,8 @@ use Rattle.writer.specs.Answers.{Begun, begun-refused, begun-done, begun
 use Rattle.writer.proofs.action_frame.Statement.{statement}
 use Rattle.writer.proofs.action_frame.Tie as tie
 
-abbrev start : tie.After-actions-len → tie.Start
-start c = c .before .before .before .before
-
 abbrev payload : tie.Start → List ℕ
 payload s = joined (actionBytes (s .args .buffer .now)) (records (actionAt (s .args .actions .now)) 0 (s .args .count))
-
-actions-len-requires : tie.Need-actions-len-requires
-actions-len-requires c κs = c .before .before .before .pre
 
 begin-frame-requires : tie.Need-begin-frame-requires
 begin-frame-requires c κs = search needs
@@ -25,11 +19,11 @@ begin-frame-requires c κs = search needs
 enum-known-begun : tie.Need-enum-known-begun
 enum-known-begun c = search needs
 
-begun : (c : tie.After-begun) → let s = start (c .before .before .before .before .before .before) in Begun (s .args .limit) (s .args .head) (payload s) (s .args .out .now) (c .before .before .before .before .before .before .actions-len .result) (c .begun .given .0 .0) (c .before .before .before .before .begin-frame .last .1 .1 .1 .0)
+begun : (c : tie.After-begun) → let s = c .before .before .before .before .before .before .before .before .before in let a = s .args in Begun (a .limit) (a .head) (payload s) (a .out .now) (a .len) (c .begun .given .0 .0) (c .before .before .before .before .begin-frame .last .1 .1 .1 .0)
 begun c =
-    let m = c .before .before .before .before .before .before in
-    let s = start m in
-    begun-done (s .args .limit) (s .args .head) (payload s) (m .actions-len .result) (m .actions-len .ensures) (c .before .before .before .before .begin-frame .ensures) _ (c .begun .given .1)
+    let s = c .before .before .before .before .before .before .before .before .before in
+    let a = s .args in
+    begun-done (a .limit) (a .head) (payload s) (a .len) (s .pre .1 .1) (c .before .before .before .before .begin-frame .ensures) _ (c .begun .given .1)
 
 sub-put-actions : tie.Need-sub-put-actions
 sub-put-actions c = begun-start (begun (c .before))
@@ -41,10 +35,10 @@ part-put-actions-end : tie.Need-part-put-actions-end
 part-put-actions-end c = search needs
 
 put-actions-requires : tie.Need-put-actions-requires
-put-actions-requires c κs = let s = c .before .before .before .before .before .before .before .before .before .before .before .before in (s .pre .0, (s .pre .1, begun-room (begun (c .before .before))))
+put-actions-requires c κs = let s = c .before .before .before .before .before .before .before .before .before .before .before in (s .pre .0, (s .pre .1 .0, begun-room (begun (c .before .before))))
 
 add-t15 : tie.Need-add-t15
-add-t15 c = omega (arith, begun-most (begun (c .before .before .before .before .before)), c .before .before .before .before .before .before .before .before .before .before .before .before .before .before .before .good)
+add-t15 c = omega (arith, begun-most (begun (c .before .before .before .before .before)), c .before .before .before .before .before .before .before .before .before .before .before .before .before .before .good)
 
 same-length : tie.Need-same-length
 same-length c = search needs
@@ -60,15 +54,14 @@ same-length-2 c = search needs
 
 returns-2 : tie.Need-returns-2
 returns-2 c =
-    let m = c .before .before .before .before .before .before .before in
-    let s = start m in
-    begun-refused (s .args .limit) (s .args .head) (payload s) (m .actions-len .result) (m .actions-len .ensures) (c .before .before .before .before .before .begin-frame .ensures) _ (c .before .begun2 .given .1)
+    let s = c .before .before .before .before .before .before .before .before .before .before in
+    let a = s .args in
+    begun-refused (a .limit) (a .head) (payload s) (a .len) (s .pre .1 .1) (c .before .before .before .before .before .begin-frame .ensures) _ (c .before .begun2 .given .1)
 
 pub action-frame-spec : {M : Type 1} → statement M
 action-frame-spec =
     tie.close
     (tie.spec
-    actions-len-requires
     begin-frame-requires
     enum-known-begun
     sub-put-actions

@@ -59,21 +59,22 @@ check-actions-requires c κs = held c
 
 returns-3 : tie.Need-returns-3
 returns-3 c =
-    let k = c .before .before in
+    let k = c .before .before .before in
     let e = k .before in
     let s = start (e .before .before) in
     let a = s .args in
-    writes-refusal (length (a .out .now)) (k .check-actions .result .number) (k .check-actions .result .place) (a .out .now)
-    (actions-refused (head s) (a .limit) (a .buffer .now) (a .actions .now) (a .action-count) (allowed (e .before)) (held e) (k .check-actions .result) (k .check-actions .ensures .0) (c .if3 .taken))
+    writes-refusal (length (a .out .now)) (k .check-actions .result .refusal .number) (k .check-actions .result .refusal .place) (a .out .now)
+    (actions-refused (head s) (a .limit) (a .buffer .now) (a .actions .now) (a .action-count) (allowed (e .before)) (held e) (k .check-actions .result .refusal) (k .check-actions .ensures .0) (c .if3 .taken))
 
-cast-t18 : tie.Need-cast-t18
-cast-t18 c = search needs
+cast-t19 : tie.Need-cast-t19
+cast-t19 c = search needs
 
 action-frame-requires : tie.Need-action-frame-requires
 action-frame-requires c κs =
     let f = c .before in
-    let k = f .before .before in
-    (held (k .before), k .check-actions .ensures .1 (f .if3 .left))
+    let k = f .before .before .before in
+    let passed = k .check-actions .ensures .1 in
+    (held (k .before), (passed .0 (f .if3 .left), passed .1 (f .if3 .left)))
 
 same-length : tie.Need-same-length
 same-length c = search needs
@@ -82,11 +83,11 @@ returns-4 : tie.Need-returns-4
 returns-4 c =
     let w = c .before .before in
     let f = w .before .before in
-    let k = f .before .before in
+    let k = f .before .before .before in
     let e = k .before in
     let s = start (e .before .before) in
     let a = s .args in
-    rw (actions-passed (head s) (a .limit) (a .buffer .now) (a .actions .now) (a .action-count) (allowed (e .before)) (held e) (k .check-actions .result) (k .check-actions .ensures .0) (f .if3 .left)) (w .action-frame .ensures)
+    rw (actions-passed (head s) (a .limit) (a .buffer .now) (a .actions .now) (a .action-count) (allowed (e .before)) (held e) (k .check-actions .result .refusal) (k .check-actions .ensures .0) (f .if3 .left)) (w .action-frame .ensures)
 
 pub write-actions-spec : {M : Type 1} → statement M
 write-actions-spec =
@@ -99,7 +100,7 @@ write-actions-spec =
     returns-2
     check-actions-requires
     returns-3
-    cast-t18
+    cast-t19
     action-frame-requires
     same-length
     returns-4)
