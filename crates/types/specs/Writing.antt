@@ -87,6 +87,12 @@ module _ (k a : ℕ) (bytes : List ℕ) where
   pub length-text : 8 ≤ k → k < 10 → 1 + length (numberBytes (length bytes)) + length bytes ≡ length (formed (shape k) k a bytes)
   length-text l h = let e = formed-at text (shape-text k l h) in omega (arith, string-length bytes)
 
+-- a part that is compared with what the others leave of the room
+pub rest-fits : (n beside whole room : ℕ) → whole ≡ beside + n → beside ≤ room → leb n (room - beside) ≡ leb whole room
+rest-fits n beside whole room e h =
+    ⊎-elim (λ l. lt-leb n (room - beside) l ∙ sym (lt-leb whole room (omega arith))) (λ l. le-leb n (room - beside) l ∙ sym (le-leb whole room (omega arith)))
+    (lt-or-le (room - beside) n)
+
 -- ---- the tests
 
 -- the test of a first number, beside an unused one that is 0

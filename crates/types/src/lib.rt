@@ -338,13 +338,27 @@ fn form_len(value: Value) -> usize
 pub fn write_string(text: &[u8], out: &mut [u8]) -> Written
     ensures { λ r. ⌜ Writes (within (length (now (out .entry))) (written (stringBytes (now (text .entry))))) r (now (out .entry)) (now (out .exit)) ⌝ }
 {
-    if out.len() < string_len(text) {
+    if !string_fits(text, out.len()) {
         return Written::Refused(Refusal {
             number: NO_ROOM,
             place: 0,
         });
     }
     Written::Done(put_string(text, out))
+}
+
+// Whether the written form of a string has at most `room` bytes. Ten beside its own are always enough, and spare the measuring.
+fn string_fits(text: &[u8], room: usize) -> bool
+    ensures { λ r. ⌜ r ≡ leb (length (stringBytes (now (text .entry)))) room ⌝ }
+{
+    let len = text.len();
+    if room < len {
+        return false;
+    }
+    if 10 <= room - len {
+        return true;
+    }
+    varint::varint_len(len as u64) <= room - len
 }
 
 // Writes a value at the front of `out`. It refuses what has no written form; whether a string is UTF-8 is not its to ask.

@@ -6,7 +6,7 @@ use mathlib.Core.List.{List, _++_}
 use Prim.Native.Nat.{ℕ, _+_, _-_, _≤_, _<_}
 use native.Mathlib.Omega.{arith}
 use native.Mathlib.Decide.{ℕ-discrete}
-use lib.Dec.{eqb, leb}
+use lib.Dec.{eqb}
 use lib.ListN.{length, length-append, length-take, length-drop}
 use borrow.Author.Tests.{le-leb, lt-leb, eq-eqb, ne-eqb, eqb-true, eqb-false, leb-true}
 use Rattle.varint.specs.Answer.{refused, written}
@@ -61,12 +61,6 @@ value-bound buffer k a b =
   where
     most : length (part buffer a b) ≤ b
     most = simp (length-take, length-drop) (omega arith)
-
--- a part that is compared with what the others leave of the room
-pub rest-fits : (n beside whole room : ℕ) → whole ≡ beside + n → beside ≤ room → leb n (room - beside) ≡ leb whole room
-rest-fits n beside whole room e h =
-    ⊎-elim (λ l. lt-leb n (room - beside) l ∙ sym (lt-leb whole room (omega arith))) (λ l. le-leb n (room - beside) l ∙ sym (le-leb whole room (omega arith)))
-    (lt-or-le (room - beside) n)
 
 -- a value that passes has its written form's length
 module _ (buffer : List ℕ) (v : Record) (h : writableRecord v ≡ true) (r : ranged buffer v ≡ true) where

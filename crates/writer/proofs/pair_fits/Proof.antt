@@ -9,8 +9,9 @@ use borrow.Author.Tests.{le-leb, lt-leb, leb-true}
 use Rattle.varint.specs.Writing.{length-most}
 use Rattle.types.specs.Form.{valueBytes}
 use Rattle.types.specs.Promise.{recordOf}
+use Rattle.types.specs.Writing.{rest-fits}
 use Rattle.writer.specs.Pair.{pairBytes}
-use Rattle.writer.specs.Pairs.{value-most, value-bound, value-long, pair-long, rest-fits}
+use Rattle.writer.specs.Pairs.{value-most, value-bound, value-long, pair-long}
 use Rattle.writer.proofs.pair_fits.Statement.{statement}
 use Rattle.writer.proofs.pair_fits.Tie as tie
 
