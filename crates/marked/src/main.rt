@@ -180,7 +180,7 @@ fn value(input: &[u8], kind: u64, marked: Answer) {
     }
 }
 
-// Frames that an agent sends, whole: two of pairs and one of actions, their records in order.
+// Frames, whole, their records in order: two of pairs and one of actions, as an agent sends them, and one of messages, as HAProxy does.
 fn frames() {
     agent_hello();
     agent_disconnect();

@@ -38,12 +38,12 @@ messageRefusal buffer total from last m =
     (cond (leb (m .count) 255) (stringRefusal buffer (m .start) (m .len)) 17)
     14
 
--- where the last of some runs ends, the first starting at `from`
+-- where the last of some messages' runs ends, or `from` where there is none: the first run starts at 0
 unfoldable pub ends : ℕ → List Message → ℕ
 ends from [] = from
 ends from (m ∷ ms) = ends (m .first + m .count) ms
 
--- in a list of `count` messages, behind the earlier ones
+-- The same in a list of `count` messages, behind the earlier ones: its run starts where the one before ended.
 unfoldable pub listRefusal : List ℕ → ℕ → ℕ → List Message → Message → ℕ
 listRefusal buffer total count earlier m = messageRefusal buffer total (ends 0 earlier) (eqb (length earlier + 1) count) m
 

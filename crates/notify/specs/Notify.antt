@@ -21,7 +21,7 @@ ofMessages h limit buffer messages count pairs total =
     (unless (firstRefused (alone (pairRefusal buffer)) 0 [] (records (pairAt pairs) 0 total))
     (limited limit h (payload buffer messages count pairs)))
 
--- a message has four numbers, a pair five
+-- The metadata is asked once, and then both counts: a message has four numbers, a pair five.
 unfoldable pub notifyAnswer : Head → ℕ → List ℕ → List ℕ → ℕ → List ℕ → ℕ → Answer (List ℕ)
 notifyAnswer h limit buffer messages count pairs total =
     answer (finAlone (h .fin) (h .abort)) 4 count messages

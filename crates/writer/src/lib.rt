@@ -1,7 +1,7 @@
 // KV frames and action frames, written (SPOE.txt, sections 3.2 and 3.4).
 //
-// Every writer checks all records first, measures, and then writes. No public call has a `requires`: each does its own refusing,
-// and a refusal changes no byte.
+// Every writer checks and measures all records before it writes the first byte. No public call has a `requires`: each does its own
+// refusing, and a refusal changes no byte.
 use frame::Head;
 use types::NOT_WRITABLE;
 use types::OUTSIDE;
