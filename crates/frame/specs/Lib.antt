@@ -1,4 +1,2 @@
--- A frame's head, and the laws about its parts.
+-- A frame's head.
 pub mod Head
-pub mod Laws
-pub mod Unique

@@ -3,12 +3,12 @@ ghost use mathlib.Core.Path.{_≡_};
 ghost use mathlib.Core.List.{_++_, _∷_};
 ghost use Prim.Native.Nat.{_≤_};
 ghost use lib.ListN.{length};
-ghost use Rattle.varint.specs.Answer.{written, within, leaves};
-ghost use Rattle.varint.specs.Promise.{Writes};
+ghost use Rattle.answer.specs.Answer.{written, within, leaves};
+ghost use Rattle.answer.specs.Writes.{Writes};
 ghost use Rattle.frame.specs.Head.{fourBytes, flagsOf, headBytes};
-use varint::NO_ROOM;
-use varint::Refusal;
-use varint::Written;
+use answer::NO_ROOM;
+use answer::Refusal;
+use answer::Written;
 
 // Types of frame (SPOE.txt, section 3.2.2).
 pub const HAPROXY_HELLO: u64 = 1;

@@ -3,7 +3,7 @@ use mathlib.Core.Bool.{Bool, true, false, cond, _&&_, _||_}
 use mathlib.Core.List.{List, [], _∷_}
 use Prim.Native.Nat.{ℕ, min}
 use lib.Dec.{leb, eqb}
-use Rattle.varint.specs.Answer.{Answer, done, refused}
+use Rattle.answer.specs.Answer.{Answer, done, refused}
 
 -- "The maximum size supported by peers for a frame must be greater than or equal to 256 bytes", and the agent returns "the lower
 -- value between its maximum size allowed for a frame and the HAProxy one". 13 at place 0 where a size is below (document 01).

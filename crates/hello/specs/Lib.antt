@@ -1,5 +1,3 @@
--- The two negotiations of the HELLO handshake.
+-- The two negotiations of the HELLO handshake, and what the calls promise.
 pub mod Hello
 pub mod Promise
-pub mod Laws
-pub mod Unique

@@ -3,7 +3,7 @@ use Rattle.hello.specs.declared.Size.{Size}
 use Rattle.hello.specs.declared.Size.the-variants as z
 use Rattle.hello.specs.declared.Chosen.{Chosen}
 use Rattle.hello.specs.declared.Chosen.the-variants as c
-use Rattle.varint.specs.Answer.{Answer, done, refused}
+use Rattle.answer.specs.Answer.{Answer, done, refused}
 use Rattle.hello.specs.Hello.{Choice, version, none}
 
 abbrev pub sizeOf : Size → Answer Unit

@@ -1,12 +1,10 @@
 // The two negotiations of the HELLO handshake (SPOE.txt, sections 3.2.4 and 3.2.5).
 ghost use mathlib.Core.Path.{_≡_};
-ghost use Rattle.varint.specs.Answer.{refused};
+ghost use Rattle.answer.specs.Answer.{refused};
 ghost use Rattle.hello.specs.Hello.{frameSize, choice};
 ghost use Rattle.hello.specs.Promise.{sizeOf, choiceOf};
-use varint::Refusal;
-
-// A size is under 256.
-pub const SIZE_TOO_SMALL: u64 = 13;
+use answer::Refusal;
+use answer::SIZE_TOO_SMALL;
 
 // The most that a frame may declare before the handshake settled on less.
 pub const MAX_FRAME_SIZE_LIMIT: u32 = 1_048_576;

@@ -3,7 +3,7 @@ use mathlib.Core.Path.{_≡_, refl}
 use mathlib.Core.List.{List, [], _∷_}
 use Prim.Native.Nat.{ℕ, _+_, _-_, _^_}
 use lib.ListN.{length}
-use Rattle.varint.specs.Answer.{Answer, done, refused}
+use Rattle.answer.specs.Answer.{Answer, done, refused}
 use Rattle.types.specs.Value.{Record, value, typed, shape, signExtended}
 use Rattle.hello.specs.Hello.{frameSize}
 use Rattle.varint.specs.Number.{worth, more, number, groups, numberBytes}

@@ -5,8 +5,8 @@ use mathlib.Core.List.{List, []}
 use Prim.Native.Nat.{ℕ, _*_, _≤_, _<_}
 use borrow.Author.Tests.{eq-eqb, ne-eqb}
 use lib.ListN.{length}
-use Rattle.varint.specs.declared.Refusal.{Refusal}
-use Rattle.varint.specs.Answer.{Answer, refused}
+use Rattle.answer.specs.declared.Refusal.{Refusal}
+use Rattle.answer.specs.Answer.{Answer, refused}
 use Rattle.frame.specs.declared.Head.{Head}
 use Rattle.writer.specs.Table.{records, alone, firstRefused}
 use Rattle.writer.specs.Pair.{pairAt, pairRefusal}

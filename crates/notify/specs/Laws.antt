@@ -9,9 +9,9 @@ use native.Mathlib.Omega.{arith}
 use lib.Dec.{eqb}
 use lib.ListN.{length}
 use borrow.Author.Tests.{eq-eqb, ne-eqb, eqb-true, eqb-false}
-use Rattle.varint.specs.declared.Refusal.{Refusal}
-use Rattle.varint.specs.Answer.{Answer, done, refused}
-use Rattle.utf8.specs.Stepping.{bool-cases}
+use Rattle.answer.specs.declared.Refusal.{Refusal}
+use Rattle.answer.specs.Answer.{Answer, done, refused}
+use Rattle.answer.proofs.Cases.{bool-cases}
 use Rattle.frame.specs.declared.Head.{Head}
 use Rattle.frame.specs.Head.{frameBytes}
 use Rattle.writer.specs.declared.Pair.{Pair}

@@ -8,15 +8,14 @@ use native.Mathlib.Omega.{arith}
 use lib.Dec.{eqb, leb}
 use lib.ListN.{length, length-append}
 use borrow.Author.Tests.{le-leb, lt-leb, eq-eqb, ne-eqb, eqb-true, eqb-false, leb-true, leb-false}
-use Rattle.varint.specs.declared.Refusal.{Refusal}
-use Rattle.varint.specs.declared.Written.{Written}
-use Rattle.varint.specs.declared.Written.the-variants as w
-use Rattle.varint.specs.Answer.{written, within}
-use Rattle.varint.specs.Promise.{Writes}
+use Rattle.answer.specs.declared.Refusal.{Refusal}
+use Rattle.answer.specs.declared.Written.{Written}
+use Rattle.answer.specs.declared.Written.the-variants as w
+use Rattle.answer.specs.Answer.{written, within}
+use Rattle.answer.specs.Writes.{Writes}
 use Rattle.varint.specs.Number.{numberBytes}
-use Rattle.varint.specs.Writing.{lt-or-le}
-use Rattle.varint.specs.Parts.{room-done, room-refused}
-use Rattle.utf8.specs.Stepping.{bool-cases}
+use Rattle.answer.proofs.Cases.{lt-or-le, bool-cases}
+use Rattle.answer.proofs.Parts.{room-done, room-refused}
 use Rattle.types.specs.Form.{part, stringBytes}
 use Rattle.types.specs.Check.{stringRefusal}
 use Rattle.writer.specs.Table.{records, joined, alone, firstRefused}

@@ -3,7 +3,7 @@
 use mathlib.Core.Bool.{true}
 use mathlib.Core.List.{List, []}
 use Prim.Native.Nat.{ℕ}
-use Rattle.varint.specs.Answer.{Answer}
+use Rattle.answer.specs.Answer.{Answer}
 use Rattle.frame.specs.declared.Head.{Head}
 use Rattle.writer.specs.Table.{records, joined, alone, firstRefused}
 use Rattle.writer.specs.Pair.{pairAt, pairRefusal}

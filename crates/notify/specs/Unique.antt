@@ -4,10 +4,10 @@ use mathlib.Core.Bool.{Bool}
 use mathlib.Core.List.{List}
 use Prim.Native.Nat.{ℕ}
 use lib.ListN.{length}
-use Rattle.varint.specs.declared.Written.{Written}
-use Rattle.varint.specs.Answer.{within}
-use Rattle.varint.specs.Promise.{Writes}
-use Rattle.varint.specs.Unique.{writes-unique}
+use Rattle.answer.specs.declared.Written.{Written}
+use Rattle.answer.specs.Answer.{within}
+use Rattle.answer.specs.Writes.{Writes}
+use Rattle.answer.proofs.Same.{writes-unique}
 use Rattle.writer.specs.Frame.{headOf}
 use Rattle.notify.specs.Notify.{notifyAnswer}
 

@@ -3,19 +3,20 @@
 // The messages are checked first, then the pairs that are their arguments, then all is measured, and then written. The call has no
 // `requires`: it does its own refusing, and a refusal changes no byte.
 use frame::Head;
-use types::NOT_WRITABLE;
-use types::OUTSIDE;
 use types::Value;
-use varint::Refusal;
-use varint::Written;
+use answer::NOT_WRITABLE;
+use answer::OUTSIDE;
+use answer::Refusal;
+use answer::TOO_MANY;
+use answer::Written;
 use writer::Pair;
 ghost use mathlib.Core.Path.{_≡_};
 ghost use mathlib.Core.List.{[], _∷_, _++_};
 ghost use Prim.Native.Nat.{_+_, _*_, _≤_, _<_};
 ghost use lib.Dec.{eqb};
 ghost use lib.ListN.{length};
-ghost use Rattle.varint.specs.Answer.{written, within, leaves};
-ghost use Rattle.varint.specs.Promise.{Writes};
+ghost use Rattle.answer.specs.Answer.{written, within, leaves};
+ghost use Rattle.answer.specs.Writes.{Writes};
 ghost use Rattle.types.specs.Form.{size};
 ghost use Rattle.writer.specs.Table.{records, joined, alone, firstRefused, capped};
 ghost use Rattle.writer.specs.Pair.{pairAt, pairBytes, pairRefusal};
@@ -24,9 +25,6 @@ ghost use Rattle.writer.specs.Loops.{Sound};
 ghost use Rattle.notify.specs.Message.{messageAt, runAt, nameBytes, messageBytes, messageRefusal, messagesRefusal};
 ghost use Rattle.notify.specs.Notify.{notifyAnswer};
 ghost use Rattle.notify.specs.Ready.{counted, Ready, AllReady};
-
-// A message has more arguments than its count byte can say.
-pub const TOO_MANY: u64 = 17;
 
 // The most that it can say.
 pub const MOST_ARGUMENTS: u64 = 255;

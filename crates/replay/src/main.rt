@@ -11,7 +11,7 @@ use libc::STDOUT_FILENO;
 use types::Typed;
 use types::Value;
 use varint::Number;
-use varint::Written;
+use answer::Written;
 
 // What a line turned out to be.
 enum Verdict {

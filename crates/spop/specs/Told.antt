@@ -3,9 +3,9 @@
 use mathlib.Core.Path.{_≡_, refl, sym, ap, _∙_}
 use mathlib.Core.List.{List, [], _∷_}
 use Prim.Native.Nat.{ℕ}
-use Rattle.varint.specs.declared.Written.{Written}
-use Rattle.varint.specs.Answer.{Answer, done, refused, tells}
-use Rattle.varint.specs.Promise.{count, Writes}
+use Rattle.answer.specs.declared.Written.{Written}
+use Rattle.answer.specs.Answer.{Answer, done, refused, tells}
+use Rattle.answer.specs.Writes.{count, Writes}
 use Rattle.hello.specs.Hello.{Choice, version, none}
 
 module _ {A : Type 0} where

@@ -4,7 +4,7 @@ use mathlib.Core.Bool.{Bool}
 use mathlib.Core.List.{List}
 use Prim.Native.Nat.{ℕ}
 use lib.ListN.{length}
-use Rattle.varint.specs.Answer.{Answer, written, within, leaves}
+use Rattle.answer.specs.Answer.{Answer, written, within, leaves}
 use Rattle.varint.specs.Number.{number, numberBytes}
 use Rattle.utf8.specs.Text.{isUtf8, lossy, sameText}
 use Rattle.types.specs.Value.{typed}

@@ -5,9 +5,10 @@
 // Whatever else is lent changes only after 0.
 ghost use mathlib.Core.Path.{_≡_};
 ghost use lib.ListN.{length};
-ghost use Rattle.varint.specs.Answer.{written, within, leaves};
+ghost use Rattle.answer.specs.Answer.{written, within, leaves};
 ghost use Rattle.varint.specs.Number.{number, numberBytes};
-ghost use Rattle.varint.specs.Promise.{count, numberRead};
+ghost use Rattle.answer.specs.Writes.{count};
+ghost use Rattle.varint.specs.Promise.{numberRead};
 ghost use Rattle.utf8.specs.Text.{isUtf8, lossy, sameText};
 ghost use Rattle.writer.specs.Frame.{headOf, kvAnswer, actionsAnswer};
 ghost use Rattle.notify.specs.Notify.{notifyAnswer};
@@ -23,8 +24,8 @@ use hello::Size;
 use types::Typed;
 use types::Value;
 use varint::Number;
-use varint::Refusal;
-use varint::Written;
+use answer::Refusal;
+use answer::Written;
 
 const DONE: u64 = 0;
 

@@ -5,7 +5,7 @@ use mathlib.Core.List.{List, [], _∷_, _++_}
 use Prim.Native.Nat.{ℕ, _+_, _*_}
 use lib.Dec.{leb}
 use lib.ListN.{length, take, drop}
-use Rattle.varint.specs.Answer.{Answer, done, refused, written}
+use Rattle.answer.specs.Answer.{Answer, done, refused, written}
 use Rattle.varint.specs.Number.{numberBytes}
 use Rattle.types.specs.Value.{Shape, nothing, flag, integer, address, text, reserved, shape, Record, value, points, inFields}
 

@@ -1,15 +1,11 @@
 -- What the calls' own types mean: for each case the number and the values of document 01.
-use mathlib.Core.Path.{_≡_}
-use mathlib.Core.List.{List}
-use Prim.Native.Nat.{ℕ}
 use Rattle.types.specs.declared.Text.{Text}
 use Rattle.types.specs.declared.Text.the-variants as t
 use Rattle.types.specs.declared.Value.{Value}
 use Rattle.types.specs.declared.Typed.{Typed}
 use Rattle.types.specs.declared.Typed.the-variants as v
-use Rattle.varint.specs.Answer.{Answer, done, refused, leaves}
+use Rattle.answer.specs.Answer.{Answer, done, refused}
 use Rattle.types.specs.Value.{Span, span, Record, value}
-use Rattle.types.specs.Form.{size}
 
 -- what the string reader's answer says
 abbrev pub textRead : Text → Answer Span
@@ -24,9 +20,3 @@ recordOf x = value (x .kind) (x .a) (x .b)
 abbrev pub typedRead : Typed → Answer Record
 typedRead (v.Done x used) = done (recordOf x) used
 typedRead (v.Refused r) = refused (r .number) (r .place)
-
--- A writer inside, of what is to give the answer a: it counts the bytes, 0 where it refuses, and those lent to it, old before, are
--- new afterwards.
-pub record Puts (a : Answer (List ℕ)) (n : ℕ) (old new : List ℕ) : Type 0 where
-  pub counts : n ≡ size a
-  pub holds : new ≡ leaves a old

@@ -22,31 +22,14 @@ use mathlib.Core.List.{List, [], _∷_}
 use Prim.Native.Nat.{ℕ, _+_, _-_, _/_, _%_, _^_}
 use lib.Dec.{ltb, leb, eqb}
 use lib.ListN.{length, getD}
-use Rattle.varint.specs.Answer.{Answer, done, refused}
+use Rattle.answer.specs.Answer.{Answer, done, refused, next, behind}
 use Rattle.varint.specs.Number.{number}
-
--- ---- parts
-
--- What is read goes on behind what was read first: a refusal of the first is the whole's.
-abbrev pub next : {A B : Type 0} → Answer A → (A → ℕ → Answer B) → Answer B
-next (done a used) f = f a used
-next (refused number place) f = refused number place
-
--- A part that was read behind n other bytes: its places count from the front of the whole, and so do the starts in what was
--- read, as `moved n` says.
-abbrev pub behind : {A : Type 0} → (ℕ → A → A) → ℕ → Answer A → Answer A
-behind moved n (done a used) = done (moved n a) (n + used)
-behind moved n (refused number place) = refused number (n + place)
 
 -- ---- strings
 
 -- where some bytes stand: their start, and how many they are
 pub data Span : Type 0 where
   span : ℕ → ℕ → Span
-
--- the start moves
-abbrev pub shifted : ℕ → Span → Span
-shifted n (span start len) = span (n + start) len
 
 -- The string at the front: a length number and that many bytes. Where they are fewer it is 3, right after the number.
 unfoldable pub string : List ℕ → Answer Span

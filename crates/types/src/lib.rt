@@ -1,33 +1,29 @@
 // Strings and typed data (SPOE.txt, section 3.1): one value on its own, read and written.
 //
 // No public call has a `requires`: each does its own refusing, and a refusal changes no byte.
-use varint::NO_ROOM;
+use answer::NOT_TEXT;
+use answer::NOT_WRITABLE;
+use answer::NO_ROOM;
+use answer::NO_TYPE;
+use answer::OUTSIDE;
 use varint::Number;
-use varint::Refusal;
-use varint::TOO_SOON;
-use varint::Written;
+use answer::Refusal;
+use answer::TOO_SOON;
+use answer::Written;
 ghost use mathlib.Core.Path.{_≡_};
 ghost use mathlib.Core.Bool.{true};
 ghost use mathlib.Core.List.{List};
 ghost use Prim.Native.Nat.{ℕ, _+_, _≤_, _<_, _^_};
 ghost use lib.Dec.{leb};
 ghost use lib.ListN.{length, drop};
-ghost use Rattle.varint.specs.Answer.{done as finished, refused, written, within, tells, leaves};
+ghost use Rattle.answer.specs.Answer.{done as finished, refused, written, within, tells, leaves, behind};
 ghost use Rattle.varint.specs.Number.{numberBytes};
-ghost use Rattle.varint.specs.Promise.{Writes};
-ghost use Rattle.types.specs.Value.{Width, integer, address, text, shape, kept, signExtended, inFields, string, content, behind, moved, typed, value};
+ghost use Rattle.answer.specs.Writes.{Writes};
+ghost use Rattle.types.specs.Value.{Width, integer, address, text, shape, kept, signExtended, inFields, string, content, moved, typed, value};
 ghost use Rattle.types.specs.Form.{inside, stringBytes, formed, writableRecord, ranged, form, size};
 ghost use Rattle.types.specs.Check.{stringRefusal, partRefusal, refusal};
-ghost use Rattle.types.specs.Promise.{textRead, recordOf, typedRead, Puts};
-
-// A data type is 10 to 15.
-pub const NO_TYPE: u64 = 8;
-// A record is not writable.
-pub const NOT_WRITABLE: u64 = 14;
-// A text is not UTF-8.
-pub const NOT_TEXT: u64 = 15;
-// A record points outside its buffer.
-pub const OUTSIDE: u64 = 16;
+ghost use Rattle.types.specs.Promise.{textRead, recordOf, typedRead};
+ghost use Rattle.types.specs.Inner.{Puts};
 
 // What the string reader answers: where the bytes are, and how many the string took with its length number.
 pub enum Text {

@@ -6,7 +6,7 @@ use Rattle.utf8.specs.declared.Step as t
 use Rattle.utf8.specs.declared.Step.the-variants as s
 use Rattle.utf8.specs.declared.Lead as l
 use Rattle.utf8.specs.declared.Lead.the-variants as v
-use Rattle.utf8.specs.Leading.{Led, unused, led}
+use Rattle.utf8.specs.Inner.{Led, unused, led}
 use Rattle.utf8.specs.Text.{Range, _to_, Row, row, Step, ends, char, mark}
 
 -- a range and a row of the code's table

@@ -1,22 +1,18 @@
 // Text: well-formed UTF-8, lossy text and texts that are the same (the Unicode standard, section 3.9).
 //
 // No public call has a `requires`, and a refusal changes no byte.
-use varint::NO_ROOM;
-use varint::Refusal;
-use varint::Written;
+use answer::NO_ROOM;
+use answer::Refusal;
+use answer::Written;
 ghost use mathlib.Core.Path.{_≡_};
 ghost use mathlib.Core.Bool.{true, _&&_};
 ghost use Prim.Native.Nat.{suc, _-_, _≤_};
 ghost use lib.ListN.{length, take, drop};
 ghost use lib.Dec.{leb};
-ghost use Rattle.varint.specs.Answer.{written, within, leaves};
-ghost use Rattle.varint.specs.Promise.{Writes};
+ghost use Rattle.answer.specs.Answer.{written, within, leaves};
+ghost use Rattle.answer.specs.Writes.{Writes};
 ghost use Rattle.utf8.specs.Text.{rows, inside, follow, front, taken, step, size, becomes, isUtf8, lossy, same, sameText};
-ghost use Rattle.utf8.specs.Promise.{asRange, seen, ledBy};
-ghost use Rattle.utf8.specs.Leading.{rowFor};
-ghost use Rattle.utf8.specs.Ascii.{ascii, AsciiTo};
-ghost use Rattle.utf8.specs.Advance.{Advances, textSize};
-ghost use Rattle.utf8.specs.Walk.{Walks};
+ghost use Rattle.utf8.specs.Inner.{asRange, seen, ledBy, rowFor, ascii, AsciiTo, Advances, textSize, Walks};
 
 // The bytes from the first to the last.
 struct Range {

@@ -1,9 +1,3 @@
--- Definitions first: what an answer is, which bytes a number has, what the calls' own types mean. Then the laws about them.
-pub mod Answer
+-- Which bytes a number has, and what the calls promise.
 pub mod Number
 pub mod Promise
-pub mod Writing
-pub mod Output
-pub mod Parts
-pub mod Reading
-pub mod Unique

@@ -11,7 +11,7 @@ use mathlib.Core.Bool.{cond}
 use mathlib.Core.List.{List, [], _∷_}
 use Prim.Native.Nat.{ℕ, zero, suc, _+_, _-_, _*_, _/_, _%_, _^_}
 use lib.Dec.{ltb, leb, eqb}
-use Rattle.varint.specs.Answer.{Answer, done, refused}
+use Rattle.answer.specs.Answer.{Answer, done, refused}
 
 -- What byte b is worth after k others: b times 2^4, 2^11, 2^18, up to 2^60. The tenth byte counts modulo 16: SPOE.txt has no
 -- such numbers, and the Rust's `checked_shl` drops the upper bits.

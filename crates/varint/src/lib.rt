@@ -1,33 +1,19 @@
 // Variable-length numbers (SPOE.txt, section 3.1): their length, writing and reading.
 //
-// The small types that every layer's answers share stand here too. No public call has a `requires`: each does its own
-// refusing, and a refusal changes no byte.
+// No public call has a `requires`: each does its own refusing, and a refusal changes no byte.
+use answer::NO_ROOM;
+use answer::Refusal;
+use answer::TOO_LARGE;
+use answer::TOO_SOON;
+use answer::Written;
 ghost use mathlib.Core.Path.{_≡_};
 ghost use Prim.Native.Nat.{_≤_, _<_, _^_};
 ghost use lib.Dec.{leb};
 ghost use lib.ListN.{length, drop};
-ghost use Rattle.varint.specs.Answer.{refused, written, within, leaves};
+ghost use Rattle.answer.specs.Answer.{refused, written, within, leaves};
 ghost use Rattle.varint.specs.Number.{number, more, numberBytes, groups};
-ghost use Rattle.varint.specs.Promise.{numberRead, Writes};
-
-// Bytes end too soon.
-pub const TOO_SOON: u64 = 3;
-// A number is too large.
-pub const TOO_LARGE: u64 = 7;
-// The output is too short.
-pub const NO_ROOM: u64 = 11;
-
-// A refusal's number, as document 01 lists them, and its place, counted from the first byte of the call's input.
-pub struct Refusal {
-    pub number: u64,
-    pub place: usize,
-}
-
-// What a writer answers: how many bytes it wrote, or why it wrote none.
-pub enum Written {
-    Done(usize),
-    Refused(Refusal),
-}
+ghost use Rattle.varint.specs.Promise.{numberRead};
+ghost use Rattle.answer.specs.Writes.{Writes};
 
 // What the number reader answers.
 pub enum Number {

@@ -8,7 +8,7 @@ use lib.Dec.{eqb, leb}
 use lib.ListN.{length}
 use borrow.Author.Tests.{le-leb, lt-leb, eq-eqb, ne-eqb, leb-true, leb-false}
 use Rattle.varint.specs.Number.{numberBytes}
-use Rattle.utf8.specs.Stepping.{bool-cases}
+use Rattle.answer.proofs.Cases.{bool-cases}
 use Rattle.types.specs.Form.{stringBytes}
 use Rattle.types.specs.Promise.{recordOf}
 use Rattle.writer.specs.declared.Action.{Action}

@@ -9,18 +9,17 @@ use lib.Dec.{eqb}
 use lib.ListN.{length, take, drop, length-append}
 use borrow.Rule.Slice.PartMut.{putMid}
 use borrow.Author.Tests.{le-leb, lt-leb, eq-eqb, ne-eqb, eqb-true, eqb-false}
-use Rattle.varint.specs.declared.Refusal.{Refusal}
-use Rattle.varint.specs.declared.Written.{Written}
-use Rattle.varint.specs.declared.Written.the-variants as w
-use Rattle.varint.specs.Answer.{Answer, done, refused, written, within, tells, leaves}
-use Rattle.varint.specs.Promise.{count, Writes}
-use Rattle.varint.specs.Writing.{lt-or-le}
-use Rattle.varint.specs.Output.{writes-whole}
-use Rattle.varint.specs.Parts.{both-start, both-room, both-leaves}
-use Rattle.utf8.specs.Stepping.{bool-cases}
+use Rattle.answer.specs.declared.Refusal.{Refusal}
+use Rattle.answer.specs.declared.Written.{Written}
+use Rattle.answer.specs.declared.Written.the-variants as w
+use Rattle.answer.specs.Answer.{Answer, done, refused, written, within, tells, leaves}
+use Rattle.answer.specs.Writes.{count, Writes}
+use Rattle.answer.proofs.Cases.{lt-or-le, bool-cases}
+use Rattle.answer.proofs.Output.{writes-whole}
+use Rattle.answer.proofs.Parts.{both-start, both-room, both-leaves}
 use Rattle.frame.specs.declared.Head.{Head}
 use Rattle.frame.specs.Head.{fourBytes, headBytes, frameBytes}
-use Rattle.frame.specs.Laws.{four-long}
+use Rattle.frame.proofs.Laws.{four-long}
 use Rattle.writer.specs.Table.{records, joined, alone, firstRefused, capped}
 use Rattle.writer.specs.Records.{capped-in, capped-below}
 use Rattle.writer.specs.Pair.{pairAt, pairBytes, kvRefusal}

@@ -10,14 +10,13 @@ use lib.Dec.{eqb, leb}
 use lib.ListN.{length, take, drop, getD, length-append, length-drop}
 use lib.Seq.{take-at, drop-at}
 use borrow.Author.Tests.{eqb-true, eqb-false, leb-true, leb-false}
-use Rattle.varint.specs.declared.Refusal.{Refusal}
-use Rattle.varint.specs.Answer.{Answer, done, refused, written}
+use Rattle.answer.specs.declared.Refusal.{Refusal}
+use Rattle.answer.specs.Answer.{Answer, done, refused, written}
 use Rattle.varint.specs.Number.{numberBytes}
-use Rattle.varint.specs.Writing.{lt-or-le}
-use Rattle.utf8.specs.Stepping.{bool-cases}
+use Rattle.answer.proofs.Cases.{lt-or-le, bool-cases}
 use Rattle.frame.specs.declared.Head.{Head}
 use Rattle.frame.specs.Head.{fourBytes, flagsOf, headBytes, frameBytes}
-use Rattle.frame.specs.Laws.{four-long}
+use Rattle.frame.proofs.Laws.{four-long}
 use Rattle.writer.specs.Table.{records, joined, alone, firstRefused}
 use Rattle.writer.specs.Pair.{pairAt, pairBytes, kvRefusal}
 use Rattle.writer.specs.Action.{actionAt, actionBytes, actionRefusal}

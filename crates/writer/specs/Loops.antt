@@ -7,11 +7,11 @@ use Prim.Native.Nat.{ℕ, _+_, _-_, _≤_, _<_}
 use native.Mathlib.Omega.{arith}
 use lib.ListN.{length, take, drop, length-append}
 use borrow.Rule.Slice.PartMut.{putMid}
-use Rattle.varint.specs.declared.Refusal.{Refusal}
-use Rattle.varint.specs.Answer.{written, leaves}
-use Rattle.varint.specs.Writing.{lt-or-le}
-use Rattle.varint.specs.Output.{Partly, partly-none, partly-length, partly-count, partly-all}
-use Rattle.varint.specs.Parts.{part-start, part-room, part-most, partly-part}
+use Rattle.answer.specs.declared.Refusal.{Refusal}
+use Rattle.answer.specs.Answer.{written, leaves}
+use Rattle.answer.proofs.Cases.{lt-or-le}
+use Rattle.answer.proofs.Output.{Partly, partly-none, partly-length, partly-count, partly-all}
+use Rattle.answer.proofs.Parts.{part-start, part-room, part-most, partly-part}
 use Rattle.writer.specs.Table.{records, joined, some, firstRefused, capped}
 use Rattle.writer.specs.Records
 

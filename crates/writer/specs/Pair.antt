@@ -8,7 +8,7 @@ use mathlib.Core.Bool.{Bool, cond, _&&_}
 use mathlib.Core.List.{List, _++_}
 use Prim.Native.Nat.{ℕ, _<_}
 use lib.ListN.{length}
-use Rattle.varint.specs.Answer.{Answer, refused, written}
+use Rattle.answer.specs.Answer.{Answer, refused, written}
 use Rattle.utf8.specs.Text.{sameText}
 use Rattle.types.specs.Form.{part, inside, stringBytes, valueBytes, writableRecord, ranged}
 use Rattle.types.specs.Check.{stringRefusal, partRefusal}

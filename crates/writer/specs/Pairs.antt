@@ -9,16 +9,16 @@ use native.Mathlib.Decide.{ℕ-discrete}
 use lib.Dec.{eqb}
 use lib.ListN.{length, length-append, length-take, length-drop}
 use borrow.Author.Tests.{le-leb, lt-leb, eq-eqb, ne-eqb, eqb-true, eqb-false, leb-true}
-use Rattle.varint.specs.Answer.{refused, written}
+use Rattle.answer.specs.Answer.{refused, written}
 use Rattle.varint.specs.Number.{numberBytes}
-use Rattle.varint.specs.Writing.{lt-or-le, length-most}
-use Rattle.utf8.specs.Stepping.{bool-cases}
+use Rattle.answer.proofs.Cases.{lt-or-le, bool-cases}
+use Rattle.varint.proofs.Writing.{length-most}
 use Rattle.types.specs.Value.{Record, value}
 use Rattle.types.specs.Form.{part, inside, stringBytes, valueBytes, writableRecord, ranged, form, size}
 use Rattle.types.specs.Check.{stringRefusal, partRefusal}
 use Rattle.types.specs.Promise.{recordOf}
-use Rattle.types.specs.Writing.{shape-cases, bytes-at, value-some, string-length, part-length, form-unwritable, form-outside, form-whole}
-use Rattle.types.specs.Checking.{string-passed, part-passed}
+use Rattle.types.proofs.Writing.{shape-cases, bytes-at, value-some, string-length, part-length, form-unwritable, form-outside, form-whole}
+use Rattle.types.proofs.Checking.{string-passed, part-passed}
 use Rattle.writer.specs.declared.Pair.{Pair}
 use Rattle.writer.specs.Table.{some}
 use Rattle.writer.specs.Pair.{keyOf, pairAt, pairBytes, pairForm, pairRefusal, sameKey, kvRefusal}

@@ -7,8 +7,8 @@ use Prim.Native.Nat.{ℕ, zero, suc, _+_, _-_, _≤_, _<_}
 use native.Mathlib.Numerals.{add-one}
 use native.Mathlib.Omega.{arith}
 use borrow.Author.Tests.{le-leb, lt-leb, ne-eqb}
-use Rattle.varint.specs.declared.Refusal.{Refusal}
-use Rattle.varint.specs.Writing.{lt-or-le}
+use Rattle.answer.specs.declared.Refusal.{Refusal}
+use Rattle.answer.proofs.Cases.{lt-or-le}
 use Rattle.writer.specs.Table.{records, joined, some, firstRefused, capped}
 
 -- ---- records

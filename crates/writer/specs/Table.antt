@@ -4,7 +4,7 @@ use mathlib.Core.List.{List, [], _∷_, _++_}
 use Prim.Native.Nat.{ℕ, zero, suc, _+_, _*_}
 use lib.Dec.{eqb, leb}
 use lib.ListN.{length, getD}
-use Rattle.varint.specs.declared.Refusal.{Refusal}
+use Rattle.answer.specs.declared.Refusal.{Refusal}
 
 -- Number k of record i, where a record has `width` numbers.
 abbrev pub entry : ℕ → List ℕ → ℕ → ℕ → ℕ

@@ -3,20 +3,22 @@
 // Every writer checks and measures all records before it writes the first byte. No public call has a `requires`: each does its own
 // refusing, and a refusal changes no byte.
 use frame::Head;
-use types::NOT_WRITABLE;
-use types::OUTSIDE;
 use types::Value;
-use varint::NO_ROOM;
-use varint::Refusal;
-use varint::Written;
+use answer::MET_TWICE;
+use answer::NOT_WRITABLE;
+use answer::NO_ROOM;
+use answer::OUTSIDE;
+use answer::OVER_LIMIT;
+use answer::Refusal;
+use answer::Written;
 ghost use mathlib.Core.Path.{_≡_};
 ghost use mathlib.Core.Bool.{true};
 ghost use mathlib.Core.List.{[], _∷_};
 ghost use Prim.Native.Nat.{_+_, _*_, _^_, _≤_, _<_};
 ghost use lib.Dec.{leb};
 ghost use lib.ListN.{length};
-ghost use Rattle.varint.specs.Answer.{written, within, leaves};
-ghost use Rattle.varint.specs.Promise.{Writes};
+ghost use Rattle.answer.specs.Answer.{written, within, leaves};
+ghost use Rattle.answer.specs.Writes.{Writes};
 ghost use Rattle.types.specs.Form.{inside, stringBytes, valueBytes, writableRecord, ranged, size};
 ghost use Rattle.types.specs.Promise.{recordOf};
 ghost use Rattle.writer.specs.Table.{records, joined, some, alone, firstRefused, capped};
@@ -25,11 +27,6 @@ ghost use Rattle.writer.specs.Action.{actionAt, noValue, actionWritable,
 ghost use Rattle.writer.specs.Frame.{refusedWith, headOf, finAlone, agentAllowed, begun, limited, kvAllowed, kvAnswer, actionsAnswer};
 ghost use Rattle.writer.specs.Loops.{Sound};
 ghost use Rattle.writer.specs.Pairs.{Formed};
-
-// A key is met twice.
-pub const MET_TWICE: u64 = 9;
-// A frame is over the limit.
-pub const OVER_LIMIT: u64 = 12;
 
 // A pair as the tables have it: where its key stands in the buffer, and its value.
 pub struct Pair {

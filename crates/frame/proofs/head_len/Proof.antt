@@ -2,8 +2,8 @@
 -- Assumes nothing.
 use borrow.Author.Needs.{needs}
 use native.Mathlib.Omega.{arith}
-use Rattle.varint.specs.Writing.{length-most}
-use Rattle.frame.specs.Laws.{head-length}
+use Rattle.varint.proofs.Writing.{length-most}
+use Rattle.frame.proofs.Laws.{head-length}
 use Rattle.frame.proofs.head_len.Statement.{statement}
 use Rattle.frame.proofs.head_len.Tie as tie
 

@@ -3,13 +3,13 @@
 use mathlib.Core.Path.{sym, ap, _∙_}
 use mathlib.Core.List.{List, [], _∷_, _++_}
 use Prim.Native.Nat.{ℕ}
-use Rattle.varint.specs.Answer.{written, leaves}
+use Rattle.answer.specs.Answer.{written, leaves}
 use borrow.Author.Needs.{needs}
 use native.Mathlib.Omega.{arith}
 use lib.ListN.{length-set}
 use lib.Seq.{sets-eq}
 use Rattle.frame.specs.Head.{fourBytes}
-use Rattle.frame.specs.Laws.{four-small}
+use Rattle.frame.proofs.Laws.{four-small}
 use Rattle.frame.proofs.put_start.Statement.{statement}
 use Rattle.frame.proofs.put_start.Tie as tie
 

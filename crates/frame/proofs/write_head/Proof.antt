@@ -8,12 +8,12 @@ use Prim.Native.Nat.{ℕ, _+_, _-_, _≤_}
 use native.Mathlib.Omega.{arith}
 use lib.ListN.{length, length-append}
 use borrow.Rule.Slice.PartMut.{putMid}
-use Rattle.varint.specs.Answer.{written, leaves}
+use Rattle.answer.specs.Answer.{written, leaves}
 use Rattle.varint.specs.Number.{numberBytes}
-use Rattle.varint.specs.Writing.{length-most}
-use Rattle.varint.specs.Output.{leaves-length, leaves-writes, writes-none, writes-all}
+use Rattle.varint.proofs.Writing.{length-most}
+use Rattle.answer.proofs.Output.{leaves-length, leaves-writes, writes-none, writes-all}
 use Rattle.frame.specs.Head.{fourBytes, flagsOf, headBytes}
-use Rattle.frame.specs.Laws.{four-long, startBytes, start-long, head-length, head-parts}
+use Rattle.frame.proofs.Laws.{four-long, startBytes, start-long, head-length, head-parts}
 use Rattle.frame.proofs.write_head.Statement.{statement}
 use Rattle.frame.proofs.write_head.Tie as tie
 

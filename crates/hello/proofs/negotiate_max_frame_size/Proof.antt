@@ -4,8 +4,8 @@ use mathlib.Core.Path.{sym, ap, _∙_}
 use borrow.Author.Needs.{needs}
 use native.Mathlib.Nat.{min-eq-left, min-eq-right}
 use native.Mathlib.Omega.{arith}
-use Rattle.varint.specs.Answer.{done}
-use Rattle.hello.specs.Laws.{size-theirs, size-ours, size-both}
+use Rattle.answer.specs.Answer.{done}
+use Rattle.hello.proofs.Laws.{size-theirs, size-ours, size-both}
 use Rattle.hello.proofs.negotiate_max_frame_size.Statement.{statement}
 use Rattle.hello.proofs.negotiate_max_frame_size.Tie as tie
 

@@ -6,7 +6,7 @@ use borrow.Author.Needs.{needs}
 use native.Mathlib.Omega.{arith}
 use lib.ListN.{length, drop}
 use Rattle.hello.specs.Hello.{announced}
-use Rattle.hello.specs.Laws.{left-none, left-here, left-on, choice-some, choice-none}
+use Rattle.hello.proofs.Laws.{left-none, left-here, left-on, choice-some, choice-none}
 use Rattle.hello.proofs.negotiate_version.Statement.{statement}
 use Rattle.hello.proofs.negotiate_version.Tie as tie
 

@@ -4,7 +4,7 @@ use borrow.Author.Needs.{needs}
 use mathlib.Core.Path.{sym}
 use lib.Seq.{length-take-le}
 use Rattle.varint.specs.Number.{numberBytes}
-use Rattle.varint.specs.Output.{writes-done}
+use Rattle.answer.proofs.Output.{writes-done}
 use Rattle.marked.proofs.writes.Statement.{statement}
 use Rattle.marked.proofs.writes.Tie as tie
 

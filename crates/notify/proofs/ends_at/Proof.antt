@@ -5,7 +5,7 @@ use Prim.Native.Nat.{ℕ, _+_, _-_, _≤_}
 use native.Mathlib.Omega.{arith}
 use lib.Dec.{eqb}
 use borrow.Author.Tests.{eq-eqb, ne-eqb, eqb-true, eqb-false}
-use Rattle.utf8.specs.Stepping.{bool-cases}
+use Rattle.answer.proofs.Cases.{bool-cases}
 use Rattle.notify.proofs.ends_at.Statement.{statement}
 use Rattle.notify.proofs.ends_at.Tie as tie
 

@@ -6,7 +6,7 @@ use mathlib.Core.List.{List}
 use Prim.Native.Nat.{ℕ, _+_}
 use native.Mathlib.Omega.{arith}
 use lib.ListN.{length}
-use Rattle.varint.specs.Writing.{length-most}
+use Rattle.varint.proofs.Writing.{length-most}
 use Rattle.writer.specs.Table.{records, joined, capped}
 use Rattle.writer.specs.Records.{capped-left, capped-right, capped-most}
 use Rattle.writer.specs.Pair.{pairBytes}

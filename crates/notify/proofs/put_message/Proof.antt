@@ -6,7 +6,7 @@ use mathlib.Core.List.{List, _++_}
 use Prim.Native.Nat.{ℕ, _+_, _≤_}
 use native.Mathlib.Omega.{arith}
 use lib.ListN.{length, length-append}
-use Rattle.varint.specs.Parts.{both-start, both-room, both-count, both-leaves}
+use Rattle.answer.proofs.Parts.{both-start, both-room, both-count, both-leaves}
 use Rattle.writer.specs.Table.{records, joined}
 use Rattle.writer.specs.Pair.{pairBytes}
 use Rattle.notify.specs.Message.{runAt, nameBytes}

@@ -5,7 +5,7 @@ use mathlib.Core.Path.{_≡_, ap, _∙_}
 use Prim.Native.Nat.{ℕ, _+_, _-_}
 use native.Mathlib.Omega.{arith}
 use lib.ListN.{length, take, drop}
-use Rattle.varint.specs.Answer.{written, leaves}
+use Rattle.answer.specs.Answer.{written, leaves}
 use Rattle.writer.specs.Loops.{Putting, putting-none, putting-length, putting-start, putting-room, putting-most, putting-on, putting-count, putting-all}
 use Rattle.notify.specs.declared.Message.{Message}
 use Rattle.notify.specs.Message.{messageAt, messageBytes}

@@ -6,12 +6,12 @@ use mathlib.Core.List.{List, [], _∷_, _++_}
 use Prim.Native.Nat.{ℕ, _+_, _≤_}
 use native.Mathlib.Omega.{arith}
 use lib.ListN.{length, length-append}
-use Rattle.varint.specs.Answer.{written, within, leaves}
-use Rattle.varint.specs.Promise.{Writes}
-use Rattle.varint.specs.Output.{Partly, partly-next, partly-place, partly-count, partly-all}
-use Rattle.varint.specs.Parts.{room-leaves, one-left}
+use Rattle.answer.specs.Answer.{written, within, leaves}
+use Rattle.answer.specs.Writes.{Writes}
+use Rattle.answer.proofs.Output.{Partly, partly-next, partly-place, partly-count, partly-all}
+use Rattle.answer.proofs.Parts.{room-leaves, one-left}
 use Rattle.types.specs.Form.{part, stringBytes}
-use Rattle.types.specs.Writing.{part-lent}
+use Rattle.types.proofs.Writing.{part-lent}
 use Rattle.notify.specs.Messages.{name-bytes, counted-room}
 use Rattle.notify.proofs.put_name.Statement.{statement}
 use Rattle.notify.proofs.put_name.Tie as tie

@@ -6,9 +6,9 @@ use mathlib.Core.List.{List}
 use Prim.Native.Nat.{ℕ, _+_, _-_}
 use native.Mathlib.Omega.{arith}
 use lib.ListN.{length, take, drop}
-use Rattle.varint.specs.Answer.{written, within}
-use Rattle.varint.specs.Promise.{Writes}
-use Rattle.varint.specs.Parts.{room-leaves}
+use Rattle.answer.specs.Answer.{written, within}
+use Rattle.answer.specs.Writes.{Writes}
+use Rattle.answer.proofs.Parts.{room-leaves}
 use Rattle.writer.specs.Loops.{Putting, putting-none, putting-length, putting-start, putting-room, putting-most, putting-on, putting-count, putting-all}
 use Rattle.writer.specs.Pair.{pairBytes, pairForm, pairRefusal}
 use Rattle.writer.specs.Pairs.{formed-passed, pair-whole}

@@ -7,8 +7,8 @@ use Prim.Native.Nat.{_*_, _≤_}
 use native.Mathlib.Omega.{arith}
 use lib.ListN.{length}
 use borrow.Author.Tests.{not-true, not-false}
-use Rattle.varint.specs.declared.Refusal.{Refusal}
-use Rattle.varint.specs.Output.{writes-refusal}
+use Rattle.answer.specs.declared.Refusal.{Refusal}
+use Rattle.answer.proofs.Output.{writes-refusal}
 use Rattle.frame.specs.declared.Head.{Head}
 use Rattle.writer.specs.Frame.{headOf, finAlone}
 use Rattle.notify.specs.Ready.{AllReady}

@@ -4,7 +4,7 @@ use mathlib.Core.Path.{sym, ap, _∙_}
 use borrow.Author.Needs.{needs}
 use Rattle.hello.specs.Hello.{Choice}
 use Rattle.hello.specs.Promise.{choiceOf}
-use Rattle.hello.specs.Laws.{some-announced, none-announced}
+use Rattle.hello.proofs.Laws.{some-announced, none-announced}
 use Rattle.spop.specs.Told.{chosenOf}
 use Rattle.spop.proofs.spop_negotiate_version.Statement.{statement}
 use Rattle.spop.proofs.spop_negotiate_version.Tie as tie

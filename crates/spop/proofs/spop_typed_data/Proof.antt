@@ -2,7 +2,7 @@
 -- Assumes nothing.
 use mathlib.Core.Path.{sym, ap, _∙_}
 use borrow.Author.Needs.{needs}
-use Rattle.varint.specs.Answer.{Answer}
+use Rattle.answer.specs.Answer.{Answer}
 use Rattle.types.specs.Value.{Record}
 use Rattle.types.specs.Promise.{typedRead}
 use Rattle.spop.specs.Told.{told-done, told-refused}

@@ -6,8 +6,8 @@ use mathlib.Core.List.{List}
 use Prim.Native.Nat.{ℕ}
 use lib.ListN.{length}
 use borrow.Author.Needs.{needs}
-use Rattle.varint.specs.Answer.{Answer, within}
-use Rattle.varint.specs.Promise.{Writes}
+use Rattle.answer.specs.Answer.{Answer, within}
+use Rattle.answer.specs.Writes.{Writes}
 use Rattle.types.specs.Form.{form}
 use Rattle.spop.specs.Told.{told-writes}
 use Rattle.spop.proofs.spop_write_value.Statement.{statement}

@@ -3,7 +3,7 @@
 use borrow.Author.Needs.{needs}
 use mathlib.Core.Path.{sym, _∙_}
 use borrow.Author.Tests.{not-true, not-false}
-use Rattle.types.specs.Checking.{part-string, part-outside, part-within}
+use Rattle.types.proofs.Checking.{part-string, part-outside, part-within}
 use Rattle.types.proofs.check_part.Statement.{statement}
 use Rattle.types.proofs.check_part.Tie as tie
 

@@ -9,8 +9,8 @@ use lib.ListN.{length}
 use borrow.Author.Tests.{not-true, not-false, leb-true}
 use Rattle.utf8.specs.Text.{isUtf8}
 use Rattle.types.specs.Form.{inside, part}
-use Rattle.types.specs.Writing.{part-lent}
-use Rattle.types.specs.Checking.{string-outside, string-ill, string-well}
+use Rattle.types.proofs.Writing.{part-lent}
+use Rattle.types.proofs.Checking.{string-outside, string-ill, string-well}
 use Rattle.types.proofs.check_string.Statement.{statement}
 use Rattle.types.proofs.check_string.Tie as tie
 

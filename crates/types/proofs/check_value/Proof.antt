@@ -4,7 +4,7 @@ use borrow.Author.Needs.{needs}
 use mathlib.Core.Path.{sym, _∙_}
 use borrow.Author.Tests.{not-true, not-false}
 use Rattle.types.specs.Promise.{recordOf}
-use Rattle.types.specs.Checking.{refusal-fields, refusal-part}
+use Rattle.types.proofs.Checking.{refusal-fields, refusal-part}
 use Rattle.types.proofs.check_value.Statement.{statement}
 use Rattle.types.proofs.check_value.Tie as tie
 

@@ -7,8 +7,8 @@ use mathlib.Core.List.{List}
 use native.Mathlib.Omega.{arith}
 use lib.ListN.{length}
 use Rattle.varint.specs.Number.{numberBytes}
-use Rattle.varint.specs.Writing.{length-bounds}
-use Rattle.types.specs.Writing.{writable-kind, length-plain, length-integer, length-address, length-text}
+use Rattle.varint.proofs.Writing.{length-bounds}
+use Rattle.types.proofs.Writing.{writable-kind, length-plain, length-integer, length-address, length-text}
 use Rattle.types.proofs.form_len.Statement.{statement}
 use Rattle.types.proofs.form_len.Tie as tie
 

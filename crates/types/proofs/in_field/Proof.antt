@@ -6,8 +6,8 @@ use mathlib.Core.Path.{_≡_, refl, sym, ap, _∙_}
 use native.Mathlib.Omega.{arith}
 use lib.Dec.{eqb}
 use Rattle.types.specs.Value.{Shape, nothing, flag, integer, signed32, unsigned32, shape, inFields}
-use Rattle.types.specs.Reading.{shape-is}
-use Rattle.types.specs.Writing.{firstField, first-field, whole-field}
+use Rattle.types.proofs.Reading.{shape-is}
+use Rattle.types.proofs.Writing.{firstField, first-field, whole-field}
 use Rattle.types.proofs.in_field.Statement.{statement}
 use Rattle.types.proofs.in_field.Tie as tie
 

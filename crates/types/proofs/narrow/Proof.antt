@@ -5,9 +5,9 @@ use Prim.Native.Nat.{ℕ, _≤_, _<_}
 use mathlib.Core.Path.{_≡_, sym, ap, _∙_}
 use mathlib.Core.Logic.{⊎-elim}
 use native.Mathlib.Omega.{arith}
-use Rattle.varint.specs.Writing.{lt-or-le}
+use Rattle.answer.proofs.Cases.{lt-or-le}
 use Rattle.types.specs.Value.{Width, signed32, unsigned32, whole64, integer, shape, kept}
-use Rattle.types.specs.Reading.{shape-is}
+use Rattle.types.proofs.Reading.{shape-is}
 use Rattle.types.proofs.narrow.Statement.{statement}
 use Rattle.types.proofs.narrow.Tie as tie
 

@@ -8,7 +8,7 @@ use lib.Dec.{leb}
 use lib.ListN.{length}
 use borrow.Author.Tests.{le-leb}
 use Rattle.varint.specs.Number.{numberBytes}
-use Rattle.varint.specs.Writing.{length-most}
+use Rattle.varint.proofs.Writing.{length-most}
 use Rattle.types.proofs.number_fits.Statement.{statement}
 use Rattle.types.proofs.number_fits.Tie as tie
 

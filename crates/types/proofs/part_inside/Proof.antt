@@ -1,7 +1,7 @@
 -- `types::part_inside` meets its contract: the two tests are the one of the sum, which could wrap.
 -- Assumes nothing.
 use mathlib.Core.Path.{sym}
-use Rattle.types.specs.Writing.{inside-not, inside-rest}
+use Rattle.types.proofs.Writing.{inside-not, inside-rest}
 use Rattle.types.proofs.part_inside.Statement.{statement}
 use Rattle.types.proofs.part_inside.Tie as tie
 

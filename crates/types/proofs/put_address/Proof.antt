@@ -9,13 +9,13 @@ use mathlib.Core.List.{List, _∷_}
 use native.Mathlib.Omega.{arith}
 use lib.ListN.{length, take, drop}
 use borrow.Author.Tests.{not-true, not-false, leb-true}
-use Rattle.varint.specs.Answer.{written}
+use Rattle.answer.specs.Answer.{written}
 use Rattle.types.specs.Value.{address}
 use Rattle.types.specs.Form.{part, inside, form}
 use Rattle.types.specs.Promise.{recordOf}
-use Rattle.types.specs.Reading.{in-fields}
-use Rattle.types.specs.Writing.{part-length, part-lent, form-length, form-pointed, form-beyond}
-use Rattle.types.specs.Output.{puts-refusal, puts-short, Tagged, tagged-start, tagged-room, tagged-count, tagged-length, tagged-puts}
+use Rattle.types.proofs.Reading.{in-fields}
+use Rattle.types.proofs.Writing.{part-length, part-lent, form-length, form-pointed, form-beyond}
+use Rattle.types.proofs.Output.{puts-refusal, puts-short, Tagged, tagged-start, tagged-room, tagged-count, tagged-length, tagged-puts}
 use Rattle.types.proofs.put_address.Statement.{statement}
 use Rattle.types.proofs.put_address.Tie as tie
 

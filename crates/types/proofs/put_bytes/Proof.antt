@@ -4,8 +4,8 @@
 use Prim.Native.Nat.{_-_}
 use native.Mathlib.Omega.{arith}
 use lib.ListN.{length, drop}
-use Rattle.varint.specs.Output.{Partly, partly-none, partly-length, partly-count, partly-all}
-use Rattle.varint.specs.Parts.{copy-place, copy-next, copy-all}
+use Rattle.answer.proofs.Output.{Partly, partly-none, partly-length, partly-count, partly-all}
+use Rattle.answer.proofs.Parts.{copy-place, copy-next, copy-all}
 use Rattle.types.proofs.put_bytes.Statement.{statement}
 use Rattle.types.proofs.put_bytes.Tie as tie
 

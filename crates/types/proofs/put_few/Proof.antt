@@ -3,7 +3,7 @@
 use borrow.Author.Needs.{needs}
 use mathlib.Core.Path.{_≡_, sym}
 use lib.ListN.{length}
-use Rattle.types.specs.Output.{four-second, four-third, four-fourth, four-all}
+use Rattle.types.proofs.Output.{four-second, four-third, four-fourth, four-all}
 use Rattle.types.proofs.put_few.Statement.{statement}
 use Rattle.types.proofs.put_few.Tie as tie
 

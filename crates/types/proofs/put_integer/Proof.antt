@@ -8,12 +8,12 @@ use mathlib.Core.List.{List, _∷_}
 use native.Mathlib.Omega.{arith}
 use lib.ListN.{length}
 use borrow.Author.Tests.{not-true, not-false, leb-true, leb-false}
-use Rattle.varint.specs.Answer.{written}
+use Rattle.answer.specs.Answer.{written}
 use Rattle.varint.specs.Number.{numberBytes}
 use Rattle.types.specs.Form.{form}
 use Rattle.types.specs.Promise.{recordOf}
-use Rattle.types.specs.Writing.{form-unwritable, form-integer}
-use Rattle.types.specs.Output.{puts-refusal, puts-short, Tagged, tagged-place, tagged-start, tagged-room, tagged-count, tagged-length, tagged-puts}
+use Rattle.types.proofs.Writing.{form-unwritable, form-integer}
+use Rattle.types.proofs.Output.{puts-refusal, puts-short, Tagged, tagged-place, tagged-start, tagged-room, tagged-count, tagged-length, tagged-puts}
 use Rattle.types.proofs.put_integer.Statement.{statement}
 use Rattle.types.proofs.put_integer.Tie as tie
 

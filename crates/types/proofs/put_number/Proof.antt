@@ -2,7 +2,7 @@
 -- Assumes nothing.
 use borrow.Author.Needs.{needs}
 use Rattle.varint.specs.Number.{numberBytes}
-use Rattle.varint.specs.Parts.{room-done, room-leaves, room-refused}
+use Rattle.answer.proofs.Parts.{room-done, room-leaves, room-refused}
 use Rattle.types.proofs.put_number.Statement.{statement}
 use Rattle.types.proofs.put_number.Tie as tie
 

@@ -8,11 +8,11 @@ use mathlib.Core.List.{[], _∷_}
 use native.Mathlib.Omega.{arith}
 use lib.ListN.{length}
 use borrow.Author.Tests.{not-true, not-false}
-use Rattle.varint.specs.Output.{leaves-byte}
+use Rattle.answer.proofs.Output.{leaves-byte}
 use Rattle.types.specs.Form.{writableRecord}
 use Rattle.types.specs.Promise.{recordOf}
-use Rattle.types.specs.Writing.{plain-bytes, form-unwritable, form-plain}
-use Rattle.types.specs.Output.{puts-refusal, puts-short, puts-whole}
+use Rattle.types.proofs.Writing.{plain-bytes, form-unwritable, form-plain}
+use Rattle.types.proofs.Output.{puts-refusal, puts-short, puts-whole}
 use Rattle.types.proofs.put_plain.Statement.{statement}
 use Rattle.types.proofs.put_plain.Tie as tie
 

@@ -7,10 +7,10 @@ use mathlib.Core.List.{_++_}
 use native.Mathlib.Omega.{arith}
 use lib.ListN.{length, length-append}
 use borrow.Rule.Slice.PartMut.{putMid}
-use Rattle.varint.specs.Answer.{written, leaves}
+use Rattle.answer.specs.Answer.{written, leaves}
 use Rattle.varint.specs.Number.{numberBytes}
-use Rattle.varint.specs.Parts.{both-start, both-room, both-count, both-leaves}
-use Rattle.types.specs.Writing.{string-bytes}
+use Rattle.answer.proofs.Parts.{both-start, both-room, both-count, both-leaves}
+use Rattle.types.proofs.Writing.{string-bytes}
 use Rattle.types.proofs.put_string.Statement.{statement}
 use Rattle.types.proofs.put_string.Tie as tie
 

@@ -9,14 +9,14 @@ use mathlib.Core.List.{List, _∷_}
 use native.Mathlib.Omega.{arith}
 use lib.ListN.{length, take, drop}
 use borrow.Author.Tests.{not-true, not-false, leb-true, leb-false}
-use Rattle.varint.specs.Answer.{written}
+use Rattle.answer.specs.Answer.{written}
 use Rattle.varint.specs.Number.{numberBytes}
 use Rattle.types.specs.Value.{text}
 use Rattle.types.specs.Form.{part, inside, stringBytes, form}
 use Rattle.types.specs.Promise.{recordOf}
-use Rattle.types.specs.Reading.{shape-text, in-fields}
-use Rattle.types.specs.Writing.{string-length, part-length, part-lent, form-pointed, form-beyond}
-use Rattle.types.specs.Output.{puts-refusal, puts-short, Tagged, tagged-place, tagged-start, tagged-room, tagged-count, tagged-length, tagged-puts}
+use Rattle.types.proofs.Reading.{shape-text, in-fields}
+use Rattle.types.proofs.Writing.{string-length, part-length, part-lent, form-pointed, form-beyond}
+use Rattle.types.proofs.Output.{puts-refusal, puts-short, Tagged, tagged-place, tagged-start, tagged-room, tagged-count, tagged-length, tagged-puts}
 use Rattle.types.proofs.put_text.Statement.{statement}
 use Rattle.types.proofs.put_text.Tie as tie
 

@@ -5,9 +5,9 @@ use mathlib.Core.Path.{ap, _∙_}
 use native.Mathlib.Omega.{arith}
 use lib.ListN.{length}
 use Rattle.types.specs.Value.{shape}
-use Rattle.types.specs.Reading.{shape-is}
-use Rattle.types.specs.Writing.{form-reserved}
-use Rattle.types.specs.Output.{puts-refusal}
+use Rattle.types.proofs.Reading.{shape-is}
+use Rattle.types.proofs.Writing.{form-reserved}
+use Rattle.types.proofs.Output.{puts-refusal}
 use Rattle.types.proofs.put_value.Statement.{statement}
 use Rattle.types.proofs.put_value.Tie as tie
 

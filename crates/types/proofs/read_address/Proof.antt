@@ -5,9 +5,9 @@ use Prim.Native.Nat.{ℕ, _+_, _-_, _≤_, _<_}
 use mathlib.Core.Path.{_≡_, refl, sym, _∙_}
 use mathlib.Core.List.{List}
 use lib.ListN.{length, drop, length-drop}
-use Rattle.varint.specs.Answer.{done, refused}
-use Rattle.types.specs.Value.{value, address, shape, behind, moved, content}
-use Rattle.types.specs.Reading.{address-short, address-whole, behind-refused, behind-start}
+use Rattle.answer.specs.Answer.{done, refused, behind}
+use Rattle.types.specs.Value.{value, address, shape, moved, content}
+use Rattle.types.proofs.Reading.{address-short, address-whole, behind-refused, behind-start}
 use Rattle.types.proofs.read_address.Statement.{statement}
 use Rattle.types.proofs.read_address.Tie as tie
 

@@ -9,10 +9,10 @@ use native.Mathlib.Omega.{arith}
 use lib.ListN.{drop, length-drop}
 use mir.Syntax.{w64}
 use mir.Val.{Fits}
-use Rattle.varint.specs.Answer.{done, refused}
-use Rattle.types.specs.Value.{span, string, text, shape, value, behind, moved, content}
+use Rattle.answer.specs.Answer.{done, refused, behind}
+use Rattle.types.specs.Value.{span, string, text, shape, value, moved, content}
 use Rattle.types.specs.Promise.{textRead}
-use Rattle.types.specs.Reading.{read-tail, string-place, string-accepted, text-refused, text-whole, behind-refused, behind-start}
+use Rattle.types.proofs.Reading.{read-tail, string-place, string-accepted, text-refused, text-whole, behind-refused, behind-start}
 use Rattle.types.proofs.read_bytes.Statement.{statement}
 use Rattle.types.proofs.read_bytes.Tie as tie
 

@@ -7,12 +7,12 @@ use mathlib.Core.Path.{_≡_, refl, sym, ap, _∙_}
 use mathlib.Core.List.{List}
 use native.Mathlib.Omega.{arith}
 use lib.ListN.{drop, length-drop}
-use Rattle.varint.specs.Answer.{done, refused}
+use Rattle.answer.specs.Answer.{done, refused, behind}
 use Rattle.varint.specs.Number.{number}
 use Rattle.varint.specs.Promise.{numberRead}
-use Rattle.varint.specs.Reading.{accepted}
-use Rattle.types.specs.Value.{Width, integer, shape, kept, value, behind, moved, content}
-use Rattle.types.specs.Reading.{read-tail, number-place, shape-integer, integer-refused, integer-whole, behind-refused, behind-plain}
+use Rattle.varint.proofs.Reading.{accepted}
+use Rattle.types.specs.Value.{Width, integer, shape, kept, value, moved, content}
+use Rattle.types.proofs.Reading.{read-tail, number-place, shape-integer, integer-refused, integer-whole, behind-refused, behind-plain}
 use Rattle.types.proofs.read_integer.Statement.{statement}
 use Rattle.types.proofs.read_integer.Tie as tie
 

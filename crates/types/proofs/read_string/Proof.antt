@@ -3,11 +3,11 @@
 use borrow.Author.Needs.{needs}
 use mathlib.Core.Path.{_≡_, sym, ap, _∙_}
 use native.Mathlib.Omega.{arith}
-use Rattle.varint.specs.Answer.{done}
+use Rattle.answer.specs.Answer.{done}
 use Rattle.varint.specs.Number.{number}
 use Rattle.varint.specs.Promise.{numberRead}
-use Rattle.varint.specs.Reading.{accepted}
-use Rattle.types.specs.Reading.{string-refused, string-whole, string-short}
+use Rattle.varint.proofs.Reading.{accepted}
+use Rattle.types.proofs.Reading.{string-refused, string-whole, string-short}
 use Rattle.types.proofs.read_string.Statement.{statement}
 use Rattle.types.proofs.read_string.Tie as tie
 

@@ -7,9 +7,9 @@ use native.Mathlib.Omega.{arith}
 use lib.Dec.{leb}
 use lib.ListN.{length}
 use borrow.Author.Tests.{le-leb, lt-leb}
-use Rattle.varint.specs.Writing.{length-most}
+use Rattle.varint.proofs.Writing.{length-most}
 use Rattle.types.specs.Form.{stringBytes}
-use Rattle.types.specs.Writing.{string-length, rest-fits}
+use Rattle.types.proofs.Writing.{string-length, rest-fits}
 use Rattle.types.proofs.string_fits.Statement.{statement}
 use Rattle.types.proofs.string_fits.Tie as tie
 

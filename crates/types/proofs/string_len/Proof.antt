@@ -3,8 +3,8 @@
 use borrow.Author.Needs.{needs}
 use native.Mathlib.Omega.{arith}
 use lib.ListN.{length}
-use Rattle.varint.specs.Writing.{length-bounds}
-use Rattle.types.specs.Writing.{string-length}
+use Rattle.varint.proofs.Writing.{length-bounds}
+use Rattle.types.proofs.Writing.{string-length}
 use Rattle.types.proofs.string_len.Statement.{statement}
 use Rattle.types.proofs.string_len.Tie as tie
 

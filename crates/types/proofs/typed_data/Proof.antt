@@ -6,9 +6,9 @@ use mathlib.Core.Path.{_≡_, refl, sym, _∙_}
 use mathlib.Core.List.{List}
 use native.Mathlib.Omega.{arith}
 use lib.ListN.{length, drop}
-use Rattle.varint.specs.Answer.{done, refused}
+use Rattle.answer.specs.Answer.{done, refused}
 use Rattle.types.specs.Value.{nothing, flag, reserved, value, typed}
-use Rattle.types.specs.Reading.{first, typed-empty, typed-front, shape-is, shape-text, shape-reserved, behind-refused, behind-plain}
+use Rattle.types.proofs.Reading.{first, typed-empty, typed-front, shape-is, shape-text, shape-reserved, behind-refused, behind-plain}
 use Rattle.types.proofs.typed_data.Statement.{statement}
 use Rattle.types.proofs.typed_data.Tie as tie
 

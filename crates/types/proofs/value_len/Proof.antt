@@ -8,7 +8,7 @@ use lib.ListN.{length}
 use borrow.Author.Tests.{not-true, not-false}
 use Rattle.types.specs.Form.{part, writableRecord, ranged, size}
 use Rattle.types.specs.Promise.{recordOf}
-use Rattle.types.specs.Writing.{value-bytes, part-whole, part-small, form-unwritable, form-outside, form-whole}
+use Rattle.types.proofs.Writing.{value-bytes, part-whole, part-small, form-unwritable, form-outside, form-whole}
 use Rattle.types.proofs.value_len.Statement.{statement}
 use Rattle.types.proofs.value_len.Tie as tie
 

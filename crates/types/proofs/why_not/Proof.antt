@@ -5,11 +5,11 @@ use mathlib.Core.Path.{_≡_, sym, ap, _∙_}
 use mathlib.Core.Bool.{true}
 use mathlib.Core.List.{List}
 use borrow.Author.Tests.{not-true, not-false}
-use Rattle.varint.specs.Answer.{Answer, within, tells}
+use Rattle.answer.specs.Answer.{Answer, within, tells}
 use Rattle.types.specs.Form.{valueBytes, writableRecord, ranged}
 use Rattle.types.specs.Promise.{recordOf}
-use Rattle.types.specs.Writing.{value-some, form-unwritable, form-outside, form-whole}
-use Rattle.types.specs.Output.{told-short}
+use Rattle.types.proofs.Writing.{value-some, form-unwritable, form-outside, form-whole}
+use Rattle.types.proofs.Output.{told-short}
 use Prim.Native.Nat.{ℕ}
 use Rattle.types.proofs.why_not.Statement.{statement}
 use Rattle.types.proofs.why_not.Tie as tie

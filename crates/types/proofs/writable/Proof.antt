@@ -4,8 +4,8 @@ use borrow.Author.Needs.{needs}
 use mathlib.Core.Path.{sym, ap, _∙_}
 use native.Mathlib.Omega.{arith}
 use Rattle.types.specs.Value.{shape, inFields}
-use Rattle.types.specs.Reading.{shape-is}
-use Rattle.types.specs.Writing.{unused, address-field, text-field}
+use Rattle.types.proofs.Reading.{shape-is}
+use Rattle.types.proofs.Writing.{unused, address-field, text-field}
 use Rattle.types.proofs.writable.Statement.{statement}
 use Rattle.types.proofs.writable.Tie as tie
 

@@ -5,7 +5,7 @@ use mathlib.Core.Path.{_≡_, sym, _∙_}
 use Prim.Native.Nat.{_≤_}
 use lib.ListN.{length}
 use borrow.Author.Tests.{not-true, not-false, leb-true, leb-false}
-use Rattle.varint.specs.Output.{writes-none, writes-all}
+use Rattle.answer.proofs.Output.{writes-none, writes-all}
 use Rattle.types.specs.Form.{stringBytes}
 use Rattle.types.proofs.write_string.Statement.{statement}
 use Rattle.types.proofs.write_string.Tie as tie

@@ -3,10 +3,10 @@
 use borrow.Author.Needs.{needs}
 use mathlib.Core.Path.{sym, _∙_}
 use lib.ListN.{length}
-use Rattle.varint.specs.Answer.{within}
+use Rattle.answer.specs.Answer.{within}
 use Rattle.types.specs.Form.{form}
 use Rattle.types.specs.Promise.{recordOf}
-use Rattle.types.specs.Output.{told}
+use Rattle.types.proofs.Output.{told}
 use Rattle.types.proofs.write_value.Statement.{statement}
 use Rattle.types.proofs.write_value.Tie as tie
 

@@ -6,8 +6,9 @@ use borrow.Author.Needs.{needs}
 use native.Mathlib.Omega.{arith}
 use lib.ListN.{length, take, drop, length-drop}
 use borrow.Author.Tests.{not-false}
-use Rattle.varint.specs.Output.{lent-tail}
-use Rattle.utf8.specs.Ascii.{ascii, AsciiTo, ascii-to-block}
+use Rattle.answer.proofs.Output.{lent-tail}
+use Rattle.utf8.specs.Inner.{ascii, AsciiTo}
+use Rattle.utf8.proofs.Ascii.{ascii-to-block}
 use Rattle.utf8.proofs.ascii_eights.Statement.{statement}
 use Rattle.utf8.proofs.ascii_eights.Tie as tie
 

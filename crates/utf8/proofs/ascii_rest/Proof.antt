@@ -6,8 +6,8 @@ use Prim.Native.Nat.{ℕ, _-_}
 use borrow.Author.Needs.{needs}
 use native.Mathlib.Omega.{arith}
 use lib.ListN.{length}
-use Rattle.varint.specs.Output.{lent-tail}
-use Rattle.utf8.specs.Ascii.{ascii-to-end, ascii-few, both-first, both-second}
+use Rattle.answer.proofs.Output.{lent-tail}
+use Rattle.utf8.proofs.Ascii.{ascii-to-end, ascii-few, both-first, both-second}
 use Rattle.utf8.proofs.ascii_rest.Statement.{statement}
 use Rattle.utf8.proofs.ascii_rest.Tie as tie
 

@@ -3,7 +3,8 @@
 use Prim.Native.Nat.{_-_, _≤_}
 use native.Mathlib.Omega.{arith}
 use lib.ListN.{length}
-use Rattle.utf8.specs.Ascii.{AsciiTo, ascii-to-one}
+use Rattle.utf8.specs.Inner.{AsciiTo}
+use Rattle.utf8.proofs.Ascii.{ascii-to-one}
 use Rattle.utf8.proofs.ascii_run.Statement.{statement}
 use Rattle.utf8.proofs.ascii_run.Tie as tie
 

@@ -6,7 +6,8 @@ use Prim.Native.Nat.{ℕ, _-_, _≤_}
 use native.Mathlib.Omega.{arith}
 use lib.Dec.{ltb}
 use lib.ListN.{length, take, getD}
-use Rattle.utf8.specs.Ascii.{ascii, ascii-none, ascii-test}
+use Rattle.utf8.specs.Inner.{ascii}
+use Rattle.utf8.proofs.Ascii.{ascii-none, ascii-test}
 use Rattle.utf8.proofs.block_ascii.Statement.{statement}
 use Rattle.utf8.proofs.block_ascii.Tie as tie
 

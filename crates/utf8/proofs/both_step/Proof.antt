@@ -3,9 +3,9 @@
 use mathlib.Core.Path.{_≡_, sym, ap, _∙_}
 use borrow.Author.Tests.{not-true, not-false}
 use Rattle.utf8.specs.Text.{size, same}
-use Rattle.utf8.specs.Advance.{step-advances}
-use Rattle.utf8.specs.Same.{piece}
-use Rattle.utf8.specs.Walk.{walks-apart, walks-on}
+use Rattle.utf8.proofs.Advance.{step-advances}
+use Rattle.utf8.proofs.Same.{piece}
+use Rattle.utf8.proofs.Walk.{walks-apart, walks-on}
 use borrow.Author.Needs.{needs}
 use Rattle.utf8.proofs.both_step.Statement.{statement}
 use Rattle.utf8.proofs.both_step.Tie as tie

@@ -8,7 +8,7 @@ use native.Mathlib.Omega.{arith}
 use native.Mathlib.Numerals.{add-one}
 use lib.ListN.{length, drop, getD, drop-of-length-le}
 use lib.Seq.{drop-cons}
-use Rattle.varint.specs.Output.{Partly, partly-none, partly-next, partly-place, partly-all, partly-length}
+use Rattle.answer.proofs.Output.{Partly, partly-none, partly-next, partly-place, partly-all, partly-length}
 use Rattle.utf8.proofs.copy.Statement.{statement}
 use Rattle.utf8.proofs.copy.Tie as tie
 

@@ -1,6 +1,6 @@
 -- `utf8::eight_ascii` meets its contract: eight tests, one for each byte.
 -- Assumes nothing.
-use Rattle.utf8.specs.Ascii.{ascii-eight}
+use Rattle.utf8.proofs.Ascii.{ascii-eight}
 use borrow.Author.Needs.{needs}
 use Rattle.utf8.proofs.eight_ascii.Statement.{statement}
 use Rattle.utf8.proofs.eight_ascii.Tie as tie

@@ -2,8 +2,8 @@
 -- Assumes nothing.
 use mathlib.Core.Path.{_≡_}
 use lib.ListN.{take}
-use Rattle.utf8.specs.Ascii.{ascii}
-use Rattle.utf8.specs.Walk.{same-eight}
+use Rattle.utf8.specs.Inner.{ascii}
+use Rattle.utf8.proofs.Walk.{same-eight}
 use borrow.Author.Needs.{needs}
 use Rattle.utf8.proofs.eight_same.Statement.{statement}
 use Rattle.utf8.proofs.eight_same.Tie as tie

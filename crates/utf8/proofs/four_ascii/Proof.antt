@@ -1,6 +1,6 @@
 -- `utf8::four_ascii` meets its contract: four tests, one for each byte.
 -- Assumes nothing.
-use Rattle.utf8.specs.Ascii.{ascii-four}
+use Rattle.utf8.proofs.Ascii.{ascii-four}
 use borrow.Author.Needs.{needs}
 use Rattle.utf8.proofs.four_ascii.Statement.{statement}
 use Rattle.utf8.proofs.four_ascii.Tie as tie

@@ -5,9 +5,8 @@ use Prim.Native.Nat.{_≤_}
 use native.Mathlib.Omega.{arith}
 use lib.ListN.{length}
 use Rattle.utf8.specs.Text.{step}
-use Rattle.utf8.specs.Leading.{Led, stepFor}
-use Rattle.utf8.specs.Promise.{ledBy}
-use Rattle.utf8.specs.Stepping.{step-ends, step-for, step-ascii-front}
+use Rattle.utf8.specs.Inner.{Led, ledBy}
+use Rattle.utf8.proofs.Stepping.{stepFor, step-ends, step-for, step-ascii-front}
 use borrow.Author.Needs.{needs}
 use Rattle.utf8.proofs.front_step.Statement.{statement}
 use Rattle.utf8.proofs.front_step.Tie as tie

@@ -9,10 +9,10 @@ use native.Mathlib.Omega.{arith}
 use lib.Dec.{leb}
 use lib.ListN.{length, drop, drop-of-length-le}
 use lib.Seq.{drop-drop}
-use Rattle.varint.specs.Output.{lent-tail}
+use Rattle.answer.proofs.Output.{lent-tail}
 use Rattle.utf8.specs.Text.{lossy, size}
-use Rattle.utf8.specs.Promise.{seen}
-use Rattle.utf8.specs.Advance.{Advances, textSize, room-on, room-off, room-none, rest-there, rest-some}
+use Rattle.utf8.specs.Inner.{seen, Advances, textSize}
+use Rattle.utf8.proofs.Advance.{room-on, room-off, room-none, rest-there, rest-some}
 use Rattle.utf8.proofs.has_room.Statement.{statement}
 use Rattle.utf8.proofs.has_room.Tie as tie
 

@@ -2,7 +2,7 @@
 -- Assumes nothing.
 use mathlib.Core.Path.{_≡_, sym, _∙_}
 use borrow.Author.Tests.{lt-leb}
-use Rattle.utf8.specs.Stepping.{inside-high, inside-below}
+use Rattle.utf8.proofs.Stepping.{inside-high, inside-below}
 use Rattle.utf8.proofs.in_range.Statement.{statement}
 use Rattle.utf8.proofs.in_range.Tie as tie
 

@@ -11,14 +11,14 @@ use lib.ListN.{length, drop, getD, drop-of-length-le}
 use lib.Seq.{drop-drop}
 use types.Run.{OneOf}
 use denote.Enum.Declared.{declared, tagOf}
-use Rattle.varint.specs.Output.{lent-tail}
+use Rattle.answer.proofs.Output.{lent-tail}
 use Rattle.utf8.specs.declared.Step as t
 use Rattle.utf8.specs.declared.Step.the-variants as v
 use Rattle.utf8.proofs.Step.{enum}
 use Rattle.utf8.specs.Text.{isUtf8, char}
-use Rattle.utf8.specs.Promise.{seen}
-use Rattle.utf8.specs.Lossy.{isUtf8-none}
-use Rattle.utf8.specs.Advance.{Advances, advances-end, rest-there, rest-some}
+use Rattle.utf8.specs.Inner.{seen, Advances}
+use Rattle.utf8.proofs.Lossy.{isUtf8-none}
+use Rattle.utf8.proofs.Advance.{advances-end, rest-there, rest-some}
 use Rattle.utf8.proofs.is_utf8.Statement.{statement}
 use Rattle.utf8.proofs.is_utf8.Tie as tie
 

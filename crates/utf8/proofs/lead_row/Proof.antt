@@ -10,10 +10,9 @@ use native.Mathlib.Omega.{arith}
 use lib.ListN.{length, drop, getD, drop-of-length-le}
 use Rattle.utf8.specs.declared.Row as r
 use Rattle.utf8.specs.Text.{Row, rows, inside}
-use Rattle.utf8.specs.Leading.{unused, led, rowFor}
-use Rattle.utf8.specs.Promise.{asRange, asRow}
-use Rattle.utf8.specs.Table.{inCode, noRow, codeRows, row-at}
-use Rattle.utf8.specs.Stepping.{rowFor-none, rowFor-past, rowFor-here}
+use Rattle.utf8.specs.Inner.{unused, led, rowFor, asRange, asRow}
+use Rattle.utf8.proofs.Table.{inCode, noRow, codeRows, row-at}
+use Rattle.utf8.proofs.Stepping.{rowFor-none, rowFor-past, rowFor-here}
 use Rattle.utf8.proofs.lead_row.Statement.{statement}
 use Rattle.utf8.proofs.lead_row.Tie as tie
 

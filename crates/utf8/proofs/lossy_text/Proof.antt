@@ -4,7 +4,7 @@ use Prim.Native.Nat.{_≤_, _<_}
 use mathlib.Core.Path.{_≡_, sym, _∙_}
 use lib.ListN.{length}
 use borrow.Author.Tests.{leb-true, leb-false, not-true, not-false}
-use Rattle.varint.specs.Output.{writes-none, writes-all}
+use Rattle.answer.proofs.Output.{writes-none, writes-all}
 use Rattle.utf8.specs.Text.{lossy}
 use borrow.Author.Needs.{needs}
 use Rattle.utf8.proofs.lossy_text.Statement.{statement}

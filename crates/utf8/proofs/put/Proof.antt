@@ -6,11 +6,10 @@ use mathlib.Core.List.{List, [], _∷_}
 use native.Mathlib.Omega.{arith}
 use lib.ListN.{length, take, set, length-set}
 use lib.Seq.{length-take-le}
-use Rattle.varint.specs.Answer.{written, leaves}
+use Rattle.answer.specs.Answer.{written, leaves}
 use Rattle.utf8.specs.declared.Step.the-variants as v
 use Rattle.utf8.specs.Text.{replacement, size, becomes}
-use Rattle.utf8.specs.Promise.{seen}
-use Rattle.utf8.specs.Advance.{textSize}
+use Rattle.utf8.specs.Inner.{seen, textSize}
 use borrow.Author.Needs.{needs}
 use Rattle.utf8.proofs.put.Statement.{statement}
 use Rattle.utf8.proofs.put.Tie as tie

@@ -6,7 +6,7 @@ use mathlib.Core.List.{[]}
 use native.Mathlib.Omega.{arith}
 use lib.ListN.{length, drop, getD, drop-of-length-le}
 use Rattle.utf8.specs.Text.{same}
-use Rattle.utf8.specs.Same.{same-next, same-stop, same-length, same-refl}
+use Rattle.utf8.proofs.Same.{same-next, same-stop, same-length, same-refl}
 use Rattle.utf8.proofs.same_bytes.Statement.{statement}
 use Rattle.utf8.proofs.same_bytes.Tie as tie
 

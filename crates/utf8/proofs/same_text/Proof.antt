@@ -6,11 +6,12 @@ use borrow.Author.Needs.{needs}
 use native.Mathlib.Omega.{arith}
 use lib.ListN.{length, drop}
 use lib.Seq.{drop-drop}
-use Rattle.varint.specs.Output.{lent-tail}
+use Rattle.answer.proofs.Output.{lent-tail}
 use Rattle.utf8.specs.declared.Both.the-variants as v
 use Rattle.utf8.specs.Text.{sameText}
-use Rattle.utf8.specs.Advance.{rest-there, rest-some}
-use Rattle.utf8.specs.Walk.{Walks, walks-end}
+use Rattle.utf8.proofs.Advance.{rest-there, rest-some}
+use Rattle.utf8.specs.Inner.{Walks}
+use Rattle.utf8.proofs.Walk.{walks-end}
 use Rattle.utf8.proofs.same_text.Statement.{statement}
 use Rattle.utf8.proofs.same_text.Tie as tie
 

@@ -11,7 +11,7 @@ use lib.ListN.{length, drop, getD}
 use lib.Seq.{drop-drop}
 use borrow.Author.Tests.{eq-eqb, ne-eqb}
 use Rattle.utf8.specs.Text.{_to_, follow, starts, front, char, mark, taken}
-use Rattle.utf8.specs.Stepping.{inside-in, inside-below, inside-above, starts-end, starts-at, front-none, front-stop, front-on, follow-none, follow-on}
+use Rattle.utf8.proofs.Stepping.{inside-in, inside-below, inside-above, starts-end, starts-at, front-none, front-stop, front-on, follow-none, follow-on}
 use Rattle.utf8.proofs.step_on.Statement.{statement}
 use Rattle.utf8.proofs.step_on.Tie as tie
 

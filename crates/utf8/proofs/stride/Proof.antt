@@ -1,7 +1,7 @@
 -- `utf8::stride` meets its contract: ASCII is a well-formed text, and a step goes on.
 -- Assumes nothing.
-use Rattle.utf8.specs.Ascii.{ascii-well}
-use Rattle.utf8.specs.Advance.{step-advances, text-advances}
+use Rattle.utf8.proofs.Ascii.{ascii-well}
+use Rattle.utf8.proofs.Advance.{step-advances, text-advances}
 use borrow.Author.Needs.{needs}
 use Rattle.utf8.proofs.stride.Statement.{statement}
 use Rattle.utf8.proofs.stride.Tie as tie

@@ -8,12 +8,12 @@ use borrow.Author.Needs.{needs}
 use native.Mathlib.Omega.{arith}
 use lib.ListN.{length, take, drop, length-drop, drop-of-length-le}
 use lib.Seq.{drop-drop}
-use Rattle.varint.specs.Output.{Partly, partly-none, partly-length, partly-count, partly-all, lent-tail}
+use Rattle.answer.proofs.Output.{Partly, partly-none, partly-length, partly-count, partly-all, lent-tail}
 use Rattle.utf8.specs.Text.{lossy, size, becomes}
-use Rattle.utf8.specs.Promise.{seen}
-use Rattle.utf8.specs.Lossy.{lossy-none}
-use Rattle.utf8.specs.Advance.{Advances, textSize, becomes-length, rest-there, rest-some}
-use Rattle.varint.specs.Parts.{part-fits, partly-part}
+use Rattle.utf8.specs.Inner.{seen, Advances, textSize}
+use Rattle.utf8.proofs.Lossy.{lossy-none}
+use Rattle.utf8.proofs.Advance.{becomes-length, rest-there, rest-some}
+use Rattle.answer.proofs.Parts.{part-fits, partly-part}
 use Rattle.utf8.proofs.write_lossy.Statement.{statement}
 use Rattle.utf8.proofs.write_lossy.Tie as tie
 

@@ -10,9 +10,9 @@ use native.Mathlib.Omega.{arith}
 use native.Mathlib.Numerals.{add-one}
 use lib.ListN.{length, drop, getD, drop-of-length-le}
 use lib.Seq.{drop-cons}
-use Rattle.varint.specs.Answer.{done, refused}
+use Rattle.answer.specs.Answer.{done, refused}
 use Rattle.varint.specs.Number.{more, worth}
-use Rattle.varint.specs.Reading.{more-none, more-eleventh, more-over, more-last, more-on, worth-shift}
+use Rattle.varint.proofs.Reading.{more-none, more-eleventh, more-over, more-last, more-on, worth-shift}
 use Rattle.varint.proofs.decode_more.Statement.{statement}
 use Rattle.varint.proofs.decode_more.Tie as tie
 

@@ -7,9 +7,9 @@ use mathlib.Core.List.{List}
 use native.Mathlib.Omega.{arith}
 use lib.ListN.{length, drop, getD, drop-of-length-le}
 use lib.Seq.{drop-cons}
-use Rattle.varint.specs.Answer.{done, refused}
+use Rattle.answer.specs.Answer.{done, refused}
 use Rattle.varint.specs.Number.{number, more}
-use Rattle.varint.specs.Reading.{number-none, number-one, number-more}
+use Rattle.varint.proofs.Reading.{number-none, number-one, number-more}
 use Rattle.varint.proofs.decode_varint.Statement.{statement}
 use Rattle.varint.proofs.decode_varint.Tie as tie
 

@@ -7,8 +7,8 @@ use mathlib.Core.List.{[], _∷_}
 use native.Mathlib.Omega.{arith}
 use lib.ListN.{length-set}
 use Rattle.varint.specs.Number.{groups}
-use Rattle.varint.specs.Writing.{nine-on, groups-last}
-use Rattle.varint.specs.Output.{Partly, partly-none, partly-next, partly-place, partly-count, partly-all, partly-length}
+use Rattle.varint.proofs.Writing.{nine-on, groups-last}
+use Rattle.answer.proofs.Output.{Partly, partly-none, partly-next, partly-place, partly-count, partly-all, partly-length}
 use Rattle.varint.proofs.encode_more.Statement.{statement}
 use Rattle.varint.proofs.encode_more.Tie as tie
 

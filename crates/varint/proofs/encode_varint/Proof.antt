@@ -9,10 +9,10 @@ use borrow.Author.Tests.{leb-true, leb-false, not-true, not-false}
 use native.Mathlib.Omega.{arith}
 use lib.ListN.{length, set, length-set, length-drop}
 use borrow.Rule.Slice.PartMut.{putMid}
-use Rattle.varint.specs.Answer.{written, leaves}
+use Rattle.answer.specs.Answer.{written, leaves}
 use Rattle.varint.specs.Number.{numberBytes, groups}
-use Rattle.varint.specs.Writing.{bytes-one, bytes-more, length-bounds}
-use Rattle.varint.specs.Output.{lent-tail, leaves-length, leaves-byte, leaves-tail, writes-none, writes-all}
+use Rattle.varint.proofs.Writing.{bytes-one, bytes-more, length-bounds}
+use Rattle.answer.proofs.Output.{lent-tail, leaves-length, leaves-byte, leaves-tail, writes-none, writes-all}
 use Rattle.varint.proofs.encode_varint.Statement.{statement}
 use Rattle.varint.proofs.encode_varint.Tie as tie
 

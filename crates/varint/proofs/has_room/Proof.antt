@@ -8,7 +8,7 @@ use borrow.Author.Needs.{needs}
 use borrow.Author.Tests.{le-leb}
 use native.Mathlib.Omega.{arith}
 use Rattle.varint.specs.Number.{numberBytes}
-use Rattle.varint.specs.Writing.{length-bounds}
+use Rattle.varint.proofs.Writing.{length-bounds}
 use Rattle.varint.proofs.has_room.Statement.{statement}
 use Rattle.varint.proofs.has_room.Tie as tie
 

@@ -6,7 +6,7 @@ use mathlib.Core.Path.{_≡_, ap, _∙_}
 use native.Mathlib.Omega.{arith}
 use lib.ListN.{length}
 use Rattle.varint.specs.Number.{groups, numberBytes}
-use Rattle.varint.specs.Writing.{bytes-one, bytes-more, nine-on, groups-last, length-bounds}
+use Rattle.varint.proofs.Writing.{bytes-one, bytes-more, nine-on, groups-last, length-bounds}
 use Rattle.varint.proofs.varint_len.Statement.{statement}
 use Rattle.varint.proofs.varint_len.Tie as tie
 

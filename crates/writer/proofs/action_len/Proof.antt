@@ -5,7 +5,7 @@ use mathlib.Core.Path.{_≡_, sym, ap, _∙_}
 use Prim.Native.Nat.{ℕ, _+_, _≤_}
 use native.Mathlib.Omega.{arith}
 use lib.ListN.{length}
-use Rattle.varint.specs.Writing.{length-most}
+use Rattle.varint.proofs.Writing.{length-most}
 use Rattle.writer.specs.Table.{capped}
 use Rattle.writer.specs.Records.{capped-right, capped-most}
 use Rattle.writer.specs.Pair.{pairBytes}

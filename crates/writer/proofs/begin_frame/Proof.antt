@@ -7,11 +7,11 @@ use Prim.Native.Nat.{ℕ, _+_, _^_, _≤_, _<_}
 use native.Mathlib.Omega.{arith}
 use lib.ListN.{length}
 use borrow.Author.Tests.{le-leb}
-use Rattle.varint.specs.Writing.{length-most}
-use Rattle.varint.specs.Answer.{written, within}
-use Rattle.varint.specs.Promise.{Writes}
+use Rattle.varint.proofs.Writing.{length-most}
+use Rattle.answer.specs.Answer.{written, within}
+use Rattle.answer.specs.Writes.{Writes}
 use Rattle.frame.specs.Head.{fourBytes, headBytes}
-use Rattle.frame.specs.Laws.{head-length}
+use Rattle.frame.proofs.Laws.{head-length}
 use Rattle.writer.specs.Answers.{begun-over, begun-short, begun-in, front-length, writes-refused}
 use Rattle.writer.proofs.begin_frame.Statement.{statement}
 use Rattle.writer.proofs.begin_frame.Tie as tie

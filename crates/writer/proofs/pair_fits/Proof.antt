@@ -6,10 +6,10 @@ use Prim.Native.Nat.{ℕ, _+_, _≤_}
 use native.Mathlib.Omega.{arith}
 use lib.ListN.{length}
 use borrow.Author.Tests.{le-leb, lt-leb, leb-true}
-use Rattle.varint.specs.Writing.{length-most}
+use Rattle.varint.proofs.Writing.{length-most}
 use Rattle.types.specs.Form.{valueBytes}
 use Rattle.types.specs.Promise.{recordOf}
-use Rattle.types.specs.Writing.{rest-fits}
+use Rattle.types.proofs.Writing.{rest-fits}
 use Rattle.writer.specs.Pair.{pairBytes}
 use Rattle.writer.specs.Pairs.{value-most, value-bound, value-long, pair-long}
 use Rattle.writer.proofs.pair_fits.Statement.{statement}

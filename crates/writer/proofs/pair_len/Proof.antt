@@ -7,7 +7,7 @@ use Prim.Native.Nat.{ℕ, _+_, _≤_}
 use native.Mathlib.Omega.{arith}
 use lib.ListN.{length}
 use borrow.Author.Tests.{not-true, not-false, leb-true, leb-false}
-use Rattle.varint.specs.Writing.{length-most}
+use Rattle.varint.proofs.Writing.{length-most}
 use Rattle.types.specs.Form.{valueBytes, size}
 use Rattle.types.specs.Promise.{recordOf}
 use Rattle.writer.specs.Table.{capped}

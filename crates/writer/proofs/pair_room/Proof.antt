@@ -6,7 +6,7 @@ use Prim.Native.Nat.{ℕ, _+_, _-_}
 use native.Mathlib.Omega.{arith}
 use lib.Dec.{leb}
 use borrow.Author.Tests.{lt-leb}
-use Rattle.types.specs.Writing.{rest-fits}
+use Rattle.types.proofs.Writing.{rest-fits}
 use Rattle.writer.proofs.pair_room.Statement.{statement}
 use Rattle.writer.proofs.pair_room.Tie as tie
 

@@ -6,10 +6,10 @@ use mathlib.Core.List.{List, [], _∷_, _++_}
 use Prim.Native.Nat.{ℕ, _+_, _-_, _≤_}
 use native.Mathlib.Omega.{arith}
 use lib.ListN.{length, take, drop}
-use Rattle.varint.specs.Answer.{written, leaves}
-use Rattle.varint.specs.Parts.{both-start, both-room, both-count, both-leaves}
+use Rattle.answer.specs.Answer.{written, leaves}
+use Rattle.answer.proofs.Parts.{both-start, both-room, both-count, both-leaves}
 use Rattle.types.specs.Form.{stringBytes}
-use Rattle.types.specs.Writing.{part-lent}
+use Rattle.types.proofs.Writing.{part-lent}
 use Rattle.writer.specs.Pair.{keyOf, pairBytes}
 use Rattle.writer.specs.Pairs.{formed-passed}
 use Rattle.writer.specs.Actions.{passed-scope, passed-pair, set-bytes, unset-bytes}

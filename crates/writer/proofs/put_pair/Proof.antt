@@ -7,11 +7,11 @@ use Prim.Native.Nat.{ℕ, _+_, _-_, _≤_}
 use native.Mathlib.Omega.{arith}
 use lib.ListN.{length, length-append}
 use borrow.Rule.Slice.PartMut.{putMid}
-use Rattle.varint.specs.Answer.{written, leaves}
-use Rattle.varint.specs.Parts.{both-start, both-room, both-count, both-leaves}
+use Rattle.answer.specs.Answer.{written, leaves}
+use Rattle.answer.proofs.Parts.{both-start, both-room, both-count, both-leaves}
 use Rattle.types.specs.Form.{stringBytes, valueBytes}
 use Rattle.types.specs.Promise.{recordOf}
-use Rattle.types.specs.Writing.{part-lent}
+use Rattle.types.proofs.Writing.{part-lent}
 use Rattle.writer.specs.Pair.{keyOf}
 use Rattle.writer.specs.Pairs.{pair-bytes}
 use Rattle.writer.proofs.put_pair.Statement.{statement}

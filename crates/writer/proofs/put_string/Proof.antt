@@ -2,7 +2,7 @@
 -- Assumes nothing.
 use borrow.Author.Needs.{needs}
 use Rattle.types.specs.Form.{stringBytes}
-use Rattle.varint.specs.Parts.{room-done, room-leaves, room-refused}
+use Rattle.answer.proofs.Parts.{room-done, room-leaves, room-refused}
 use Rattle.writer.proofs.put_string.Statement.{statement}
 use Rattle.writer.proofs.put_string.Tie as tie
 

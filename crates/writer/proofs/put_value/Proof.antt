@@ -2,12 +2,12 @@
 -- Assumes nothing.
 use borrow.Author.Needs.{needs}
 use lib.ListN.{length}
-use Rattle.varint.specs.Answer.{written, within}
-use Rattle.varint.specs.Promise.{Writes}
-use Rattle.varint.specs.Parts.{room-done, room-leaves, room-refused}
+use Rattle.answer.specs.Answer.{written, within}
+use Rattle.answer.specs.Writes.{Writes}
+use Rattle.answer.proofs.Parts.{room-done, room-leaves, room-refused}
 use Rattle.types.specs.Form.{valueBytes}
 use Rattle.types.specs.Promise.{recordOf}
-use Rattle.types.specs.Writing.{form-whole}
+use Rattle.types.proofs.Writing.{form-whole}
 use Rattle.writer.proofs.put_value.Statement.{statement}
 use Rattle.writer.proofs.put_value.Tie as tie
 

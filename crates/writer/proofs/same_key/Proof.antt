@@ -6,7 +6,7 @@ use Prim.Native.Nat.{_+_, _≤_}
 use native.Mathlib.Omega.{arith}
 use lib.ListN.{length}
 use Rattle.utf8.specs.Text.{sameText}
-use Rattle.types.specs.Writing.{part-lent}
+use Rattle.types.proofs.Writing.{part-lent}
 use Rattle.writer.specs.Pair.{sameKey}
 use Rattle.writer.specs.Pairs.{string-range, passed-key}
 use Rattle.writer.proofs.same_key.Statement.{statement}

@@ -7,7 +7,7 @@ use Prim.Native.Nat.{_*_, _≤_}
 use native.Mathlib.Omega.{arith}
 use lib.ListN.{length}
 use borrow.Author.Tests.{not-true, not-false}
-use Rattle.varint.specs.Output.{writes-refusal}
+use Rattle.answer.proofs.Output.{writes-refusal}
 use Rattle.frame.specs.declared.Head.{Head}
 use Rattle.writer.specs.Frame.{headOf, kvAllowed}
 use Rattle.writer.specs.Answers.{kv-kind, kv-metadata, kv-count, kv-refused, kv-passed}

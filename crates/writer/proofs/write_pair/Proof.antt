@@ -7,7 +7,7 @@ use Prim.Native.Nat.{_+_, _≤_}
 use native.Mathlib.Omega.{arith}
 use lib.ListN.{length}
 use borrow.Author.Tests.{not-true, not-false, leb-true, leb-false}
-use Rattle.varint.specs.Output.{writes-refusal, writes-short, writes-whole}
+use Rattle.answer.proofs.Output.{writes-refusal, writes-short, writes-whole}
 use Rattle.types.specs.Form.{writableRecord}
 use Rattle.types.specs.Promise.{recordOf}
 use Rattle.writer.specs.Pair.{pairBytes}

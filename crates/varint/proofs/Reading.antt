@@ -10,9 +10,10 @@ use native.Mathlib.Omega.{arith}
 use lib.Pow.{pow-add, low, shl-exact}
 use lib.ListN.{length, getD}
 use borrow.Author.Tests.{lt-ltb, le-ltb, le-leb, lt-leb, eq-eqb, ne-eqb}
-use Rattle.varint.specs.Answer.{Answer, done, refused}
+use Rattle.answer.specs.Answer.{Answer, done, refused}
+use Rattle.answer.proofs.Cases.{not-both, lt-or-le}
 use Rattle.varint.specs.Number.{worth, more, number, groups, numberBytes}
-use Rattle.varint.specs.Writing.{lt-or-le, reach, reach-down, groups-last, groups-on, bytes-one, bytes-more, steps-reach}
+use Rattle.varint.proofs.Writing.{reach, reach-down, groups-last, groups-on, bytes-one, bytes-more, steps-reach}
 
 -- ---- one byte
 
@@ -158,16 +159,12 @@ pub number-none : number [] ≡ refused 3 0
 unfolding number
 number-none = refl
 
--- a refusal is no success
-not-done : {G : Type 0} {number place v used : ℕ} {a : Answer ℕ} → a ≡ refused number place → a ≡ done v used → G
-not-done p q = let z : _≡_ {A = ℕ} 0 1 = cc in absurd (omega arith)
-
 more-accepted : (s : List ℕ) (sum k v used : ℕ) → more sum k s ≡ done v used
     → (k < used) × (used ≤ 10) × (used ≤ k + length s) × (v < 2 ^ 64)
-more-accepted [] sum k v used e = not-done (more-none sum k) e
+more-accepted [] sum k v used e = not-both e (more-none sum k)
 more-accepted (b ∷ s) sum k v used e =
     more-cases sum k b
-    (λ broke. not-done (broke s) e)
+    (λ broke. not-both e (broke s))
     (λ h o ends.
     let one : done (sum + worth k b) (suc k) ≡ done v used = sym (ends s) ∙ e in
     let p : sum + worth k b ≡ v = cc in
@@ -177,7 +174,7 @@ more-accepted (b ∷ s) sum k v used e =
 
 -- Law: an accepted number takes at least one byte and at most ten, no more than are there, and is below 2^64.
 pub accepted : (s : List ℕ) (v used : ℕ) → number s ≡ done v used → (1 ≤ used) × (used ≤ 10) × (used ≤ length s) × (v < 2 ^ 64)
-accepted [] v used e = not-done number-none e
+accepted [] v used e = not-both e number-none
 accepted (b ∷ s) v used e =
     ⊎-elim
     (λ l.
@@ -203,7 +200,7 @@ more-short [] sum k place e =
 more-short (b ∷ s) sum k place e =
     more-cases sum k b
     (λ broke. let one : refused 7 (suc k) ≡ refused 3 place = sym (broke s) ∙ e in let z : _≡_ {A = ℕ} 7 3 = cc in absurd (omega arith))
-    (λ h o ends. not-done e (ends s))
+    (λ h o ends. not-both (ends s) e)
     (λ l goes.
     let next = more-short s (sum + worth k b) (suc k) place (sym (goes s) ∙ e) in
     (omega arith, all l (next .1)))
@@ -219,7 +216,7 @@ short [] place e =
     let p : 0 ≡ place = cc in
     (omega arith, tt)
 short (b ∷ s) place e =
-    ⊎-elim (λ l. not-done e (number-one b s l))
+    ⊎-elim (λ l. not-both (number-one b s l) e)
     (λ l. let rest = more-short s b 1 place (sym (number-more b s l) ∙ e) in (omega arith, (l, rest .1)))
     (lt-or-le b 240)
 
@@ -242,7 +239,7 @@ kept (b ∷ s) t a e no3 =
     (lt-or-le b 240)
 
 pub accepted-kept : (s t : List ℕ) (v used : ℕ) → number s ≡ done v used → number (s ++ t) ≡ done v used
-accepted-kept s t v used e = kept s t (done v used) e (λ place p. not-done p refl)
+accepted-kept s t v used e = kept s t (done v used) e (λ place p. not-both refl p)
 
 pub large-kept : (s t : List ℕ) (place : ℕ) → number s ≡ refused 7 place → number (s ++ t) ≡ refused 7 place
 large-kept s t place e = kept s t (refused 7 place) e (λ p q. let z : _≡_ {A = ℕ} 7 3 = cc in omega arith)

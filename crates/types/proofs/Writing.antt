@@ -9,12 +9,12 @@ use lib.Dec.{ltb, leb, eqb}
 use lib.ListN.{length, take, drop, length-append, length-take, length-drop}
 use lib.Seq.{length-take-le}
 use borrow.Author.Tests.{lt-ltb, le-ltb, le-leb, lt-leb, ne-eqb, leb-true}
-use Rattle.varint.specs.Answer.{refused, written}
+use Rattle.answer.specs.Answer.{refused, written}
 use Rattle.varint.specs.Number.{numberBytes}
-use Rattle.varint.specs.Writing.{lt-or-le}
+use Rattle.answer.proofs.Cases.{lt-or-le}
 use Rattle.types.specs.Value.{Shape, nothing, flag, integer, address, text, reserved, Width, whole64, shape, Record, value, points, inWidth, inFields}
 use Rattle.types.specs.Form.{part, inside, stringBytes, formed, valueBytes, writableRecord, ranged, form}
-use Rattle.types.specs.Reading.{shape-is, shape-reserved, shape-listed, shape-integer, shape-text, in-fields, fields-in}
+use Rattle.types.proofs.Reading.{shape-is, shape-reserved, shape-listed, shape-integer, shape-text, in-fields, fields-in}
 
 -- a law about a kind goes by the table's lines
 pub shape-cases : {G : Type 0} (k : ℕ)

@@ -5,10 +5,10 @@ use mathlib.Core.List.{List}
 use Prim.Native.Nat.{ℕ}
 use native.Mathlib.Omega.{arith}
 use lib.ListN.{length}
-use Rattle.varint.specs.declared.Written.{Written}
-use Rattle.varint.specs.Answer.{within, written}
-use Rattle.varint.specs.Promise.{Writes}
-use Rattle.varint.specs.Unique.{refusal-same, writes-unique}
+use Rattle.answer.specs.declared.Written.{Written}
+use Rattle.answer.specs.Answer.{within, written}
+use Rattle.answer.specs.Writes.{Writes}
+use Rattle.answer.proofs.Same.{refusal-same, writes-unique}
 use Rattle.types.specs.declared.Text.{Text}
 use Rattle.types.specs.declared.Text.the-variants as t
 use Rattle.types.specs.declared.Value.{Value}

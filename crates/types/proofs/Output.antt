@@ -7,12 +7,12 @@ use native.Mathlib.Omega.{arith}
 use lib.ListN.{length, take, drop, getD, set}
 use borrow.Rule.Slice.PartMut.{putMid}
 use borrow.Author.Tests.{le-leb, lt-leb}
-use Rattle.varint.specs.Answer.{Answer, done, refused, written, within, tells, leaves}
-use Rattle.varint.specs.Writing.{lt-or-le}
-use Rattle.varint.specs.Output.{Partly, partly-none, partly-all, leaves-length, leaves-byte}
-use Rattle.varint.specs.Parts.{both-start, both-room, both-count, both-leaves, copy-place, copy-next, copy-all}
+use Rattle.answer.specs.Answer.{Answer, done, refused, written, within, tells, leaves}
+use Rattle.answer.proofs.Cases.{lt-or-le}
+use Rattle.answer.proofs.Output.{Partly, partly-none, partly-all, leaves-length, leaves-byte}
+use Rattle.answer.proofs.Parts.{both-start, both-room, both-count, both-leaves, copy-place, copy-next, copy-all}
 use Rattle.types.specs.Form.{size}
-use Rattle.types.specs.Promise.{Puts}
+use Rattle.types.specs.Inner.{Puts}
 
 -- what has no written form is not written
 pub puts-refusal : {a : Answer (List ℕ)} (room n : ℕ) (old : List ℕ) → a ≡ refused n 0 → Puts (within room a) 0 old old

@@ -9,12 +9,12 @@ use lib.ListN.{length, take, drop, getD, set, length-append, length-drop, drop-o
 use lib.Seq.{length-take-le, drop-cons, drop-drop, take-add, take-at, drop-at}
 use borrow.Rule.Slice.PartMut.{putMid}
 use borrow.Author.Tests.{le-leb}
-use Rattle.varint.specs.declared.Refusal.{Refusal}
-use Rattle.varint.specs.declared.Written.{Written}
-use Rattle.varint.specs.declared.Written.the-variants as w
-use Rattle.varint.specs.Answer.{done, refused, written, within, leaves}
-use Rattle.varint.specs.Promise.{count, Writes}
-use Rattle.varint.specs.Output.{Partly, partly-next, partly-place, partly-length, lent-tail, leaves-length, leaves-tail}
+use Rattle.answer.specs.declared.Refusal.{Refusal}
+use Rattle.answer.specs.declared.Written.{Written}
+use Rattle.answer.specs.declared.Written.the-variants as w
+use Rattle.answer.specs.Answer.{done, refused, written, within, leaves}
+use Rattle.answer.specs.Writes.{count, Writes}
+use Rattle.answer.proofs.Output.{Partly, partly-next, partly-place, partly-length, lent-tail, leaves-length, leaves-tail}
 
 -- ---- one writer
 

@@ -1,18 +1,13 @@
 -- Laws about the written form of a number: how it unrolls, and how long it is.
 use mathlib.Core.Path.{_≡_, refl, sym, ap, _∙_}
-use mathlib.Core.Logic.{_⊎_, inl, inr, ⊎-elim, _↔_}
+use mathlib.Core.Logic.{⊎-elim, _↔_}
 use mathlib.Core.List.{List, [], _∷_}
 use Prim.Native.Nat.{ℕ, zero, suc, _+_, _-_, _*_, _/_, _%_, _^_, _≤_, _<_, zero-le, suc-le-suc}
 use native.Mathlib.Omega.{arith}
 use lib.ListN.{length}
 use borrow.Author.Tests.{lt-ltb, le-ltb}
+use Rattle.answer.proofs.Cases.{lt-or-le}
 use Rattle.varint.specs.Number.{groups, numberBytes}
-
--- One of two numbers is below the other, or not: how the laws take a test apart.
-pub lt-or-le : (a b : ℕ) → (a < b) ⊎ (b ≤ a)
-lt-or-le a zero = inr zero-le
-lt-or-le zero (suc b) = inl (suc-le-suc zero-le)
-lt-or-le (suc a) (suc b) = ⊎-elim (λ h. inl (suc-le-suc h)) (λ h. inr (suc-le-suc h)) (lt-or-le a b)
 
 -- ---- one byte at a time
 

@@ -7,7 +7,7 @@ use native.Mathlib.Omega.{arith}
 use lib.ListN.{length, drop, getD, length-drop}
 use lib.Seq.{drop-drop, getD-drop}
 use borrow.Author.Tests.{le-leb, lt-leb, eq-eqb, ne-eqb}
-use Rattle.varint.specs.Answer.{done, refused}
+use Rattle.answer.specs.Answer.{done, refused}
 use Rattle.hello.specs.Hello.{frameSize, announced, choice, version, none}
 
 module _ (theirs ours : ℕ) where

@@ -9,21 +9,15 @@ use lib.Seq.{drop-cons}
 use lib.ListN.{length, take, drop, getD, length-drop, take-append-drop, drop-of-length-le}
 use mathlib.Core.Logic.{⊎-elim}
 use borrow.Author.Tests.{eq-eqb, ne-eqb}
-use Rattle.varint.specs.Writing.{lt-or-le}
+use Rattle.answer.proofs.Cases.{lt-or-le, bool-cases, true-false}
 use Rattle.utf8.specs.declared.Both as b
 use Rattle.utf8.specs.declared.Both.the-variants as v
 use Rattle.utf8.specs.Text.{Step, ends, char, mark, step, size, isUtf8, lossy, same, sameText}
-use Rattle.utf8.specs.Stepping.{bool-cases}
-use Rattle.utf8.specs.Ascii.{ascii, ascii-well}
-use Rattle.utf8.specs.Lossy.{not-both, lossy-none, lossy-front}
-use Rattle.utf8.specs.Advance.{step-advances, lossy-some}
-use Rattle.utf8.specs.Same.{piece, rest, same-refl, same-true, same-front, same-none, same-text-on, same-text-off}
-
--- The texts differ; or they start in the same way, with m bytes of the first and n of the second, and are the same exactly
--- where what is left of them is.
-abbrev pub Walks : List ℕ → List ℕ → b.Both → Type 0
-Walks s t v.Apart = sameText s t ≡ false
-Walks s t (v.On m n) = (sameText s t ≡ sameText (drop m s) (drop n t)) × (m ≤ length s) × (n ≤ length t) × (1 ≤ length s → 1 ≤ m)
+use Rattle.utf8.specs.Inner.{Walks, ascii}
+use Rattle.utf8.proofs.Ascii.{ascii-well}
+use Rattle.utf8.proofs.Lossy.{lossy-none, lossy-front}
+use Rattle.utf8.proofs.Advance.{step-advances, lossy-some}
+use Rattle.utf8.proofs.Same.{piece, rest, same-refl, same-true, same-front, same-none, same-text-on, same-text-off}
 
 -- a step of each
 module _ (s t : List ℕ) where
@@ -63,7 +57,7 @@ unfolding sameText
 walks-eight s t h g e = (front, h, g, λ p. omega arith)
   where
     is : (ascii (take 8 s) ≡ true) × (same (take 8 s) (take 8 t) ≡ true)
-    is = bool-cases (ascii (take 8 s)) (λ p. (p, simp p at e)) (λ p. let f = simp p at e in not-both f refl)
+    is = bool-cases (ascii (take 8 s)) (λ p. (p, simp p at e)) (λ p. let f = simp p at e in true-false f refl)
 
     front : sameText s t ≡ sameText (drop 8 s) (drop 8 t)
     front =

@@ -12,8 +12,9 @@ use native.Mathlib.Numerals.{add-one}
 use lib.Seq.{drop-cons, take-at, length-take-le}
 use borrow.Author.Tests.{eq-eqb, ne-eqb, eqb-true}
 use Rattle.utf8.specs.Text.{Step, ends, char, mark, step, size, becomes, isUtf8, lossy, same, sameText}
-use Rattle.utf8.specs.Stepping.{bool-cases, Bounded, step-bounds, step-none}
-use Rattle.utf8.specs.Lossy.{empty, not-both, lossy-on, lossy-none, lossy-char, lossy-mark, lossy-same, lossy-step-char, lossy-step-mark, char-bounds}
+use Rattle.answer.proofs.Cases.{bool-cases, true-false}
+use Rattle.utf8.proofs.Stepping.{Bounded, step-bounds, step-none}
+use Rattle.utf8.proofs.Lossy.{empty, lossy-on, lossy-none, lossy-char, lossy-mark, lossy-same, lossy-step-char, lossy-step-mark, char-bounds}
 
 -- ---- the same bytes
 
@@ -25,12 +26,12 @@ same-refl (b ∷ s) = simp (eq-eqb b b refl, same-refl s)
 pub same-true : (s t : List ℕ) → same s t ≡ true → s ≡ t
 unfolding same
 same-true [] [] e = refl
-same-true [] (b ∷ t) e = not-both e refl
-same-true (a ∷ s) [] e = not-both e refl
+same-true [] (b ∷ t) e = true-false e refl
+same-true (a ∷ s) [] e = true-false e refl
 same-true (a ∷ s) (b ∷ t) e =
     bool-cases (eqb a b)
     (λ q. ap₂ _∷_ (eqb-true a b q) (same-true s t (simp q at e)))
-    (λ q. let f = simp q at e in not-both f refl)
+    (λ q. let f = simp q at e in true-false f refl)
 
 pub same-iff : (s t : List ℕ) → (same s t ≡ true) ↔ (s ≡ t)
 same-iff s t = (same-true s t, λ e. rw e (same-refl t))
@@ -108,7 +109,7 @@ pub same-text-off : (s t : List ℕ) → same (piece s) (piece t) ≡ false → 
 unfolding sameText
 same-text-off s t e =
     same-apart (lossy s) (lossy t)
-    (λ q. not-both (same-iff (piece s) (piece t) .1 (sym (piece-lossy s) ∙ ap piece q ∙ piece-lossy t)) e)
+    (λ q. true-false (same-iff (piece s) (piece t) .1 (sym (piece-lossy s) ∙ ap piece q ∙ piece-lossy t)) e)
 
 -- ---- at the end
 

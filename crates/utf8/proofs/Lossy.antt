@@ -7,8 +7,9 @@ use Prim.Native.Nat.{ℕ, zero, suc, _+_, _-_, _*_, _≤_, _<_, zero-le, suc-le-
 use native.Mathlib.Omega.{arith}
 use lib.ListN.{length, take, drop, length-append, length-take, length-drop, take-append-drop}
 use lib.Seq.{take-at, drop-at, length-take-le, take-append-le, drop-append-le}
+use Rattle.answer.proofs.Cases.{true-false}
 use Rattle.utf8.specs.Text.{Step, ends, char, mark, step, size, whole, replacement, becomes, isUtf8In, lossyIn, isUtf8, lossy}
-use Rattle.utf8.specs.Stepping.{Bounded, step-bounds, step-kept, step-none, step-replacement, step-ascii}
+use Rattle.utf8.proofs.Stepping.{Bounded, step-bounds, step-kept, step-none, step-replacement, step-ascii}
 
 -- ---- one step
 
@@ -126,10 +127,6 @@ module _ (P : List ℕ → Type 0) (none : P [])
 
 -- ---- law: lossy text is well-formed, of a well-formed text it is that text, and so on
 
--- true is not false
-pub not-both : {G : Type 0} {t : Bool} → t ≡ true → t ≡ false → G
-not-both p q = let z : _≡_ {A = ℕ} 0 1 = cc in absurd (omega arith)
-
 -- the first step of a lossy text
 module _ (s : List ℕ) (n : ℕ) where
   pub lossy-step-char : step s ≡ char n → step (lossy s) ≡ char n
@@ -159,7 +156,7 @@ lossy-same =
     lossy-char s n is
     ∙ ap (λ (l : List ℕ). take n s ++ l) (p (sym (isUtf8-char s n is) ∙ e))
     ∙ take-append-drop n s)
-    (λ s n is p e. not-both e (isUtf8-mark s n is))
+    (λ s n is p e. true-false e (isUtf8-mark s n is))
 
 pub well-iff : (s : List ℕ) → (isUtf8 s ≡ true) ↔ (lossy s ≡ s)
 well-iff s = (lossy-same s, λ e. sym (ap isUtf8 e) ∙ lossy-well s)
@@ -199,7 +196,7 @@ module _ (b : List ℕ) where
       (ap (λ (l : List ℕ). take n a ++ l) (p (sym (isUtf8-char a n is) ∙ e))
       ∙ sym (append-assoc (take n a) (drop n a) (lossy b))
       ∙ ap (λ (l : List ℕ). l ++ lossy b) (take-append-drop n a)))
-      (λ a n is p e. not-both e (isUtf8-mark a n is))
+      (λ a n is p e. true-false e (isUtf8-mark a n is))
 
   pub isUtf8-front : (a : List ℕ) → isUtf8 a ≡ true → isUtf8 (a ++ b) ≡ isUtf8 b
   isUtf8-front =
@@ -209,4 +206,4 @@ module _ (b : List ℕ) where
       isUtf8-char (a ++ b) n (step-front a n is)
       ∙ ap isUtf8 (drop-append-le n a b (char-bounds a n is .1))
       ∙ p (sym (isUtf8-char a n is) ∙ e))
-      (λ a n is p e. not-both e (isUtf8-mark a n is))
+      (λ a n is p e. true-false e (isUtf8-mark a n is))

@@ -4,18 +4,16 @@ use mathlib.Core.List.{List}
 use Prim.Native.Nat.{ℕ}
 use native.Mathlib.Omega.{arith}
 use lib.ListN.{length}
-use Rattle.varint.specs.declared.Refusal.{Refusal}
+use Rattle.answer.specs.declared.Refusal.{Refusal}
 use Rattle.varint.specs.declared.Number.{Number}
 use Rattle.varint.specs.declared.Number.the-variants as n
-use Rattle.varint.specs.declared.Written.{Written}
-use Rattle.varint.specs.declared.Written.the-variants as w
-use Rattle.varint.specs.Answer.{Answer, done, refused, within, written}
+use Rattle.answer.specs.declared.Written.{Written}
+use Rattle.answer.specs.declared.Written.the-variants as w
+use Rattle.answer.proofs.Same.{refusal-same, writes-unique}
+use Rattle.answer.specs.Answer.{Answer, done, refused, within, written}
 use Rattle.varint.specs.Number.{number, numberBytes}
-use Rattle.varint.specs.Promise.{numberRead, count, Writes}
-
--- a refusal is its number and its place
-pub refusal-same : (r q : Refusal) → r .number ≡ q .number → r .place ≡ q .place → r ≡ q
-refusal-same r q e f = λ i. record { number = e i; place = f i }
+use Rattle.varint.specs.Promise.{numberRead}
+use Rattle.answer.specs.Writes.{count, Writes}
 
 -- answers that say the same are the same
 pub numberRead-same : (a b : Number) → numberRead a ≡ numberRead b → a ≡ b
@@ -23,16 +21,6 @@ numberRead-same (n.Done v u) (n.Done v′ u′) e = let p : v ≡ v′ = cc in l
 numberRead-same (n.Done v u) (n.Refused q) e = let z : _≡_ {A = ℕ} 0 1 = cc in absurd (omega arith)
 numberRead-same (n.Refused r) (n.Done v u) e = let z : _≡_ {A = ℕ} 0 1 = cc in absurd (omega arith)
 numberRead-same (n.Refused r) (n.Refused q) e = ap n.Refused (refusal-same r q (cc) (cc))
-
-pub count-same : (a b : Written) → count a ≡ count b → a ≡ b
-count-same (w.Done u) (w.Done u′) e = let q : u ≡ u′ = cc in cc
-count-same (w.Done u) (w.Refused q) e = let z : _≡_ {A = ℕ} 0 1 = cc in absurd (omega arith)
-count-same (w.Refused r) (w.Done u) e = let z : _≡_ {A = ℕ} 0 1 = cc in absurd (omega arith)
-count-same (w.Refused r) (w.Refused q) e = ap w.Refused (refusal-same r q (cc) (cc))
-
--- of any writer
-pub writes-unique : {a : Answer (List ℕ)} {r q : Written} {old new other : List ℕ} → Writes a r old new → Writes a q old other → (r ≡ q) × (new ≡ other)
-writes-unique {r = r} {q = q} p s = (count-same r q (p .says ∙ sym (s .says)), p .holds ∙ sym (s .holds))
 
 pub varint-len-unique : (i r q : ℕ) → r ≡ length (numberBytes i) → q ≡ length (numberBytes i) → r ≡ q
 varint-len-unique i r q p s = p ∙ sym s

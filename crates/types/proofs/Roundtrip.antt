@@ -8,13 +8,13 @@ use native.Mathlib.Omega.{arith}
 use native.Mathlib.Nat.{mod-eq-of-lt}
 use lib.ListN.{length, take, drop, length-append}
 use lib.Seq.{drop-drop, take-at, drop-at}
-use Rattle.varint.specs.Answer.{done}
+use Rattle.answer.specs.Answer.{done, behind}
 use Rattle.varint.specs.Number.{numberBytes}
-use Rattle.varint.specs.Reading.{reads-back}
-use Rattle.types.specs.Value.{span, string, Shape, nothing, flag, integer, address, text, reserved, Width, signed32, unsigned32, whole64, shape, Record, value, points, moved, behind, kept, content, typed}
+use Rattle.varint.proofs.Reading.{reads-back}
+use Rattle.types.specs.Value.{span, string, Shape, nothing, flag, integer, address, text, reserved, Width, signed32, unsigned32, whole64, shape, Record, value, points, moved, kept, content, typed}
 use Rattle.types.specs.Form.{part, stringBytes, valueBytes, writableRecord, ranged, means, meaning}
-use Rattle.types.specs.Reading.{string-whole, typed-some, integer-whole, address-whole, text-whole, behind-plain, behind-start, signed-below, InWidth, Fields, fields-in}
-use Rattle.types.specs.Writing.{shape-cases, writable-kind, string-bytes, string-length, part-whole, field-at, bytes-at}
+use Rattle.types.proofs.Reading.{string-whole, typed-some, integer-whole, address-whole, text-whole, behind-plain, behind-start, signed-below, InWidth, Fields, fields-in}
+use Rattle.types.proofs.Writing.{shape-cases, writable-kind, string-bytes, string-length, part-whole, field-at, bytes-at}
 
 -- ---- strings
 

@@ -2,7 +2,7 @@
 -- were lent to it.
 use mathlib.Core.Bool.{cond}
 use mathlib.Core.List.{List, _++_}
-use Prim.Native.Nat.{ℕ}
+use Prim.Native.Nat.{ℕ, _+_}
 use lib.Dec.{leb}
 use lib.ListN.{length, drop}
 
@@ -10,6 +10,17 @@ use lib.ListN.{length, drop}
 pub data Answer (A : Type 0) : Type 0 where
   done : A → ℕ → Answer A
   refused : ℕ → ℕ → Answer A
+
+-- What is read goes on behind what was read first: a refusal of the first is the whole's.
+abbrev pub next : {A B : Type 0} → Answer A → (A → ℕ → Answer B) → Answer B
+next (done a used) f = f a used
+next (refused number place) f = refused number place
+
+-- A part that was read behind n other bytes: its places count from the front of the whole, and so do the starts in what was
+-- read, as `moved n` says.
+abbrev pub behind : {A : Type 0} → (ℕ → A → A) → ℕ → Answer A → Answer A
+behind moved n (done a used) = done (moved n a) (n + used)
+behind moved n (refused number place) = refused number (n + place)
 
 -- these bytes are to be written
 abbrev pub written : List ℕ → Answer (List ℕ)

@@ -4,10 +4,10 @@ use mathlib.Core.Bool.{Bool}
 use mathlib.Core.List.{List}
 use Prim.Native.Nat.{ℕ}
 use lib.ListN.{length}
-use Rattle.varint.specs.declared.Written.{Written}
-use Rattle.varint.specs.Answer.{within, written}
-use Rattle.varint.specs.Promise.{Writes}
-use Rattle.varint.specs.Unique.{writes-unique}
+use Rattle.answer.specs.declared.Written.{Written}
+use Rattle.answer.specs.Answer.{within, written}
+use Rattle.answer.specs.Writes.{Writes}
+use Rattle.answer.proofs.Same.{writes-unique}
 use Rattle.utf8.specs.Text.{isUtf8, lossy, sameText}
 
 pub is-utf8-unique : (s : List ℕ) (r q : Bool) → r ≡ isUtf8 s → q ≡ isUtf8 s → r ≡ q

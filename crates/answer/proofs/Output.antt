@@ -9,11 +9,11 @@ use lib.ListN.{length, take, drop, set, getD, length-append, length-take, length
 use lib.Seq.{drop-cons, take-suc, append-snoc, set-at, take-all, length-take-le, drop-drop, take-at, drop-at}
 use borrow.Rule.Slice.PartMut.{putMid}
 use borrow.Author.Tests.{le-leb, lt-leb}
-use Rattle.varint.specs.declared.Written.{Written}
-use Rattle.varint.specs.declared.Written.the-variants as w
-use Rattle.varint.specs.Answer.{Answer, done, refused, written, within, leaves}
-use Rattle.varint.specs.Promise.{count, Writes}
-use Rattle.varint.specs.Writing.{lt-or-le}
+use Rattle.answer.specs.declared.Written.{Written}
+use Rattle.answer.specs.declared.Written.the-variants as w
+use Rattle.answer.specs.Answer.{Answer, done, refused, written, within, leaves}
+use Rattle.answer.specs.Writes.{count, Writes}
+use Rattle.answer.proofs.Cases.{lt-or-le}
 
 -- Of `bytes`, which old has room for, the first `at` are written, which makes out of old, and rest is left to write.
 pub record Partly (bytes old : List ℕ) (at : ℕ) (rest out : List ℕ) : Type 0 where

@@ -3,7 +3,7 @@ use mathlib.Core.Path.{_≡_, sym, ap, _∙_}
 use mathlib.Core.List.{List}
 use Prim.Native.Nat.{ℕ}
 use native.Mathlib.Omega.{arith}
-use Rattle.varint.specs.Unique.{refusal-same}
+use Rattle.answer.proofs.Same.{refusal-same}
 use Rattle.hello.specs.declared.Size.{Size}
 use Rattle.hello.specs.declared.Size.the-variants as z
 use Rattle.hello.specs.declared.Version as v

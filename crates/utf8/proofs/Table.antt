@@ -7,7 +7,7 @@ use lib.ListN.{length, drop, getD, List·getD-map}
 use lib.Seq.{drop-cons}
 use Rattle.utf8.specs.declared.Row as r
 use Rattle.utf8.specs.Text.{_to_, Row, row, rows}
-use Rattle.utf8.specs.Promise.{asRow}
+use Rattle.utf8.specs.Inner.{asRow}
 
 -- a row of the definition, as the code has it
 abbrev pub inCode : Row → r.Row

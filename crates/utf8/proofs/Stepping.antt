@@ -10,13 +10,14 @@ use lib.Dec.{leb, eqb, T}
 use lib.ListN.{length, take, drop, getD, drop-of-length-le}
 use lib.Seq.{drop-cons, drop-drop}
 use borrow.Author.Tests.{le-leb, lt-leb, eq-eqb, ne-eqb, eqb-true, leb-true}
-use Rattle.utf8.specs.Leading.{unused, led, rowFor, stepFor}
+use Rattle.answer.proofs.Cases.{bool-cases}
+use Rattle.utf8.specs.Inner.{Led, unused, led, rowFor}
 use Rattle.utf8.specs.Text.{Range, _to_, Row, row, rows, follow, places, starts, inside, front, Step, ends, char, mark, taken, stepIn, step, size, replacement}
 
--- a Bool is one of the two
-pub bool-cases : {G : Type 0} (t : Bool) → (t ≡ true → G) → (t ≡ false → G) → G
-bool-cases true f g = f refl
-bool-cases false f g = g refl
+-- the step that it leads to
+abbrev pub stepFor : Led → List ℕ → Step
+stepFor unused s = mark 1
+stepFor (led (row lead second bytes)) s = taken (suc (bytes - 1)) (suc (front (follow (bytes - 1) second) (drop 1 s)))
 
 -- ---- a byte and its range
 

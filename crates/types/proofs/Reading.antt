@@ -10,24 +10,12 @@ use lib.Dec.{ltb, eqb}
 use lib.Seq.{drop-cons}
 use lib.ListN.{length, take, drop, getD, length-append, drop-of-length-le, List·getD-eq-default}
 use borrow.Author.Tests.{lt-ltb, le-ltb, le-leb, lt-leb, eq-eqb, eqb-true, ltb-true}
-use Rattle.varint.specs.Answer.{Answer, done, refused}
+use Rattle.answer.specs.Answer.{Answer, done, refused, next, behind}
 use Rattle.varint.specs.Number.{worth, more, number}
-use Rattle.varint.specs.Writing.{lt-or-le}
-use Rattle.varint.specs.Output.{lent-tail}
-use Rattle.varint.specs.Reading.{more-none, more-eleventh, more-over, more-last, more-on, number-none, number-one, number-more, accepted, kept as number-kept, accepted-kept}
-use Rattle.types.specs.Value.{next, behind, Span, span, string, Shape, nothing, flag, integer, address, text, reserved, Width, signed32, unsigned32, whole64, shapes, shape, Record, value, points, moved, signExtended, kept, spanned, content, typed, inWidth, inFields}
-
--- an answer is a success or a refusal
-pub answer-cases : {A G : Type 0} (a : Answer A)
-    → ((v : A) (used : ℕ) → a ≡ done v used → G)
-    → ((number place : ℕ) → a ≡ refused number place → G)
-    → G
-answer-cases (done v used) f g = f v used refl
-answer-cases (refused number place) f g = g number place refl
-
--- and not both
-pub not-both : {A G : Type 0} {a : Answer A} {v : A} {used number place : ℕ} → a ≡ done v used → a ≡ refused number place → G
-not-both p q = let z : _≡_ {A = ℕ} 0 1 = cc in absurd (omega arith)
+use Rattle.answer.proofs.Cases.{lt-or-le, answer-cases, not-both}
+use Rattle.answer.proofs.Output.{lent-tail}
+use Rattle.varint.proofs.Reading.{more-none, more-eleventh, more-over, more-last, more-on, number-none, number-one, number-more, accepted, kept as number-kept, accepted-kept}
+use Rattle.types.specs.Value.{Span, span, string, Shape, nothing, flag, integer, address, text, reserved, Width, signed32, unsigned32, whole64, shapes, shape, Record, value, points, moved, signExtended, kept, spanned, content, typed, inWidth, inFields}
 
 -- any answer but 3, which bytes appended may change
 abbrev pub Stands : {A : Type 0} → Answer A → Type 0

@@ -10,12 +10,10 @@ use lib.ListN.{length, take, drop, getD}
 use lib.Seq.{drop-cons, take-add, take-suc}
 use borrow.Author.Tests.{ltb-true, lt-ltb}
 use Rattle.utf8.specs.Text.{isUtf8}
-use Rattle.utf8.specs.Stepping.{bool-cases, step-ascii}
-use Rattle.utf8.specs.Lossy.{not-both, isUtf8-none, isUtf8-char}
-
-unfoldable pub ascii : List ℕ → Bool
-ascii [] = true
-ascii (b ∷ s) = ltb b 128 && ascii s
+use Rattle.utf8.specs.Inner.{ascii, AsciiTo}
+use Rattle.answer.proofs.Cases.{bool-cases, true-false}
+use Rattle.utf8.proofs.Stepping.{step-ascii}
+use Rattle.utf8.proofs.Lossy.{isUtf8-none, isUtf8-char}
 
 pub ascii-well : (s : List ℕ) → ascii s ≡ true → isUtf8 s ≡ true
 unfolding ascii
@@ -23,7 +21,7 @@ ascii-well [] e = isUtf8-none
 ascii-well (b ∷ s) e =
     bool-cases (ltb b 128)
     (λ q. isUtf8-char (b ∷ s) 1 (step-ascii b s (ltb-true b 128 q)) ∙ ascii-well s (simp q at e))
-    (λ q. let f = simp q at e in not-both f refl)
+    (λ q. let f = simp q at e in true-false f refl)
 
 -- ---- eight at once
 
@@ -45,18 +43,13 @@ ascii-four s h = simp (ascii-next s 3 0 (omega arith), ascii-next s 2 1 (omega a
 
 -- ---- as far as it goes
 
--- the first n bytes are there and are ASCII
-pub record AsciiTo (s : List ℕ) (n : ℕ) : Type 0 where
-  pub there : n ≤ length s
-  pub are : ascii (take n s) ≡ true
-
 ascii-both : (s t : List ℕ) → ascii s ≡ true → ascii t ≡ true → ascii (s ++ t) ≡ true
 unfolding ascii
 ascii-both [] t p q = q
 ascii-both (b ∷ s) t p q =
     bool-cases (ltb b 128)
     (λ e. simp e (ascii-both s t (simp e at p) q))
-    (λ e. let f = simp e at p in not-both f refl)
+    (λ e. let f = simp e at p in true-false f refl)
 
 pub ascii-to-none : (s : List ℕ) → AsciiTo s 0
 ascii-to-none s = record { there = zero-le; are = ascii-none }
@@ -90,7 +83,7 @@ ascii-front [] t p = refl
 ascii-front (b ∷ s) t p =
     bool-cases (ltb b 128)
     (λ e. simp e (ascii-front s t (simp e at p)))
-    (λ e. let f = simp e at p in not-both f refl)
+    (λ e. let f = simp e at p in true-false f refl)
 
 ascii-less : (s : List ℕ) (n from : ℕ) → AsciiTo s n → from ≤ n → ascii (take from s) ≡ true
 ascii-less s n from a h =
@@ -111,10 +104,10 @@ ascii-to-end s n from k a h e are =
 
 -- two tests that both hold
 pub both-first : (p q : Bool) → p && q ≡ true → p ≡ true
-both-first p q e = bool-cases p (λ t. t) (λ t. let f = simp t at e in not-both f refl)
+both-first p q e = bool-cases p (λ t. t) (λ t. let f = simp t at e in true-false f refl)
 
 pub both-second : (p q : Bool) → p && q ≡ true → q ≡ true
-both-second p q e = bool-cases p (λ t. simp t at e) (λ t. let f = simp t at e in not-both f refl)
+both-second p q e = bool-cases p (λ t. simp t at e) (λ t. let f = simp t at e in true-false f refl)
 
 -- so are few bytes whose first four and last four are
 pub ascii-few : (s : List ℕ) (from : ℕ) → from ≤ 4 → from + 4 ≡ length s → ascii (take 4 s) ≡ true → ascii (take 4 (drop from s)) ≡ true → AsciiTo s (length s)

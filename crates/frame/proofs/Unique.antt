@@ -3,10 +3,10 @@ use mathlib.Core.Path.{_≡_, sym, _∙_}
 use mathlib.Core.List.{List, _++_}
 use Prim.Native.Nat.{ℕ}
 use lib.ListN.{length}
-use Rattle.varint.specs.declared.Written.{Written}
-use Rattle.varint.specs.Answer.{written, within}
-use Rattle.varint.specs.Promise.{Writes}
-use Rattle.varint.specs.Unique.{writes-unique}
+use Rattle.answer.specs.declared.Written.{Written}
+use Rattle.answer.specs.Answer.{written, within}
+use Rattle.answer.specs.Writes.{Writes}
+use Rattle.answer.proofs.Same.{writes-unique}
 use Rattle.frame.specs.declared.Head.{Head}
 use Rattle.frame.specs.Head.{fourBytes, headBytes}
 

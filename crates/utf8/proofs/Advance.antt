@@ -7,19 +7,13 @@ use native.Mathlib.Omega.{arith}
 use mathlib.Core.Logic.{⊎-elim}
 use lib.Dec.{leb}
 use borrow.Author.Tests.{le-leb, lt-leb}
-use Rattle.varint.specs.Writing.{lt-or-le}
+use Rattle.answer.proofs.Cases.{lt-or-le}
 use lib.ListN.{length, take, drop, length-append, length-drop, take-append-drop}
 use lib.Seq.{drop-drop, length-take-le}
 use Rattle.utf8.specs.Text.{Step, ends, char, mark, step, size, whole, becomes, isUtf8, lossy}
-use Rattle.utf8.specs.Stepping.{Bounded, step-bounds}
-use Rattle.utf8.specs.Lossy.{lossy-none, lossy-on, isUtf8-on, lossy-front, isUtf8-front}
-
--- As a step does, x takes some bytes off the front of s, and says what they become.
-pub record Advances (s : List ℕ) (x : Step) : Type 0 where
-  pub text : lossy s ≡ becomes x s ++ lossy (drop (size x) s)
-  pub well : isUtf8 s ≡ whole x && isUtf8 (drop (size x) s)
-  pub there : size x ≤ length s
-  pub moves : 1 ≤ length s → 1 ≤ size x
+use Rattle.utf8.specs.Inner.{Advances, textSize}
+use Rattle.utf8.proofs.Stepping.{Bounded, step-bounds}
+use Rattle.utf8.proofs.Lossy.{lossy-none, lossy-on, isUtf8-on, lossy-front, isUtf8-front}
 
 -- a step does
 pub step-advances : (s : List ℕ) → Advances s (step s)
@@ -38,12 +32,6 @@ text-advances s n some there e = record {
   there = there;
   moves = λ h. some;
 }
-
--- how many bytes it becomes
-abbrev pub textSize : Step → ℕ
-textSize ends = 0
-textSize (char n) = n
-textSize (mark n) = 3
 
 pub becomes-length : (s : List ℕ) (x : Step) → size x ≤ length s → length (becomes x s) ≡ textSize x
 becomes-length s ends h = refl

@@ -1,0 +1,6 @@
+-- Laws that every layer cites: how tests and answers are taken apart, what is written at the front of lent bytes or in parts, and that no second
+-- result meets a writer's promise.
+pub mod Cases
+pub mod Output
+pub mod Parts
+pub mod Same

@@ -1,0 +1,3 @@
+-- Laws about the negotiations, and that no second result meets a promise.
+pub mod Laws
+pub mod Unique

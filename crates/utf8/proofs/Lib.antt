@@ -1,0 +1,9 @@
+-- Laws about text: its steps, lossy text, ASCII, texts that are the same, and what each walk over a text needs.
+pub mod Table
+pub mod Stepping
+pub mod Lossy
+pub mod Ascii
+pub mod Same
+pub mod Advance
+pub mod Walk
+pub mod Unique

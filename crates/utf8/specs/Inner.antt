@@ -1,0 +1,80 @@
+-- What only private contracts cite: the code's own types in the definitions' terms, and what its shorter ways over a text are to come to.
+-- No public promise rests on anything in this file.
+use mathlib.Core.Path.{_≡_}
+use mathlib.Core.Bool.{Bool, true, false, cond, _&&_}
+use mathlib.Core.List.{List, [], _∷_, _++_}
+use Prim.Native.Nat.{ℕ, _≤_}
+use lib.Dec.{ltb}
+use lib.ListN.{length, take, drop}
+use Rattle.utf8.specs.declared.Range as g
+use Rattle.utf8.specs.declared.Row as r
+use Rattle.utf8.specs.declared.Step as t
+use Rattle.utf8.specs.declared.Step.the-variants as s
+use Rattle.utf8.specs.declared.Lead as l
+use Rattle.utf8.specs.declared.Lead.the-variants as v
+use Rattle.utf8.specs.declared.Both as b
+use Rattle.utf8.specs.declared.Both.the-variants as o
+use Rattle.utf8.specs.Text.{Range, _to_, Row, row, inside, Step, ends, char, mark, size, whole, becomes, isUtf8, lossy, sameText}
+
+-- a range and a row of the code's table
+abbrev pub asRange : g.Range → Range
+asRange x = x .low to x .high
+
+abbrev pub asRow : r.Row → Row
+asRow x = row (asRange (x .lead)) (asRange (x .second)) (x .bytes)
+
+-- what the code saw at the front of some bytes
+abbrev pub seen : t.Step → Step
+seen s.End = ends
+seen (s.Char n) = char n
+seen (s.Mark n) = mark n
+
+-- ---- the row of a first byte
+
+pub data Led : Type 0 where
+  unused : Led
+  led : Row → Led
+
+-- the first row whose range has the byte
+unfoldable pub rowFor : List Row → ℕ → Led
+rowFor [] b = unused
+rowFor (row lead second bytes ∷ rs) b = cond (inside lead b) (led (row lead second bytes)) (rowFor rs b)
+
+-- the row that the code found for a first byte
+abbrev pub ledBy : l.Lead → Led
+ledBy v.Unused = unused
+ledBy (v.In x) = led (asRow x)
+
+-- ---- ASCII
+
+unfoldable pub ascii : List ℕ → Bool
+ascii [] = true
+ascii (b ∷ s) = ltb b 128 && ascii s
+
+-- the first n bytes are there and are ASCII
+pub record AsciiTo (s : List ℕ) (n : ℕ) : Type 0 where
+  pub there : n ≤ length s
+  pub are : ascii (take n s) ≡ true
+
+-- ---- several bytes at once
+
+-- As a step does, x takes some bytes off the front of s, and says what they become.
+pub record Advances (s : List ℕ) (x : Step) : Type 0 where
+  pub text : lossy s ≡ becomes x s ++ lossy (drop (size x) s)
+  pub well : isUtf8 s ≡ whole x && isUtf8 (drop (size x) s)
+  pub there : size x ≤ length s
+  pub moves : 1 ≤ length s → 1 ≤ size x
+
+-- how many bytes it becomes
+abbrev pub textSize : Step → ℕ
+textSize ends = 0
+textSize (char n) = n
+textSize (mark n) = 3
+
+-- ---- two texts
+
+-- The texts differ; or they start in the same way, with m bytes of the first and n of the second, and are the same exactly
+-- where what is left of them is.
+abbrev pub Walks : List ℕ → List ℕ → b.Both → Type 0
+Walks s t o.Apart = sameText s t ≡ false
+Walks s t (o.On m n) = (sameText s t ≡ sameText (drop m s) (drop n t)) × (m ≤ length s) × (n ≤ length t) × (1 ≤ length s → 1 ≤ m)
