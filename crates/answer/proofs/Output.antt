@@ -12,7 +12,7 @@ use borrow.Author.Tests.{le-leb, lt-leb}
 use Rattle.answer.specs.declared.Written.{Written}
 use Rattle.answer.specs.declared.Written.the-variants as w
 use Rattle.answer.specs.Answer.{Answer, done, refused, written, within, leaves}
-use Rattle.answer.specs.Writes.{count, Writes}
+use Rattle.answer.specs.Writes.{said, Writes}
 use Rattle.answer.proofs.Cases.{lt-or-le}
 
 -- Of `bytes`, which old has room for, the first `at` are written, which makes out of old, and rest is left to write.
@@ -138,9 +138,9 @@ pub writes-done : (bytes : List ℕ) {old new : List ℕ} {r : Written} {n : ℕ
     → (n ≡ length bytes) × (n ≤ length new) × (take n new ≡ bytes)
 writes-done bytes {old} {new} {r} {n} p is =
     ⊎-elim
-    (λ h. let none = sym (ap count is) ∙ simp (lt-leb (length bytes) (length old) h) at (p .says) in let z : _≡_ {A = ℕ} 0 1 = cc none in absurd (omega arith))
+    (λ h. let none = sym (ap said is) ∙ simp (lt-leb (length bytes) (length old) h) at (p .says) in let z : _≡_ {A = ℕ} 0 1 = cc none in absurd (omega arith))
     (λ h.
-    let all = sym (ap count is) ∙ simp (le-leb (length bytes) (length old) h) at (p .says) in
+    let all = sym (ap said is) ∙ simp (le-leb (length bytes) (length old) h) at (p .says) in
     let e = simp (le-leb (length bytes) (length old) h) at (p .holds) in
     let m : n ≡ length bytes = cc all in (
       m,

@@ -13,27 +13,34 @@ use Rattle.answer.specs.declared.Refusal.{Refusal}
 use Rattle.answer.specs.declared.Written.{Written}
 use Rattle.answer.specs.declared.Written.the-variants as w
 use Rattle.answer.specs.Answer.{done, refused, written, within, leaves}
-use Rattle.answer.specs.Writes.{count, Writes}
+use Rattle.answer.specs.Writes.{said, counted, Writes}
 use Rattle.answer.proofs.Output.{Partly, partly-next, partly-place, partly-length, lent-tail, leaves-length, leaves-tail}
 
 -- ---- one writer
 
 -- where there is room, all is written
 module _ (bytes : List ℕ) {old new : List ℕ} {r : Written} (p : Writes (within (length old) (written bytes)) r old new) (room : length bytes ≤ length old) where
-  pub room-count : count r ≡ done tt (length bytes)
+  pub room-count : said r ≡ done tt (length bytes)
   room-count = simp (le-leb (length bytes) (length old) room) at (p .says)
 
   pub room-leaves : new ≡ leaves (written bytes) old
   room-leaves = simp (le-leb (length bytes) (length old) room) at (p .holds)
 
   pub room-done : (n : ℕ) → r ≡ w.Done n → n ≡ length bytes
-  room-done n is = let e : done tt n ≡ done tt (length bytes) = sym (ap count is) ∙ room-count in cc
+  room-done n is = let e : done tt n ≡ done tt (length bytes) = sym (ap said is) ∙ room-count in cc
 
   pub room-refused : {G : Type 0} (x : Refusal) → r ≡ w.Refused x → G
   room-refused x is =
-      let e : refused (x .number) (x .place) ≡ done tt (length bytes) = sym (ap count is) ∙ room-count in
+      let e : refused (x .number) (x .place) ≡ done tt (length bytes) = sym (ap said is) ∙ room-count in
       let z : _≡_ {A = ℕ} 0 1 = cc in
       absurd (omega arith)
+
+  pub room-counted : counted r ≡ length bytes
+  room-counted = by-answer r refl
+    where
+      by-answer : (x : Written) → r ≡ x → counted x ≡ length bytes
+      by-answer (w.Done n) is = room-done n is
+      by-answer (w.Refused x) is = room-refused x is
 
 -- ---- two parts
 

@@ -7,11 +7,20 @@ use Rattle.answer.specs.declared.Written.the-variants as w
 use Rattle.answer.specs.Answer.{Answer, done, refused, tells, leaves}
 
 -- what a writer's answer says
-abbrev pub count : Written → Answer Unit
-count (w.Done n) = done tt n
-count (w.Refused r) = refused (r .number) (r .place)
+abbrev pub said : Written → Answer Unit
+said (w.Done n) = done tt n
+said (w.Refused r) = refused (r .number) (r .place)
 
 -- A writer that is to give the answer a: it says so, and the bytes lent to it, old before, are new afterwards.
 pub record Writes (a : Answer (List ℕ)) (r : Written) (old new : List ℕ) : Type 0 where
-  pub says : count r ≡ tells a
+  pub says : said r ≡ tells a
   pub holds : new ≡ leaves a old
+
+-- how many bytes were written: none after a refusal
+abbrev pub counted : Written → ℕ
+counted (w.Done n) = n
+counted (w.Refused r) = 0
+
+-- `wrote` promises that.
+abbrev pub Wrote : Written → ℕ → Type 0
+Wrote answer r = r ≡ counted answer

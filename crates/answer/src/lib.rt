@@ -1,6 +1,7 @@
 // What every layer's answers share: a refusal's number and place, and what a writer answers.
 //
 // docs/RULES.md says of each number when it is given and what its place counts.
+ghost use Rattle.answer.specs.Writes.{Wrote};
 
 // The frame is not whole yet, with the bytes that are missing.
 pub const WAIT: u64 = 1;
@@ -47,4 +48,14 @@ pub struct Refusal {
 pub enum Written {
     Done(usize),
     Refused(Refusal),
+}
+
+// How many bytes a writer wrote: none after a refusal.
+pub fn wrote(answer: Written) -> usize
+    ensures { λ r. ⌜ Wrote answer r ⌝ }
+{
+    match answer {
+        Written::Done(n) => n,
+        Written::Refused(_) => 0,
+    }
 }

@@ -4,12 +4,12 @@
 // code is run on them: a line for each, which ends in "as marked" where the answer is the paper's.
 ghost use Prim.Native.Nat.{_≤_};
 ghost use lib.ListN.{length};
+use answer::Refusal;
+use answer::Written;
 use hello::Size;
 use libc::STDOUT_FILENO;
 use types::Typed;
 use varint::Number;
-use answer::Refusal;
-use answer::Written;
 
 // What F0 and eight 80 add up to: 240+2^11+2^18+2^25+2^32+2^39+2^46+2^53+2^60.
 const EIGHT_80: u64 = 1_161_999_626_690_365_680;

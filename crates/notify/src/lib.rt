@@ -2,13 +2,13 @@
 //
 // The messages are checked first, then the pairs that are their arguments, then all is measured, and then written. The call has no
 // `requires`: it does its own refusing, and a refusal changes no byte.
-use frame::Head;
-use types::Value;
 use answer::NOT_WRITABLE;
 use answer::OUTSIDE;
 use answer::Refusal;
 use answer::TOO_MANY;
 use answer::Written;
+use frame::Head;
+use types::Value;
 use writer::Pair;
 ghost use mathlib.Core.Path.{_≡_};
 ghost use mathlib.Core.List.{[], _∷_, _++_};

@@ -5,13 +5,13 @@
 // empty one as `-`. oracle/README.md says what each letter stands for.
 ghost use Prim.Native.Nat.{_≤_, _<_};
 ghost use lib.ListN.{length};
+use answer::Written;
 use hello::Chosen;
 use hello::Size;
 use libc::STDOUT_FILENO;
 use types::Typed;
 use types::Value;
 use varint::Number;
-use answer::Written;
 
 // What a line turned out to be.
 enum Verdict {

@@ -5,7 +5,7 @@ use mathlib.Core.List.{List, [], _∷_}
 use Prim.Native.Nat.{ℕ}
 use Rattle.answer.specs.declared.Written.{Written}
 use Rattle.answer.specs.Answer.{Answer, done, refused, tells}
-use Rattle.answer.specs.Writes.{count, Writes}
+use Rattle.answer.specs.Writes.{said, Writes}
 use Rattle.hello.specs.Hello.{Choice, version, none}
 
 module _ {A : Type 0} where
@@ -51,7 +51,7 @@ at-tells : (a : Answer (List ℕ)) → atOf (tells a) ≡ atOf a
 at-tells (done value n) = refl
 at-tells (refused number place) = refl
 
-pub told-writes : {a : Answer (List ℕ)} {w : Written} {old new : List ℕ} {r at : ℕ} → Writes a w old new → Told (count w) r at → Told a r at
+pub told-writes : {a : Answer (List ℕ)} {w : Written} {old new : List ℕ} {r at : ℕ} → Writes a w old new → Told (said w) r at → Told a r at
 told-writes {a} p t =
     record {
       says = t .says ∙ ap numberOf (p .says) ∙ number-tells a;

@@ -7,7 +7,7 @@ ghost use mathlib.Core.Path.{_≡_};
 ghost use lib.ListN.{length};
 ghost use Rattle.answer.specs.Answer.{written, within, leaves};
 ghost use Rattle.varint.specs.Number.{number, numberBytes};
-ghost use Rattle.answer.specs.Writes.{count};
+ghost use Rattle.answer.specs.Writes.{said};
 ghost use Rattle.varint.specs.Promise.{numberRead};
 ghost use Rattle.utf8.specs.Text.{isUtf8, lossy, sameText};
 ghost use Rattle.writer.specs.Frame.{headOf, kvAnswer, actionsAnswer};
@@ -19,13 +19,13 @@ ghost use Rattle.types.specs.Check.{refusal};
 ghost use Rattle.types.specs.Promise.{recordOf};
 ghost use Rattle.spop.specs.Told.{Told, valueOf, chosenOf};
 ghost use Rattle.spop.specs.Values.{recordIn, numbersOf};
+use answer::Refusal;
+use answer::Written;
 use hello::Chosen;
 use hello::Size;
 use types::Typed;
 use types::Value;
 use varint::Number;
-use answer::Refusal;
-use answer::Written;
 
 const DONE: u64 = 0;
 
@@ -262,7 +262,7 @@ pub extern "C" fn spop_negotiate_version(versions: &[u64], version: &mut [u64; 3
 
 // What any writer answered.
 fn tell(answer: Written, at: &mut u64) -> u64
-    ensures { λ r. ⌜ Told (count answer) r (now (at .exit)) ⌝ }
+    ensures { λ r. ⌜ Told (said answer) r (now (at .exit)) ⌝ }
 {
     match answer {
         Written::Done(count) => {

@@ -1,15 +1,15 @@
 // Strings and typed data (SPOE.txt, section 3.1): one value on its own, read and written.
 //
 // No public call has a `requires`: each does its own refusing, and a refusal changes no byte.
-use answer::NOT_TEXT;
-use answer::NOT_WRITABLE;
 use answer::NO_ROOM;
 use answer::NO_TYPE;
+use answer::NOT_TEXT;
+use answer::NOT_WRITABLE;
 use answer::OUTSIDE;
-use varint::Number;
 use answer::Refusal;
 use answer::TOO_SOON;
 use answer::Written;
+use varint::Number;
 ghost use mathlib.Core.Path.{_≡_};
 ghost use mathlib.Core.Bool.{true};
 ghost use mathlib.Core.List.{List};

@@ -13,7 +13,7 @@ use Rattle.answer.proofs.Same.{refusal-same, writes-unique}
 use Rattle.answer.specs.Answer.{Answer, done, refused, within, written}
 use Rattle.varint.specs.Number.{number, numberBytes}
 use Rattle.varint.specs.Promise.{numberRead}
-use Rattle.answer.specs.Writes.{count, Writes}
+use Rattle.answer.specs.Writes.{Writes}
 
 -- answers that say the same are the same
 pub numberRead-same : (a b : Number) → numberRead a ≡ numberRead b → a ≡ b

@@ -2,15 +2,15 @@
 //
 // Every writer checks and measures all records before it writes the first byte. No public call has a `requires`: each does its own
 // refusing, and a refusal changes no byte.
-use frame::Head;
-use types::Value;
 use answer::MET_TWICE;
-use answer::NOT_WRITABLE;
 use answer::NO_ROOM;
+use answer::NOT_WRITABLE;
 use answer::OUTSIDE;
 use answer::OVER_LIMIT;
 use answer::Refusal;
 use answer::Written;
+use frame::Head;
+use types::Value;
 ghost use mathlib.Core.Path.{_≡_};
 ghost use mathlib.Core.Bool.{true};
 ghost use mathlib.Core.List.{[], _∷_};

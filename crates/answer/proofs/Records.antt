@@ -1,0 +1,99 @@
+-- Laws about the records of a table: how the definitions unroll, one record at a time, as the loops go.
+use mathlib.Core.Path.{_≡_, refl, sym, ap, _∙_}
+use mathlib.Core.Bool.{Bool, true, false}
+use mathlib.Core.List.{List, [], _∷_, _++_, append-assoc}
+use Prim.Native.Nat.{ℕ, zero, suc, _+_, _-_, _≤_, _<_}
+use native.Mathlib.Numerals.{add-one}
+use native.Mathlib.Omega.{arith}
+use lib.ListN.{length}
+use Rattle.answer.specs.Table.{records, joined, some}
+
+-- ---- records
+
+module _ {A : Type 0} (at : ℕ → A) where
+  pub records-none : (first : ℕ) → records at first 0 ≡ []
+  unfolding records
+  records-none first = refl
+
+  -- so many records and so many more
+  pub records-both : (n first k : ℕ) → records at first (n + k) ≡ records at first n ++ records at (first + n) k
+  unfolding records
+  records-both zero first k =
+      let none : 0 + k ≡ k = omega arith in
+      let here : first ≡ first + 0 = omega arith in
+      ap (records at first) none ∙ ap (λ (m : ℕ). records at m k) here
+  records-both (suc n) first k =
+      let more : suc n + k ≡ suc (n + k) = omega arith in
+      let on : suc first + n ≡ first + suc n = omega arith in
+      ap (records at first) more
+      ∙ ap (λ (l : List A). at first ∷ l) (records-both n (suc first) k ∙ ap (λ (m : ℕ). records at (suc first) n ++ records at m k) on)
+
+  -- what is left behind the first i of a run
+  pub records-on : (first count i : ℕ) → i < count
+      → records at (first + i) (count - i) ≡ at (first + i) ∷ records at (first + (i + 1)) (count - (i + 1))
+  unfolding records
+  records-on first count i h =
+      let one : count - i ≡ suc (count - (i + 1)) = omega arith in
+      let next : suc (first + i) ≡ first + (i + 1) = omega arith in
+      ap (records at (first + i)) one ∙ ap (λ (k : ℕ). at (first + i) ∷ records at k (count - (i + 1))) next
+
+  pub records-end : (first count i : ℕ) → count ≤ i → records at (first + i) (count - i) ≡ []
+  records-end first count i h = let none : count - i ≡ 0 = omega arith in ap (records at (first + i)) none ∙ records-none (first + i)
+
+  pub records-start : (first count : ℕ) → records at (first + 0) (count - 0) ≡ records at first count
+  records-start first count =
+      let none : count - 0 ≡ count = omega arith in
+      let here : first + 0 ≡ first = omega arith in
+      ap (records at (first + 0)) none ∙ ap (λ (k : ℕ). records at k count) here
+
+  -- one record more
+  pub records-snoc : (first i : ℕ) → records at first (i + 1) ≡ records at first i ++ (at (first + i) ∷ [])
+  unfolding records
+  records-snoc first i = records-both i first 1
+
+-- ---- one after the other
+
+module _ {A : Type 0} (bytes : A → List ℕ) where
+  pub joined-none : joined bytes [] ≡ []
+  unfolding joined
+  joined-none = refl
+
+  pub joined-on : (x : A) (xs : List A) → joined bytes (x ∷ xs) ≡ bytes x ++ joined bytes xs
+  unfolding joined
+  joined-on x xs = refl
+
+  -- Law: the written form of two lists is that of the first, and then that of the second.
+  pub joined-both : (xs ys : List A) → joined bytes (xs ++ ys) ≡ joined bytes xs ++ joined bytes ys
+  unfolding joined
+  joined-both [] ys = refl
+  joined-both (x ∷ xs) ys = ap (λ (l : List ℕ). bytes x ++ l) (joined-both xs ys) ∙ sym (append-assoc (bytes x) (joined bytes xs) (joined bytes ys))
+
+-- Law: a record's bytes stand right behind those of the records before it, in order.
+pub payload-at : {A : Type 0} (bytes : A → List ℕ) (at : ℕ → A) (count i : ℕ) → i < count
+    → joined bytes (records at 0 count) ≡ joined bytes (records at 0 i) ++ (bytes (at i) ++ joined bytes (records at (i + 1) (count - (i + 1))))
+payload-at {A = A} bytes at count i h =
+    let whole : count ≡ i + (count - i) = omega arith in
+    let here : 0 + i ≡ i = omega arith in
+    let next : 0 + (i + 1) ≡ i + 1 = omega arith in
+    ap (λ (m : ℕ). joined bytes (records at 0 m)) whole
+    ∙ ap (joined bytes) (records-both at i 0 (count - i))
+    ∙ joined-both bytes (records at 0 i) (records at (0 + i) (count - i))
+    ∙ ap (λ (l : List A). joined bytes (records at 0 i) ++ joined bytes l) (records-on at 0 count i h)
+    ∙ ap (λ (l : List ℕ). joined bytes (records at 0 i) ++ l) (joined-on bytes (at (0 + i)) (records at (0 + (i + 1)) (count - (i + 1))))
+    ∙ ap (λ (m : ℕ). joined bytes (records at 0 i) ++ (bytes (at m) ++ joined bytes (records at (0 + (i + 1)) (count - (i + 1))))) here
+    ∙ ap (λ (m : ℕ). joined bytes (records at 0 i) ++ (bytes (at i) ++ joined bytes (records at m (count - (i + 1))))) next
+
+-- ---- some
+
+module _ {A : Type 0} (test : A → Bool) where
+  pub some-none : some test [] ≡ false
+  unfolding some
+  some-none = refl
+
+  pub some-here : (x : A) (xs : List A) → test x ≡ true → some test (x ∷ xs) ≡ true
+  unfolding some
+  some-here x xs e = rw e
+
+  pub some-later : (x : A) (xs : List A) → test x ≡ false → some test (x ∷ xs) ≡ some test xs
+  unfolding some
+  some-later x xs e = rw e
