@@ -14,7 +14,7 @@ ghost use Rattle.writer.specs.Frame.{headOf, kvAnswer, actionsAnswer};
 ghost use Rattle.notify.specs.Notify.{notifyAnswer};
 ghost use Rattle.hello.specs.Hello.{frameSize, announced, choice};
 ghost use Rattle.types.specs.Value.{typed};
-ghost use Rattle.types.specs.Form.{form, size};
+ghost use Rattle.types.specs.Form.{valueAnswer, lengthOf};
 ghost use Rattle.types.specs.Check.{refusal};
 ghost use Rattle.types.specs.Promise.{recordOf};
 ghost use Rattle.spop.specs.Told.{Told, valueOf, chosenOf};
@@ -100,7 +100,7 @@ pub extern "C" fn spop_typed_data(input: &[u8], value: &mut [u64; 3], at: &mut u
 
 #[no_mangle]
 pub extern "C" fn spop_value_len(value: &[u64; 3], buffer: &[u8]) -> u64
-    ensures { λ r. ⌜ r ≡ size (form (now (buffer .entry)) (recordIn (now (value .entry)))) ⌝ }
+    ensures { λ r. ⌜ r ≡ lengthOf (valueAnswer (now (buffer .entry)) (recordIn (now (value .entry)))) ⌝ }
 {
     types::value_len(value_of(value), buffer) as u64
 }
@@ -119,8 +119,8 @@ pub extern "C" fn spop_write_value(
     out: &mut [u8],
     at: &mut u64,
 ) -> u64
-    ensures { λ r. ⌜ Told (within (length (now (out .entry))) (form (now (buffer .entry)) (recordIn (now (value .entry))))) r (now (at .exit)) ⌝ }
-    ensures { λ r. ⌜ now (out .exit) ≡ leaves (within (length (now (out .entry))) (form (now (buffer .entry)) (recordIn (now (value .entry))))) (now (out .entry)) ⌝ }
+    ensures { λ r. ⌜ Told (within (length (now (out .entry))) (valueAnswer (now (buffer .entry)) (recordIn (now (value .entry))))) r (now (at .exit)) ⌝ }
+    ensures { λ r. ⌜ now (out .exit) ≡ leaves (within (length (now (out .entry))) (valueAnswer (now (buffer .entry)) (recordIn (now (value .entry))))) (now (out .entry)) ⌝ }
 {
     let answer = types::write_value(value_of(value), buffer, out);
     tell(answer, at)

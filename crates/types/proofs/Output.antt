@@ -11,7 +11,7 @@ use Rattle.answer.specs.Answer.{Answer, done, refused, written, within, tells, 
 use Rattle.answer.proofs.Cases.{lt-or-le}
 use Rattle.answer.proofs.Output.{Partly, partly-none, partly-all, leaves-length, leaves-byte}
 use Rattle.answer.proofs.Parts.{both-start, both-room, both-count, both-leaves, copy-place, copy-next, copy-all}
-use Rattle.types.specs.Form.{size}
+use Rattle.types.specs.Form.{lengthOf}
 use Rattle.types.specs.Inner.{Puts}
 
 -- what has no written form is not written
@@ -28,12 +28,12 @@ module _ {a : Answer (List ℕ)} (bytes old : List ℕ) (is : a ≡ written byte
   puts-whole new n h count e = rw is (simp (le-leb (length bytes) (length old) h) (record { counts = count; holds = e }))
 
 -- a count that is not 0 is told as it is
-pub told : (a : Answer (List ℕ)) (n : ℕ) → n ≡ size a → (n ≡ 0 → ⊥) → done tt n ≡ tells a
+pub told : (a : Answer (List ℕ)) (n : ℕ) → n ≡ lengthOf a → (n ≡ 0 → ⊥) → done tt n ≡ tells a
 told (done bytes m) n e some = ap (done tt) e
 told (refused number place) n e some = absurd (some e)
 
 -- a form that is not empty and has no count finds no room
-pub told-short : {a : Answer (List ℕ)} (bytes : List ℕ) (room : ℕ) → a ≡ written bytes → 1 ≤ length bytes → size (within room a) ≡ 0
+pub told-short : {a : Answer (List ℕ)} (bytes : List ℕ) (room : ℕ) → a ≡ written bytes → 1 ≤ length bytes → lengthOf (within room a) ≡ 0
     → tells (within room a) ≡ refused 11 0
 told-short {a} bytes room is some none =
     ⊎-elim

@@ -15,7 +15,7 @@ use Rattle.varint.specs.Number.{worth, more, number}
 use Rattle.answer.proofs.Cases.{lt-or-le, answer-cases, not-both}
 use Rattle.answer.proofs.Output.{lent-tail}
 use Rattle.varint.proofs.Reading.{more-none, more-eleventh, more-over, more-last, more-on, number-none, number-one, number-more, accepted, kept as number-kept, accepted-kept}
-use Rattle.types.specs.Value.{Span, span, string, Shape, nothing, flag, integer, address, text, reserved, Width, signed32, unsigned32, whole64, shapes, shape, Record, value, points, moved, signExtended, kept, spanned, content, typed, inWidth, inFields}
+use Rattle.types.specs.Value.{Span, span, string, Shape, nothing, flag, integer, address, text, reserved, Width, signed32, unsigned32, whole64, shapes, shape, Record, value, points, moved, signExtended, narrowed, spanned, content, typed, inWidth, inFields}
 
 -- any answer but 3, which bytes appended may change
 abbrev pub Stands : {A : Type 0} → Answer A → Type 0
@@ -252,7 +252,7 @@ module _ (kind flags : ℕ) (s : List ℕ) where
   pub integer-refused : (w : Width) (n place : ℕ) → number s ≡ refused n place → content (integer w) kind flags s ≡ refused n place
   integer-refused w n place e = rw e
 
-  pub integer-whole : (w : Width) (n used : ℕ) → number s ≡ done n used → content (integer w) kind flags s ≡ done (value kind (kept w n) 0) used
+  pub integer-whole : (w : Width) (n used : ℕ) → number s ≡ done n used → content (integer w) kind flags s ≡ done (value kind (narrowed w n) 0) used
   integer-whole w n used e = rw e
 
   pub address-short : (n : ℕ) → length s < n → content (address n) kind flags s ≡ refused 3 0
@@ -295,7 +295,7 @@ module _ (kind flags : ℕ) (s : List ℕ) (sh : Shape) (is : shape kind ≡ sh)
       ∙ ap (λ (v : Record). done v (1 + used)) (moved-start kind 1 a b (ap points is ∙ h))
 
 -- what an accepted DATA says of the bytes
-kept-width : (w : Width) (n : ℕ) → n < 2 ^ 64 → InWidth w (kept w n)
+kept-width : (w : Width) (n : ℕ) → n < 2 ^ 64 → InWidth w (narrowed w n)
 kept-width signed32 n h = signed-again n
 kept-width unsigned32 n h = omega arith
 kept-width whole64 n h = h
@@ -403,7 +403,7 @@ content-kept : (sh : Shape) (kind flags : ℕ) (s t : List ℕ) (a : Answer Reco
 content-kept nothing kind flags s t a e no3 = e
 content-kept flag kind flags s t a e no3 = e
 content-kept (integer w) kind flags s t a e no3 =
-    next-kept (number s) (number (s ++ t)) (λ n used. done (value kind (kept w n) 0) used) a e no3 (λ st. number-kept s t (number s) refl st)
+    next-kept (number s) (number (s ++ t)) (λ n used. done (value kind (narrowed w n) 0) used) a e no3 (λ st. number-kept s t (number s) refl st)
 content-kept (address n) kind flags s t a e no3 =
     ⊎-elim
     (λ h. absurd (no3 0 (sym e ∙ address-short kind flags s n h)))

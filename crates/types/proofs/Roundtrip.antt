@@ -1,7 +1,7 @@
 -- Laws about both ways: what was written is read back, at the front of any bytes, and so two values with one written form are
 -- the same.
 use mathlib.Core.Path.{_≡_, refl, sym, ap, ap₂, _∙_}
-use mathlib.Core.Bool.{true, false}
+use mathlib.Core.Bool.{true, false, cond}
 use mathlib.Core.List.{List, [], _∷_, _++_, append-assoc}
 use Prim.Native.Nat.{ℕ, _+_, _*_, _/_, _%_, _^_, _≤_, _<_}
 use native.Mathlib.Omega.{arith}
@@ -11,10 +11,17 @@ use lib.Seq.{drop-drop, take-at, drop-at}
 use Rattle.answer.specs.Answer.{done, behind}
 use Rattle.varint.specs.Number.{numberBytes}
 use Rattle.varint.proofs.Reading.{reads-back}
-use Rattle.types.specs.Value.{span, string, Shape, nothing, flag, integer, address, text, reserved, Width, signed32, unsigned32, whole64, shape, Record, value, points, moved, kept, content, typed}
-use Rattle.types.specs.Form.{part, stringBytes, valueBytes, writableRecord, ranged, means, meaning}
+use Rattle.types.specs.Value.{span, string, Shape, nothing, flag, integer, address, text, reserved, Width, signed32, unsigned32, whole64, shape, Record, value, points, moved, narrowed, content, typed}
+use Rattle.types.specs.Form.{part, stringBytes, valueBytes, writableRecord, ranged}
 use Rattle.types.proofs.Reading.{string-whole, typed-some, integer-whole, address-whole, text-whole, behind-plain, behind-start, signed-below, InWidth, Fields, fields-in}
 use Rattle.types.proofs.Writing.{shape-cases, writable-kind, string-bytes, string-length, part-whole, field-at, bytes-at}
+
+-- A value in the paper's sense: its kind, its number where it has one, and the bytes that it points at, wherever they stand.
+pub data Meaning : Type 0 where
+  means : ℕ → ℕ → List ℕ → Meaning
+
+abbrev pub meaning : List ℕ → Record → Meaning
+meaning buffer (value kind a b) = means kind (cond (points (shape kind)) 0 a) (cond (points (shape kind)) (part buffer a b) [])
 
 -- ---- strings
 
@@ -84,7 +91,7 @@ part-meaning : (buffer : List ℕ) (k a b : ℕ) → points (shape k) ≡ true �
 part-meaning buffer k a b h = rw h
 
 -- an integer in its field keeps all of its bits
-width-kept : (w : Width) (a : ℕ) → InWidth w a → (kept w a ≡ a) × (a < 2 ^ 64)
+width-kept : (w : Width) (a : ℕ) → InWidth w a → (narrowed w a ≡ a) × (a < 2 ^ 64)
 width-kept signed32 a h = (sym h, rw h (signed-below a))
 width-kept unsigned32 a h = (mod-eq-of-lt {m = 2 ^ 32} h, omega arith)
 width-kept whole64 a h = (refl, h)

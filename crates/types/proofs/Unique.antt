@@ -4,20 +4,14 @@ use mathlib.Core.Bool.{Bool}
 use mathlib.Core.List.{List}
 use Prim.Native.Nat.{ℕ}
 use native.Mathlib.Omega.{arith}
-use lib.ListN.{length}
 use Rattle.answer.specs.declared.Written.{Written}
-use Rattle.answer.specs.Answer.{within, written}
-use Rattle.answer.specs.Writes.{Writes}
-use Rattle.answer.proofs.Same.{refusal-same, writes-unique}
+use Rattle.answer.proofs.Same.{refusal-same, writes-unique, one-only}
 use Rattle.types.specs.declared.Text.{Text}
 use Rattle.types.specs.declared.Text.the-variants as t
 use Rattle.types.specs.declared.Value.{Value}
 use Rattle.types.specs.declared.Typed.{Typed}
 use Rattle.types.specs.declared.Typed.the-variants as v
-use Rattle.types.specs.Value.{string, typed}
-use Rattle.types.specs.Form.{inside, stringBytes, writableRecord, ranged, form, size}
-use Rattle.types.specs.Check.{stringRefusal, partRefusal, refusal}
-use Rattle.types.specs.Promise.{textRead, recordOf, typedRead}
+use Rattle.types.specs.Promise.{textRead, typedRead, ReadString, TypedData, Writable, CheckString, CheckPart, CheckValue, ValueLen, WriteString, WriteValue}
 
 -- answers that say the same are the same
 pub textRead-same : (a b : Text) → textRead a ≡ textRead b → a ≡ b
@@ -35,48 +29,31 @@ typedRead-same (v.Done x u) (v.Refused q) e = let z : _≡_ {A = ℕ} 0 1 = cc i
 typedRead-same (v.Refused r) (v.Done x u) e = let z : _≡_ {A = ℕ} 0 1 = cc in absurd (omega arith)
 typedRead-same (v.Refused r) (v.Refused q) e = ap v.Refused (refusal-same r q (cc) (cc))
 
-pub read-string-unique : (s : List ℕ) (r q : Text) → textRead r ≡ string s → textRead q ≡ string s → r ≡ q
+pub read-string-unique : (s : List ℕ) (r q : Text) → ReadString s r → ReadString s q → r ≡ q
 read-string-unique s r q p o = textRead-same r q (p ∙ sym o)
 
-pub typed-data-unique : (s : List ℕ) (r q : Typed) → typedRead r ≡ typed s → typedRead q ≡ typed s → r ≡ q
+pub typed-data-unique : (s : List ℕ) (r q : Typed) → TypedData s r → TypedData s q → r ≡ q
 typed-data-unique s r q p o = typedRead-same r q (p ∙ sym o)
 
--- a result that an equation gives
-one : {A : Type 0} {r q x : A} → r ≡ x → q ≡ x → r ≡ q
-one p o = p ∙ sym o
+pub writable-unique : (v : Value) (r q : Bool) → Writable v r → Writable v q → r ≡ q
+writable-unique v r q p o = one-only p o
 
-pub writable-unique : (v : Value) (r q : Bool) → r ≡ writableRecord (recordOf v) → q ≡ writableRecord (recordOf v) → r ≡ q
-writable-unique v r q p o = one p o
+pub check-string-unique : (start len : ℕ) (buffer : List ℕ) (r q : ℕ) → CheckString start len buffer r → CheckString start len buffer q → r ≡ q
+check-string-unique start len buffer r q p o = one-only p o
 
-pub in-range-unique : (buffer : List ℕ) (v : Value) (r q : Bool) → r ≡ ranged buffer (recordOf v) → q ≡ ranged buffer (recordOf v) → r ≡ q
-in-range-unique buffer v r q p o = one p o
+pub check-part-unique : (v : Value) (buffer : List ℕ) (r q : ℕ) → CheckPart v buffer r → CheckPart v buffer q → r ≡ q
+check-part-unique v buffer r q p o = one-only p o
 
-pub part-inside-unique : (buffer : List ℕ) (start len : ℕ) (r q : Bool) → r ≡ inside buffer start len → q ≡ inside buffer start len → r ≡ q
-part-inside-unique buffer start len r q p o = one p o
+pub check-value-unique : (v : Value) (buffer : List ℕ) (r q : ℕ) → CheckValue v buffer r → CheckValue v buffer q → r ≡ q
+check-value-unique v buffer r q p o = one-only p o
 
-pub check-string-unique : (buffer : List ℕ) (start len r q : ℕ) → r ≡ stringRefusal buffer start len → q ≡ stringRefusal buffer start len → r ≡ q
-check-string-unique buffer start len r q p o = one p o
-
-pub check-part-unique : (buffer : List ℕ) (v : Value) (r q : ℕ) → r ≡ partRefusal buffer (recordOf v) → q ≡ partRefusal buffer (recordOf v) → r ≡ q
-check-part-unique buffer v r q p o = one p o
-
-pub check-value-unique : (buffer : List ℕ) (v : Value) (r q : ℕ) → r ≡ refusal buffer (recordOf v) → q ≡ refusal buffer (recordOf v) → r ≡ q
-check-value-unique buffer v r q p o = one p o
-
-pub string-len-unique : (text : List ℕ) (r q : ℕ) → r ≡ length (stringBytes text) → q ≡ length (stringBytes text) → r ≡ q
-string-len-unique text r q p o = one p o
-
-pub value-len-unique : (buffer : List ℕ) (v : Value) (r q : ℕ) → r ≡ size (form buffer (recordOf v)) → q ≡ size (form buffer (recordOf v)) → r ≡ q
-value-len-unique buffer v r q p o = one p o
+pub value-len-unique : (v : Value) (buffer : List ℕ) (r q : ℕ) → ValueLen v buffer r → ValueLen v buffer q → r ≡ q
+value-len-unique v buffer r q p o = one-only p o
 
 pub write-string-unique : (text : List ℕ) (r q : Written) (old new other : List ℕ)
-    → Writes (within (length old) (written (stringBytes text))) r old new
-    → Writes (within (length old) (written (stringBytes text))) q old other
-    → (r ≡ q) × (new ≡ other)
+    → WriteString text r old new → WriteString text q old other → (r ≡ q) × (new ≡ other)
 write-string-unique text r q old new other p o = writes-unique p o
 
-pub write-value-unique : (buffer : List ℕ) (v : Value) (r q : Written) (old new other : List ℕ)
-    → Writes (within (length old) (form buffer (recordOf v))) r old new
-    → Writes (within (length old) (form buffer (recordOf v))) q old other
-    → (r ≡ q) × (new ≡ other)
-write-value-unique buffer v r q old new other p o = writes-unique p o
+pub write-value-unique : (v : Value) (buffer : List ℕ) (r q : Written) (old new other : List ℕ)
+    → WriteValue v buffer r old new → WriteValue v buffer q old other → (r ≡ q) × (new ≡ other)
+write-value-unique v buffer r q old new other p o = writes-unique p o

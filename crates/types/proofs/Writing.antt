@@ -10,10 +10,11 @@ use lib.ListN.{length, take, drop, length-append, length-take, length-drop}
 use lib.Seq.{length-take-le}
 use borrow.Author.Tests.{lt-ltb, le-ltb, le-leb, lt-leb, ne-eqb, leb-true}
 use Rattle.answer.specs.Answer.{refused, written}
+use Rattle.answer.specs.Order.{first}
 use Rattle.varint.specs.Number.{numberBytes}
 use Rattle.answer.proofs.Cases.{lt-or-le}
 use Rattle.types.specs.Value.{Shape, nothing, flag, integer, address, text, reserved, Width, whole64, shape, Record, value, points, inWidth, inFields}
-use Rattle.types.specs.Form.{part, inside, stringBytes, formed, valueBytes, writableRecord, ranged, form}
+use Rattle.types.specs.Form.{part, inside, stringBytes, dataBytes, valueBytes, writableRecord, ranged, valueAnswer}
 use Rattle.types.proofs.Reading.{shape-is, shape-reserved, shape-listed, shape-integer, shape-text, in-fields, fields-in}
 
 -- a law about a kind goes by the table's lines
@@ -66,25 +67,25 @@ string-length bytes = ap length (string-bytes bytes) ∙ simp length-append
 pub part-length : (buffer : List ℕ) (start len : ℕ) → start + len ≤ length buffer → length (part buffer start len) ≡ len
 part-length buffer start len h = length-take-le len (drop start buffer) (simp length-drop (omega arith))
 
-pub value-bytes : (buffer : List ℕ) (kind a b : ℕ) → valueBytes buffer (value kind a b) ≡ formed (shape kind) kind a (part buffer a b)
+pub value-bytes : (buffer : List ℕ) (kind a b : ℕ) → valueBytes buffer (value kind a b) ≡ dataBytes (shape kind) kind a (part buffer a b)
 unfolding valueBytes
 value-bytes buffer kind a b = refl
 
 -- each line's length, in the code's terms
 module _ (k a : ℕ) (bytes : List ℕ) where
-  formed-at : (sh : Shape) → shape k ≡ sh → length (formed sh k a bytes) ≡ length (formed (shape k) k a bytes)
-  formed-at sh is = ap (λ (x : Shape). length (formed x k a bytes)) (sym is)
+  formed-at : (sh : Shape) → shape k ≡ sh → length (dataBytes sh k a bytes) ≡ length (dataBytes (shape k) k a bytes)
+  formed-at sh is = ap (λ (x : Shape). length (dataBytes x k a bytes)) (sym is)
 
-  pub length-plain : k < 2 → 1 ≡ length (formed (shape k) k a bytes)
+  pub length-plain : k < 2 → 1 ≡ length (dataBytes (shape k) k a bytes)
   length-plain h = shape-plain k h (λ e is. formed-at nothing is) (λ e is. formed-at flag is)
 
-  pub length-integer : 2 ≤ k → k < 6 → 1 + length (numberBytes a) ≡ length (formed (shape k) k a bytes)
+  pub length-integer : 2 ≤ k → k < 6 → 1 + length (numberBytes a) ≡ length (dataBytes (shape k) k a bytes)
   length-integer l h = shape-integer k l h (λ w is. omega (arith, formed-at (integer w) is))
 
-  pub length-address : 6 ≤ k → k < 8 → 1 + length bytes ≡ length (formed (shape k) k a bytes)
+  pub length-address : 6 ≤ k → k < 8 → 1 + length bytes ≡ length (dataBytes (shape k) k a bytes)
   length-address l h = shape-address k l h (λ n is. omega (arith, formed-at (address n) is))
 
-  pub length-text : 8 ≤ k → k < 10 → 1 + length (numberBytes (length bytes)) + length bytes ≡ length (formed (shape k) k a bytes)
+  pub length-text : 8 ≤ k → k < 10 → 1 + length (numberBytes (length bytes)) + length bytes ≡ length (dataBytes (shape k) k a bytes)
   length-text l h = let e = formed-at text (shape-text k l h) in omega (arith, string-length bytes)
 
 -- a part that is compared with what the others leave of the room
@@ -193,8 +194,8 @@ part-small buffer kind a b h r l = omega (arith, simp (length-take, length-drop)
 -- ---- the bytes, by the kind's number
 
 module _ (buffer : List ℕ) (k a b : ℕ) where
-  pub bytes-at : (sh : Shape) → shape k ≡ sh → valueBytes buffer (value k a b) ≡ formed sh k a (part buffer a b)
-  bytes-at sh is = value-bytes buffer k a b ∙ ap (λ (x : Shape). formed x k a (part buffer a b)) is
+  pub bytes-at : (sh : Shape) → shape k ≡ sh → valueBytes buffer (value k a b) ≡ dataBytes sh k a (part buffer a b)
+  bytes-at sh is = value-bytes buffer k a b ∙ ap (λ (x : Shape). dataBytes x k a (part buffer a b)) is
 
   -- null, whose unused number is 0, and bool
   pub plain-bytes : k < 2 → inFields (shape k) a b ≡ true → (a < 2) × (valueBytes buffer (value k a b) ≡ (k + 16 * a) ∷ [])
@@ -223,16 +224,16 @@ part-lent buffer a b = ap (λ (n : ℕ). take n (drop a buffer)) same
     same = omega arith
 
 module _ (buffer : List ℕ) (v : Record) where
-  pub form-unwritable : writableRecord v ≡ false → form buffer v ≡ refused 14 0
-  unfolding form
+  pub form-unwritable : writableRecord v ≡ false → valueAnswer buffer v ≡ refused 14 0
+  unfolding valueAnswer first
   form-unwritable h = rw h
 
-  pub form-outside : writableRecord v ≡ true → ranged buffer v ≡ false → form buffer v ≡ refused 16 0
-  unfolding form
+  pub form-outside : writableRecord v ≡ true → ranged buffer v ≡ false → valueAnswer buffer v ≡ refused 16 0
+  unfolding valueAnswer first
   form-outside h r = rw (h, r)
 
-  pub form-whole : writableRecord v ≡ true → ranged buffer v ≡ true → form buffer v ≡ written (valueBytes buffer v)
-  unfolding form
+  pub form-whole : writableRecord v ≡ true → ranged buffer v ≡ true → valueAnswer buffer v ≡ written (valueBytes buffer v)
+  unfolding valueAnswer first
   form-whole h r = rw (h, r)
 
 -- ---- what writing comes to, by the kind's number
@@ -241,10 +242,10 @@ module _ (buffer : List ℕ) (k a b : ℕ) where
   unpointed : k < 6 → ranged buffer (value k a b) ≡ true
   unpointed h = rw (points-no k h)
 
-  pub form-plain : k < 2 → inFields (shape k) a b ≡ true → form buffer (value k a b) ≡ written ((k + 16 * a) ∷ [])
+  pub form-plain : k < 2 → inFields (shape k) a b ≡ true → valueAnswer buffer (value k a b) ≡ written ((k + 16 * a) ∷ [])
   form-plain h f = form-whole buffer (value k a b) f (unpointed (omega arith)) ∙ ap (λ (s : List ℕ). written s) (plain-bytes buffer k a b h f .1)
 
-  pub form-integer : 2 ≤ k → k < 6 → inFields (shape k) a b ≡ true → form buffer (value k a b) ≡ written (k ∷ numberBytes a)
+  pub form-integer : 2 ≤ k → k < 6 → inFields (shape k) a b ≡ true → valueAnswer buffer (value k a b) ≡ written (k ∷ numberBytes a)
   form-integer l h f =
       form-whole buffer (value k a b) f (unpointed h)
       ∙ ap (λ (s : List ℕ). written s) (shape-integer k l h (λ w is. bytes-at buffer k a b (integer w) is))
@@ -257,14 +258,14 @@ module _ (buffer : List ℕ) (k a b : ℕ) where
     range : ranged buffer (value k a b) ≡ inside buffer a b
     range = rw (ap points is ∙ p)
 
-    pub form-pointed : inside buffer a b ≡ true → form buffer (value k a b) ≡ written (formed sh k a (part buffer a b))
+    pub form-pointed : inside buffer a b ≡ true → valueAnswer buffer (value k a b) ≡ written (dataBytes sh k a (part buffer a b))
     form-pointed i = form-whole buffer (value k a b) fields (range ∙ i) ∙ ap (λ (s : List ℕ). written s) (bytes-at buffer k a b sh is)
 
-    pub form-beyond : inside buffer a b ≡ false → form buffer (value k a b) ≡ refused 16 0
+    pub form-beyond : inside buffer a b ≡ false → valueAnswer buffer (value k a b) ≡ refused 16 0
     form-beyond i = form-outside buffer (value k a b) fields (range ∙ i)
 
-  pub form-length : (n : ℕ) → shape k ≡ address n → (b ≡ n → ⊥) → form buffer (value k a b) ≡ refused 14 0
+  pub form-length : (n : ℕ) → shape k ≡ address n → (b ≡ n → ⊥) → valueAnswer buffer (value k a b) ≡ refused 14 0
   form-length n is other = form-unwritable buffer (value k a b) (field-at k a b (address n) is ∙ ne-eqb b n other)
 
-  pub form-reserved : 10 ≤ k → form buffer (value k a b) ≡ refused 14 0
+  pub form-reserved : 10 ≤ k → valueAnswer buffer (value k a b) ≡ refused 14 0
   form-reserved h = form-unwritable buffer (value k a b) (field-at k a b reserved (shape-reserved k h))

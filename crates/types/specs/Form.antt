@@ -6,6 +6,7 @@ use Prim.Native.Nat.{ℕ, _+_, _*_}
 use lib.Dec.{leb}
 use lib.ListN.{length, take, drop}
 use Rattle.answer.specs.Answer.{Answer, done, refused, written}
+use Rattle.answer.specs.Order.{after}
 use Rattle.varint.specs.Number.{numberBytes}
 use Rattle.types.specs.Value.{Shape, nothing, flag, integer, address, text, reserved, shape, Record, value, points, inFields}
 
@@ -22,16 +23,16 @@ stringBytes bytes = numberBytes (length bytes) ++ bytes
 
 -- A value of this kind, with the number a or with these bytes: the type byte, whose lowest flag is a boolean, and the DATA. A
 -- negative number is its sign extension, so it is written as one of 64 bits.
-abbrev pub formed : Shape → ℕ → ℕ → List ℕ → List ℕ
-formed nothing kind a bytes = kind ∷ []
-formed flag kind a bytes = (kind + 16 * a) ∷ []
-formed (integer w) kind a bytes = kind ∷ numberBytes a
-formed (address n) kind a bytes = kind ∷ bytes
-formed text kind a bytes = kind ∷ stringBytes bytes
-formed reserved kind a bytes = []
+abbrev pub dataBytes : Shape → ℕ → ℕ → List ℕ → List ℕ
+dataBytes nothing kind a bytes = kind ∷ []
+dataBytes flag kind a bytes = (kind + 16 * a) ∷ []
+dataBytes (integer w) kind a bytes = kind ∷ numberBytes a
+dataBytes (address n) kind a bytes = kind ∷ bytes
+dataBytes text kind a bytes = kind ∷ stringBytes bytes
+dataBytes reserved kind a bytes = []
 
 unfoldable pub valueBytes : List ℕ → Record → List ℕ
-valueBytes buffer (value kind a b) = formed (shape kind) kind a (part buffer a b)
+valueBytes buffer (value kind a b) = dataBytes (shape kind) kind a (part buffer a b)
 
 -- whether the numbers lie in their fields, and whether a start and a length lie in the buffer, also where the length is 0
 abbrev pub writableRecord : Record → Bool
@@ -41,17 +42,10 @@ abbrev pub ranged : List ℕ → Record → Bool
 ranged buffer (value kind a b) = cond (points (shape kind)) (inside buffer a b) true
 
 -- What writing comes to: 14 where a number is outside its field, 16 where the record points outside, else its bytes.
-unfoldable pub form : List ℕ → Record → Answer (List ℕ)
-form buffer v = cond (writableRecord v) (cond (ranged buffer v) (written (valueBytes buffer v)) (refused 16 0)) (refused 14 0)
+unfoldable pub valueAnswer : List ℕ → Record → Answer (List ℕ)
+valueAnswer buffer v = after ((14, writableRecord v) ∷ (16, ranged buffer v) ∷ []) (written (valueBytes buffer v))
 
 -- its length, 0 where there is none
-abbrev pub size : Answer (List ℕ) → ℕ
-size (done bytes n) = n
-size (refused number place) = 0
-
--- A value in the paper's sense: its kind, its number where it has one, and the bytes that it points at, wherever they stand.
-pub data Meaning : Type 0 where
-  means : ℕ → ℕ → List ℕ → Meaning
-
-abbrev pub meaning : List ℕ → Record → Meaning
-meaning buffer (value kind a b) = means kind (cond (points (shape kind)) 0 a) (cond (points (shape kind)) (part buffer a b) [])
+abbrev pub lengthOf : Answer (List ℕ) → ℕ
+lengthOf (done bytes n) = n
+lengthOf (refused number place) = 0

@@ -1,11 +1,21 @@
--- What the calls' own types mean: for each case the number and the values of document 01.
+-- What the calls' own types mean, and what each call promises.
 use Rattle.types.specs.declared.Text.{Text}
 use Rattle.types.specs.declared.Text.the-variants as t
 use Rattle.types.specs.declared.Value.{Value}
 use Rattle.types.specs.declared.Typed.{Typed}
 use Rattle.types.specs.declared.Typed.the-variants as v
-use Rattle.answer.specs.Answer.{Answer, done, refused}
-use Rattle.types.specs.Value.{Span, span, Record, value}
+use mathlib.Core.Path.{_≡_}
+use mathlib.Core.Bool.{Bool}
+use mathlib.Core.List.{List}
+use Prim.Native.Nat.{ℕ}
+use lib.ListN.{length}
+use Rattle.answer.specs.declared.Written.{Written}
+use Rattle.answer.specs.Answer.{Answer, done, refused, written, within}
+use Rattle.answer.specs.Writes.{Writes}
+use Rattle.answer.specs.Order.{first}
+use Rattle.types.specs.Value.{Span, span, string, Record, value, typed}
+use Rattle.types.specs.Form.{stringBytes, writableRecord, valueAnswer, lengthOf}
+use Rattle.types.specs.Check.{stringChecks, partChecks, valueChecks}
 
 -- what the string reader's answer says
 abbrev pub textRead : Text → Answer Span
@@ -20,3 +30,35 @@ recordOf x = value (x .kind) (x .a) (x .b)
 abbrev pub typedRead : Typed → Answer Record
 typedRead (v.Done x used) = done (recordOf x) used
 typedRead (v.Refused r) = refused (r .number) (r .place)
+
+-- ---- the promises
+
+abbrev pub ReadString : List ℕ → Text → Type 0
+ReadString input r = textRead r ≡ string input
+
+abbrev pub TypedData : List ℕ → Typed → Type 0
+TypedData input r = typedRead r ≡ typed input
+
+-- whether it is not 14
+abbrev pub Writable : Value → Bool → Type 0
+Writable v r = r ≡ writableRecord (recordOf v)
+
+-- the number that a string is refused with, or a value past 14, or a value; 0 for none
+abbrev pub CheckString : ℕ → ℕ → List ℕ → ℕ → Type 0
+CheckString start len buffer r = r ≡ first (stringChecks buffer start len)
+
+abbrev pub CheckPart : Value → List ℕ → ℕ → Type 0
+CheckPart v buffer r = r ≡ first (partChecks buffer (recordOf v))
+
+abbrev pub CheckValue : Value → List ℕ → ℕ → Type 0
+CheckValue v buffer r = r ≡ first (valueChecks buffer (recordOf v))
+
+abbrev pub ValueLen : Value → List ℕ → ℕ → Type 0
+ValueLen v buffer r = r ≡ lengthOf (valueAnswer buffer (recordOf v))
+
+-- what is written at the front of old, which is new afterwards
+abbrev pub WriteString : List ℕ → Written → List ℕ → List ℕ → Type 0
+WriteString text r old new = Writes (within (length old) (written (stringBytes text))) r old new
+
+abbrev pub WriteValue : Value → List ℕ → Written → List ℕ → List ℕ → Type 0
+WriteValue v buffer r old new = Writes (within (length old) (valueAnswer buffer (recordOf v))) r old new

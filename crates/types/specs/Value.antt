@@ -93,10 +93,10 @@ moved n (value kind a b) = value kind (cond (points (shape kind)) (n + a) a) b
 unfoldable pub signExtended : ℕ → ℕ
 signExtended n = cond (ltb (n % 2 ^ 32) (2 ^ 31)) (n % 2 ^ 32) (n % 2 ^ 32 + (2 ^ 64 - 2 ^ 32))
 
-abbrev pub kept : Width → ℕ → ℕ
-kept signed32 n = signExtended n
-kept unsigned32 n = n % 2 ^ 32
-kept whole64 n = n
+abbrev pub narrowed : Width → ℕ → ℕ
+narrowed signed32 n = signExtended n
+narrowed unsigned32 n = n % 2 ^ 32
+narrowed whole64 n = n
 
 abbrev pub spanned : ℕ → Span → Record
 spanned kind (span start len) = value kind start len
@@ -105,7 +105,7 @@ spanned kind (span start len) = value kind start len
 abbrev pub content : Shape → ℕ → ℕ → List ℕ → Answer Record
 content nothing kind flags s = done (value kind 0 0) 0
 content flag kind flags s = done (value kind (flags % 2) 0) 0
-content (integer w) kind flags s = next (number s) (λ n used. done (value kind (kept w n) 0) used)
+content (integer w) kind flags s = next (number s) (λ n used. done (value kind (narrowed w n) 0) used)
 content (address n) kind flags s = cond (leb n (length s)) (done (value kind 0 n) n) (refused 3 0)
 content text kind flags s = next (string s) (λ p used. done (spanned kind p) used)
 content reserved kind flags s = refused 8 0

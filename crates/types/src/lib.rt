@@ -19,10 +19,9 @@ ghost use lib.ListN.{length, drop};
 ghost use Rattle.answer.specs.Answer.{done as finished, refused, written, within, tells, leaves, behind};
 ghost use Rattle.varint.specs.Number.{numberBytes};
 ghost use Rattle.answer.specs.Writes.{Writes};
-ghost use Rattle.types.specs.Value.{Width, integer, address, text, shape, kept, signExtended, inFields, string, content, moved, typed, value};
-ghost use Rattle.types.specs.Form.{inside, stringBytes, formed, writableRecord, ranged, form, size};
-ghost use Rattle.types.specs.Check.{stringRefusal, partRefusal, refusal};
-ghost use Rattle.types.specs.Promise.{textRead, recordOf, typedRead};
+ghost use Rattle.types.specs.Value.{Width, integer, address, text, shape, narrowed, signExtended, inFields, string, content, moved, typed, value};
+ghost use Rattle.types.specs.Form.{inside, stringBytes, dataBytes, writableRecord, ranged, valueAnswer, lengthOf};
+ghost use Rattle.types.specs.Promise.{recordOf, typedRead, ReadString, TypedData, Writable, CheckString, CheckPart, CheckValue, ValueLen, WriteString, WriteValue};
 ghost use Rattle.types.specs.Inner.{Puts};
 
 // What the string reader answers: where the bytes are, and how many the string took with its length number.
@@ -50,7 +49,7 @@ pub enum Typed {
 
 // Reads the string at the front of `input`: a length number and that many bytes.
 pub fn read_string(input: &[u8]) -> Text
-    ensures { λ r. ⌜ textRead r ≡ string (now (input .entry)) ⌝ }
+    ensures { λ r. ⌜ ReadString (now (input .entry)) r ⌝ }
 {
     match varint::decode_varint(input) {
         Number::Refused(r) => {
@@ -75,7 +74,7 @@ pub fn read_string(input: &[u8]) -> Text
 
 // Reads the value at the front of `input`.
 pub fn typed_data(input: &[u8]) -> Typed
-    ensures { λ r. ⌜ typedRead r ≡ typed (now (input .entry)) ⌝ }
+    ensures { λ r. ⌜ TypedData (now (input .entry)) r ⌝ }
 {
     if input.len() == 0 {
         return refuse(TOO_SOON, 0);
@@ -122,7 +121,7 @@ fn read_integer(kind: u64, input: &[u8]) -> Typed
 // The bits that an integer of this kind keeps of its number.
 fn narrow(kind: u64, n: u64) -> u64
     requires { ⌜ (2 ≤ kind) × (kind < 6) ⌝ }
-    ensures { λ r. ⌜ ((w : Width) → shape kind ≡ integer w → r ≡ kept w n) ⌝ }
+    ensures { λ r. ⌜ ((w : Width) → shape kind ≡ integer w → r ≡ narrowed w n) ⌝ }
 {
     if kind == 2 {
         return sign_extend(n);
@@ -189,7 +188,7 @@ fn refuse(number: u64, place: usize) -> Typed
 
 // Whether a value's numbers lie in their fields: where not, it is 14.
 pub fn writable(value: Value) -> bool
-    ensures { λ r. ⌜ r ≡ writableRecord (recordOf value) ⌝ }
+    ensures { λ r. ⌜ Writable value r ⌝ }
 {
     let kind = value.kind;
     if kind < 6 {
@@ -228,7 +227,7 @@ fn in_field(kind: u64, a: u64) -> bool
 }
 
 // Whether a value points inside the buffer, or at no bytes: where not, it is 16.
-pub fn in_range(value: Value, buffer: &[u8]) -> bool
+fn in_range(value: Value, buffer: &[u8]) -> bool
     ensures { λ r. ⌜ r ≡ ranged (now (buffer .entry)) (recordOf value) ⌝ }
 {
     let kind = value.kind;
@@ -242,7 +241,7 @@ pub fn in_range(value: Value, buffer: &[u8]) -> bool
 }
 
 // Whether len bytes from start on lie in the buffer.
-pub fn part_inside(start: u64, len: u64, buffer: &[u8]) -> bool
+fn part_inside(start: u64, len: u64, buffer: &[u8]) -> bool
     ensures { λ r. ⌜ r ≡ inside (now (buffer .entry)) start len ⌝ }
 {
     let room = buffer.len() as u64;
@@ -254,7 +253,7 @@ pub fn part_inside(start: u64, len: u64, buffer: &[u8]) -> bool
 
 // What a string that a record points at is refused with: 16 outside the buffer, 15 where it is not UTF-8; else 0.
 pub fn check_string(start: u64, len: u64, buffer: &[u8]) -> u64
-    ensures { λ r. ⌜ r ≡ stringRefusal (now (buffer .entry)) start len ⌝ }
+    ensures { λ r. ⌜ CheckString start len (now (buffer .entry)) r ⌝ }
 {
     if !part_inside(start, len, buffer) {
         return OUTSIDE;
@@ -269,7 +268,7 @@ pub fn check_string(start: u64, len: u64, buffer: &[u8]) -> u64
 
 // What a value is refused with past 14: its range, and the text of a string.
 pub fn check_part(value: Value, buffer: &[u8]) -> u64
-    ensures { λ r. ⌜ r ≡ partRefusal (now (buffer .entry)) (recordOf value) ⌝ }
+    ensures { λ r. ⌜ CheckPart value (now (buffer .entry)) r ⌝ }
 {
     if value.kind == 8 {
         return check_string(value.a, value.b, buffer);
@@ -282,7 +281,7 @@ pub fn check_part(value: Value, buffer: &[u8]) -> u64
 
 // What a value is refused with: 14, 16 or 15, the first of these that holds; else 0.
 pub fn check_value(value: Value, buffer: &[u8]) -> u64
-    ensures { λ r. ⌜ r ≡ refusal (now (buffer .entry)) (recordOf value) ⌝ }
+    ensures { λ r. ⌜ CheckValue value (now (buffer .entry)) r ⌝ }
 {
     if !writable(value) {
         return NOT_WRITABLE;
@@ -290,16 +289,9 @@ pub fn check_value(value: Value, buffer: &[u8]) -> u64
     check_part(value, buffer)
 }
 
-// How many bytes the written form of a string has.
-pub fn string_len(text: &[u8]) -> usize
-    ensures { λ r. ⌜ r ≡ length (stringBytes (now (text .entry))) ⌝ }
-{
-    varint::varint_len(text.len() as u64) + text.len()
-}
-
 // How many bytes the written form of a value has; 0 where it has none.
 pub fn value_len(value: Value, buffer: &[u8]) -> usize
-    ensures { λ r. ⌜ r ≡ size (form (now (buffer .entry)) (recordOf value)) ⌝ }
+    ensures { λ r. ⌜ ValueLen value (now (buffer .entry)) r ⌝ }
 {
     if !writable(value) {
         return 0;
@@ -314,7 +306,7 @@ pub fn value_len(value: Value, buffer: &[u8]) -> usize
 fn form_len(value: Value) -> usize
     requires { ⌜ writableRecord (recordOf value) ≡ true ⌝ }
     requires { ⌜ value .b < 2 ^ 63 ⌝ }
-    ensures { λ r. ⌜ ((bytes : List ℕ) → length bytes ≡ value .b → r ≡ length (formed (shape (value .kind)) (value .kind) (value .a) bytes)) ⌝ }
+    ensures { λ r. ⌜ ((bytes : List ℕ) → length bytes ≡ value .b → r ≡ length (dataBytes (shape (value .kind)) (value .kind) (value .a) bytes)) ⌝ }
 {
     let kind = value.kind;
     if kind < 2 {
@@ -332,7 +324,7 @@ fn form_len(value: Value) -> usize
 
 // Writes a string at the front of `out`: its length number and its bytes.
 pub fn write_string(text: &[u8], out: &mut [u8]) -> Written
-    ensures { λ r. ⌜ Writes (within (length (now (out .entry))) (written (stringBytes (now (text .entry))))) r (now (out .entry)) (now (out .exit)) ⌝ }
+    ensures { λ r. ⌜ WriteString (now (text .entry)) r (now (out .entry)) (now (out .exit)) ⌝ }
 {
     if !string_fits(text, out.len()) {
         return Written::Refused(Refusal {
@@ -359,7 +351,7 @@ fn string_fits(text: &[u8], room: usize) -> bool
 
 // Writes a value at the front of `out`. It refuses what has no written form; whether a string is UTF-8 is not its to ask.
 pub fn write_value(value: Value, buffer: &[u8], out: &mut [u8]) -> Written
-    ensures { λ r. ⌜ Writes (within (length (now (out .entry))) (form (now (buffer .entry)) (recordOf value))) r (now (out .entry)) (now (out .exit)) ⌝ }
+    ensures { λ r. ⌜ WriteValue value (now (buffer .entry)) r (now (out .entry)) (now (out .exit)) ⌝ }
 {
     let n = put_value(value, buffer, out);
     if n == 0 {
@@ -373,7 +365,7 @@ pub fn write_value(value: Value, buffer: &[u8], out: &mut [u8]) -> Written
 
 // What a value that was not written is refused with: where it has a written form, there was no room.
 fn why_not(value: Value, buffer: &[u8]) -> u64
-    ensures { λ r. ⌜ ((room : ℕ) → size (within room (form (now (buffer .entry)) (recordOf value))) ≡ 0 → tells (within room (form (now (buffer .entry)) (recordOf value))) ≡ refused r 0) ⌝ }
+    ensures { λ r. ⌜ ((room : ℕ) → lengthOf (within room (valueAnswer (now (buffer .entry)) (recordOf value))) ≡ 0 → tells (within room (valueAnswer (now (buffer .entry)) (recordOf value))) ≡ refused r 0) ⌝ }
 {
     if !writable(value) {
         return NOT_WRITABLE;
@@ -387,7 +379,7 @@ fn why_not(value: Value, buffer: &[u8]) -> u64
 // Writes a value and says how many bytes it wrote: 0 where it is refused, since no written form is empty. One number stays in a
 // register, which an enum's cases from many branches do not.
 fn put_value(value: Value, buffer: &[u8], out: &mut [u8]) -> usize
-    ensures { λ r. ⌜ Puts (within (length (now (out .entry))) (form (now (buffer .entry)) (recordOf value))) r (now (out .entry)) (now (out .exit)) ⌝ }
+    ensures { λ r. ⌜ Puts (within (length (now (out .entry))) (valueAnswer (now (buffer .entry)) (recordOf value))) r (now (out .entry)) (now (out .exit)) ⌝ }
 {
     let kind = value.kind;
     if kind < 2 {
@@ -411,7 +403,7 @@ fn put_value(value: Value, buffer: &[u8], out: &mut [u8]) -> usize
 // The same of null and bool, which are one byte.
 fn put_plain(value: Value, out: &mut [u8]) -> usize
     requires { ⌜ value .kind < 2 ⌝ }
-    ensures { λ r. ⌜ ((buffer : List ℕ) → Puts (within (length (now (out .entry))) (form buffer (recordOf value))) r (now (out .entry)) (now (out .exit))) ⌝ }
+    ensures { λ r. ⌜ ((buffer : List ℕ) → Puts (within (length (now (out .entry))) (valueAnswer buffer (recordOf value))) r (now (out .entry)) (now (out .exit))) ⌝ }
 {
     if !writable(value) {
         return 0;
@@ -426,7 +418,7 @@ fn put_plain(value: Value, out: &mut [u8]) -> usize
 // The same of an integer.
 fn put_integer(value: Value, out: &mut [u8]) -> usize
     requires { ⌜ (2 ≤ value .kind) × (value .kind < 6) ⌝ }
-    ensures { λ r. ⌜ ((buffer : List ℕ) → Puts (within (length (now (out .entry))) (form buffer (recordOf value))) r (now (out .entry)) (now (out .exit))) ⌝ }
+    ensures { λ r. ⌜ ((buffer : List ℕ) → Puts (within (length (now (out .entry))) (valueAnswer buffer (recordOf value))) r (now (out .entry)) (now (out .exit))) ⌝ }
 {
     if !writable(value) {
         return 0;
@@ -442,7 +434,7 @@ fn put_integer(value: Value, out: &mut [u8]) -> usize
 fn put_address(value: Value, len: usize, buffer: &[u8], out: &mut [u8]) -> usize
     requires { ⌜ shape (value .kind) ≡ address len ⌝ }
     requires { ⌜ (value .kind < 8) × (len ≤ 16) ⌝ }
-    ensures { λ r. ⌜ Puts (within (length (now (out .entry))) (form (now (buffer .entry)) (recordOf value))) r (now (out .entry)) (now (out .exit)) ⌝ }
+    ensures { λ r. ⌜ Puts (within (length (now (out .entry))) (valueAnswer (now (buffer .entry)) (recordOf value))) r (now (out .entry)) (now (out .exit)) ⌝ }
 {
     if value.b != len as u64 {
         return 0;
@@ -462,7 +454,7 @@ fn put_address(value: Value, len: usize, buffer: &[u8], out: &mut [u8]) -> usize
 // The same of a string or a binary.
 fn put_text(value: Value, buffer: &[u8], out: &mut [u8]) -> usize
     requires { ⌜ (8 ≤ value .kind) × (value .kind < 10) ⌝ }
-    ensures { λ r. ⌜ Puts (within (length (now (out .entry))) (form (now (buffer .entry)) (recordOf value))) r (now (out .entry)) (now (out .exit)) ⌝ }
+    ensures { λ r. ⌜ Puts (within (length (now (out .entry))) (valueAnswer (now (buffer .entry)) (recordOf value))) r (now (out .entry)) (now (out .exit)) ⌝ }
 {
     let b = value.b;
     if !part_inside(value.a, b, buffer) {

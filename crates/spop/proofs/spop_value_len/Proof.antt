@@ -3,7 +3,7 @@
 use mathlib.Core.Path.{ap, _∙_}
 use borrow.Author.Needs.{needs}
 use Rattle.types.specs.Value.{Record}
-use Rattle.types.specs.Form.{form, size}
+use Rattle.types.specs.Form.{valueAnswer, lengthOf}
 use Rattle.spop.proofs.spop_value_len.Statement.{statement}
 use Rattle.spop.proofs.spop_value_len.Tie as tie
 
@@ -14,7 +14,7 @@ value-len-requires : tie.Need-value-len-requires
 value-len-requires c κs = search needs
 
 returns : tie.Need-returns
-returns c = c .value-len .ensures ∙ ap (λ (v : Record). size (form (c .before .before .before .args .buffer .now) v)) (c .before .value-of .ensures)
+returns c = c .value-len .ensures ∙ ap (λ (v : Record). lengthOf (valueAnswer (c .before .before .before .args .buffer .now) v)) (c .before .value-of .ensures)
 
 pub spop-value-len-spec : {M : Type 1} → statement M
 spop-value-len-spec = tie.close (tie.spec value-of-requires value-len-requires returns)

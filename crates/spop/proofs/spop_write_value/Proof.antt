@@ -8,7 +8,7 @@ use lib.ListN.{length}
 use borrow.Author.Needs.{needs}
 use Rattle.answer.specs.Answer.{Answer, within}
 use Rattle.answer.specs.Writes.{Writes}
-use Rattle.types.specs.Form.{form}
+use Rattle.types.specs.Form.{valueAnswer}
 use Rattle.spop.specs.Told.{told-writes}
 use Rattle.spop.proofs.spop_write_value.Statement.{statement}
 use Rattle.spop.proofs.spop_write_value.Tie as tie
@@ -32,7 +32,7 @@ returns c =
     let w =
     subst
     (λ (x : Answer (List ℕ)). Writes (within (length (a .out .now)) x) (k .write-value .result) (a .out .now) (k .write-value .last .1 .1 .0))
-    (ap (form (a .buffer .now)) (k .before .before .value-of .ensures)) (k .write-value .ensures) in
+    (ap (valueAnswer (a .buffer .now)) (k .before .before .value-of .ensures)) (k .write-value .ensures) in
     (told-writes w (c .tell .ensures), w .holds)
 
 pub spop-write-value-spec : {M : Type 1} → statement M

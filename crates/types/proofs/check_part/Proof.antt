@@ -21,7 +21,7 @@ in-range-requires c κs = search needs
 returns-2 : tie.Need-returns-2
 returns-2 c = let a = c .before .before .before .before .before .args in
     let v = a .value in
-    sym (part-outside (a .buffer .now) (v .kind) (v .a) (v .b) (c .before .before .if1 .left) (sym (c .before .in-range .ensures) ∙ not-true _ (c .if2 .taken)))
+    sym (part-outside (a .buffer .now) (v .kind) (v .a) (v .b) (sym (c .before .in-range .ensures) ∙ not-true _ (c .if2 .taken)))
 
 returns-3 : tie.Need-returns-3
 returns-3 c = let a = c .before .before .before .before .before .args in

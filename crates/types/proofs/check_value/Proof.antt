@@ -4,7 +4,7 @@ use borrow.Author.Needs.{needs}
 use mathlib.Core.Path.{sym, _∙_}
 use borrow.Author.Tests.{not-true, not-false}
 use Rattle.types.specs.Promise.{recordOf}
-use Rattle.types.proofs.Checking.{refusal-fields, refusal-part}
+use Rattle.types.proofs.Checking.{value-fields, value-part}
 use Rattle.types.proofs.check_value.Statement.{statement}
 use Rattle.types.proofs.check_value.Tie as tie
 
@@ -13,7 +13,7 @@ writable-requires c κs = search needs
 
 returns : tie.Need-returns
 returns c = let a = c .before .before .before .args in
-    sym (refusal-fields (a .buffer .now) (recordOf (a .value)) (sym (c .before .writable .ensures) ∙ not-true _ (c .if1 .taken)))
+    sym (value-fields (a .buffer .now) (recordOf (a .value)) (sym (c .before .writable .ensures) ∙ not-true _ (c .if1 .taken)))
 
 check-part-requires : tie.Need-check-part-requires
 check-part-requires c κs = search needs
@@ -21,7 +21,7 @@ check-part-requires c κs = search needs
 returns-2 : tie.Need-returns-2
 returns-2 c = let a = c .before .before .before .before .args in
     c .check-part .ensures
-    ∙ sym (refusal-part (a .buffer .now) (recordOf (a .value)) (sym (c .before .before .writable .ensures) ∙ not-false _ (c .before .if1 .left)))
+    ∙ sym (value-part (a .buffer .now) (recordOf (a .value)) (sym (c .before .before .writable .ensures) ∙ not-false _ (c .before .if1 .left)))
 
 pub check-value-spec : {M : Type 1} → statement M
 check-value-spec = tie.close (tie.spec writable-requires returns check-part-requires returns-2)

@@ -6,19 +6,19 @@ use mathlib.Core.Path.{_≡_, sym, ap, _∙_}
 use mathlib.Core.Logic.{⊎-elim}
 use native.Mathlib.Omega.{arith}
 use Rattle.answer.proofs.Cases.{lt-or-le}
-use Rattle.types.specs.Value.{Width, signed32, unsigned32, whole64, integer, shape, kept}
+use Rattle.types.specs.Value.{Width, signed32, unsigned32, whole64, integer, shape, narrowed}
 use Rattle.types.proofs.Reading.{shape-is}
 use Rattle.types.proofs.narrow.Statement.{statement}
 use Rattle.types.proofs.narrow.Tie as tie
 
 -- where the table has one width for a kind, it is what the contract speaks of
-bits : (k kind : ℕ) (v : Width) (n : ℕ) → kind ≡ k → shape k ≡ integer v → (w : Width) → shape kind ≡ integer w → kept v n ≡ kept w n
+bits : (k kind : ℕ) (v : Width) (n : ℕ) → kind ≡ k → shape k ≡ integer v → (w : Width) → shape kind ≡ integer w → narrowed v n ≡ narrowed w n
 bits k kind v n is row w e =
     let one : integer v ≡ integer w = sym row ∙ ap shape (sym is) ∙ e in
     let p : v ≡ w = cc in
-    ap (λ (x : Width). kept x n) p
+    ap (λ (x : Width). narrowed x n) p
 
-rest : (kind n : ℕ) → 2 ≤ kind → kind < 6 → (kind ≡ 2 → ⊥) → (kind ≡ 3 → ⊥) → (w : Width) → shape kind ≡ integer w → n ≡ kept w n
+rest : (kind n : ℕ) → 2 ≤ kind → kind < 6 → (kind ≡ 2 → ⊥) → (kind ≡ 3 → ⊥) → (w : Width) → shape kind ≡ integer w → n ≡ narrowed w n
 rest kind n low high no2 no3 w e =
     ⊎-elim
     (λ h. bits 4 kind whole64 n (omega (arith, four)) (shape-is .4) w e)

@@ -11,7 +11,7 @@ use lib.ListN.{length, take, drop}
 use borrow.Author.Tests.{not-true, not-false, leb-true}
 use Rattle.answer.specs.Answer.{written}
 use Rattle.types.specs.Value.{address}
-use Rattle.types.specs.Form.{part, inside, form}
+use Rattle.types.specs.Form.{part, inside, valueAnswer}
 use Rattle.types.specs.Promise.{recordOf}
 use Rattle.types.proofs.Reading.{in-fields}
 use Rattle.types.proofs.Writing.{part-length, part-lent, form-length, form-pointed, form-beyond}
@@ -32,7 +32,7 @@ ends c = leb-true _ _ (within-buffer c)
 
 bytes : (c : tie.Else2)
     → let a = c .before .before .before .before .before .before .args in
-    form (a .buffer .now) (recordOf (a .value)) ≡ written (a .value .kind ∷ part (a .buffer .now) (a .value .a) (a .len))
+    valueAnswer (a .buffer .now) (recordOf (a .value)) ≡ written (a .value .kind ∷ part (a .buffer .now) (a .value .a) (a .len))
 bytes c = let a = c .before .before .before .before .before .before in
     let v = a .args .value in
     let e = same (c .before .before) in

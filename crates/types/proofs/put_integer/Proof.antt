@@ -10,7 +10,7 @@ use lib.ListN.{length}
 use borrow.Author.Tests.{not-true, not-false, leb-true, leb-false}
 use Rattle.answer.specs.Answer.{written}
 use Rattle.varint.specs.Number.{numberBytes}
-use Rattle.types.specs.Form.{form}
+use Rattle.types.specs.Form.{valueAnswer}
 use Rattle.types.specs.Promise.{recordOf}
 use Rattle.types.proofs.Writing.{form-unwritable, form-integer}
 use Rattle.types.proofs.Output.{puts-refusal, puts-short, Tagged, tagged-place, tagged-start, tagged-room, tagged-count, tagged-length, tagged-puts}
@@ -19,7 +19,7 @@ use Rattle.types.proofs.put_integer.Tie as tie
 
 bytes : (c : tie.Else1) (buffer : List ℕ)
     → let v = c .before .before .before .args .value in
-    form buffer (recordOf v) ≡ written (v .kind ∷ numberBytes (v .a))
+    valueAnswer buffer (recordOf v) ≡ written (v .kind ∷ numberBytes (v .a))
 bytes c buffer = let a = c .before .before .before in
     let v = a .args .value in
     form-integer buffer (v .kind) (v .a) (v .b) (a .pre .0) (a .pre .1) (sym (c .before .writable .ensures) ∙ not-false _ (c .if1 .left))

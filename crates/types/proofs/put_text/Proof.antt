@@ -12,7 +12,7 @@ use borrow.Author.Tests.{not-true, not-false, leb-true, leb-false}
 use Rattle.answer.specs.Answer.{written}
 use Rattle.varint.specs.Number.{numberBytes}
 use Rattle.types.specs.Value.{text}
-use Rattle.types.specs.Form.{part, inside, stringBytes, form}
+use Rattle.types.specs.Form.{part, inside, stringBytes, valueAnswer}
 use Rattle.types.specs.Promise.{recordOf}
 use Rattle.types.proofs.Reading.{shape-text, in-fields}
 use Rattle.types.proofs.Writing.{string-length, part-length, part-lent, form-pointed, form-beyond}
@@ -29,7 +29,7 @@ ends c = leb-true _ _ (within-buffer c)
 
 bytes : (c : tie.Else1)
     → let a = c .before .before .before .before .args in
-    form (a .buffer .now) (recordOf (a .value)) ≡ written (a .value .kind ∷ stringBytes (part (a .buffer .now) (a .value .a) (a .value .b)))
+    valueAnswer (a .buffer .now) (recordOf (a .value)) ≡ written (a .value .kind ∷ stringBytes (part (a .buffer .now) (a .value .a) (a .value .b)))
 bytes c = let a = c .before .before .before .before in
     let v = a .args .value in
     form-pointed (a .args .buffer .now) (v .kind) (v .a) (v .b) text (shape-text (v .kind) (a .pre .0) (a .pre .1)) refl (in-fields text (v .a) (v .b) (omega (arith, a .good))) (within-buffer c)

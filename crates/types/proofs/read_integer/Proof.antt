@@ -11,7 +11,7 @@ use Rattle.answer.specs.Answer.{done, refused, behind}
 use Rattle.varint.specs.Number.{number}
 use Rattle.varint.specs.Promise.{numberRead}
 use Rattle.varint.proofs.Reading.{accepted}
-use Rattle.types.specs.Value.{Width, integer, shape, kept, value, moved, content}
+use Rattle.types.specs.Value.{Width, integer, shape, narrowed, value, moved, content}
 use Rattle.types.proofs.Reading.{read-tail, number-place, shape-integer, integer-refused, integer-whole, behind-refused, behind-plain}
 use Rattle.types.proofs.read_integer.Statement.{statement}
 use Rattle.types.proofs.read_integer.Tie as tie
@@ -30,12 +30,12 @@ module _ (s : List ℕ) (kind flags : ℕ) (low : 2 ≤ kind) (high : kind < 6) 
   refusal : (n place : ℕ) → number s ≡ refused n place → behind moved 1 (content (shape kind) kind flags s) ≡ refused n (1 + place)
   refusal n place e = shape-integer kind low high (λ w is. behind-refused kind flags s (integer w) is n place (integer-refused kind flags s w n place e))
 
-  whole : (n used r : ℕ) → number s ≡ done n used → ((w : Width) → shape kind ≡ integer w → r ≡ kept w n)
+  whole : (n used r : ℕ) → number s ≡ done n used → ((w : Width) → shape kind ≡ integer w → r ≡ narrowed w n)
       → behind moved 1 (content (shape kind) kind flags s) ≡ done (value kind r 0) (1 + used)
-  whole n used r e narrowed =
+  whole n used r e is-narrowed =
       shape-integer kind low high
-      (λ w is. behind-plain kind flags s (integer w) is (kept w n) 0 used refl (integer-whole kind flags s w n used e)
-      ∙ ap (λ (x : ℕ). done (value kind x 0) (1 + used)) (sym (narrowed w is)))
+      (λ w is. behind-plain kind flags s (integer w) is (narrowed w n) 0 used refl (integer-whole kind flags s w n used e)
+      ∙ ap (λ (x : ℕ). done (value kind x 0) (1 + used)) (sym (is-narrowed w is)))
 
 sub-decode-varint : tie.Need-sub-decode-varint
 sub-decode-varint c = search needs

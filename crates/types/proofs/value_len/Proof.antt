@@ -6,7 +6,7 @@ use mathlib.Core.Bool.{true}
 use native.Mathlib.Omega.{arith}
 use lib.ListN.{length}
 use borrow.Author.Tests.{not-true, not-false}
-use Rattle.types.specs.Form.{part, writableRecord, ranged, size}
+use Rattle.types.specs.Form.{part, writableRecord, ranged, lengthOf}
 use Rattle.types.specs.Promise.{recordOf}
 use Rattle.types.proofs.Writing.{value-bytes, part-whole, part-small, form-unwritable, form-outside, form-whole}
 use Rattle.types.proofs.value_len.Statement.{statement}
@@ -24,14 +24,14 @@ writable-requires c κs = search needs
 
 returns : tie.Need-returns
 returns c = let a = c .before .before .before .args in
-    sym (ap size (form-unwritable (a .buffer .now) (recordOf (a .value)) (sym (c .before .writable .ensures) ∙ not-true _ (c .if1 .taken))))
+    sym (ap lengthOf (form-unwritable (a .buffer .now) (recordOf (a .value)) (sym (c .before .writable .ensures) ∙ not-true _ (c .if1 .taken))))
 
 in-range-requires : tie.Need-in-range-requires
 in-range-requires c κs = search needs
 
 returns-2 : tie.Need-returns-2
 returns-2 c = let a = c .before .before .before .before .before .args in
-    sym (ap size (form-outside (a .buffer .now) (recordOf (a .value)) (fields (c .before .before)) (sym (c .before .in-range .ensures) ∙ not-true _ (c .if2 .taken))))
+    sym (ap lengthOf (form-outside (a .buffer .now) (recordOf (a .value)) (fields (c .before .before)) (sym (c .before .in-range .ensures) ∙ not-true _ (c .if2 .taken))))
 
 form-len-requires : tie.Need-form-len-requires
 form-len-requires c κs = let a = c .before .before .before .before .before in
@@ -43,7 +43,7 @@ returns-3 c = let a = c .before .before .before .before .before .before .args in
     let v = a .value in
     let e = c .before in
     c .form-len .ensures (part (a .buffer .now) (v .a) (v .b)) (part-whole (a .buffer .now) (v .kind) (v .a) (v .b) (fields (e .before .before)) (range e))
-    ∙ sym (ap size (form-whole (a .buffer .now) (recordOf v) (fields (e .before .before)) (range e)) ∙ ap length (value-bytes (a .buffer .now) (v .kind) (v .a) (v .b)))
+    ∙ sym (ap lengthOf (form-whole (a .buffer .now) (recordOf v) (fields (e .before .before)) (range e)) ∙ ap length (value-bytes (a .buffer .now) (v .kind) (v .a) (v .b)))
 
 pub value-len-spec : {M : Type 1} → statement M
 value-len-spec =

@@ -4,7 +4,7 @@ use borrow.Author.Needs.{needs}
 use mathlib.Core.Path.{sym, _∙_}
 use lib.ListN.{length}
 use Rattle.answer.specs.Answer.{within}
-use Rattle.types.specs.Form.{form}
+use Rattle.types.specs.Form.{valueAnswer}
 use Rattle.types.specs.Promise.{recordOf}
 use Rattle.types.proofs.Output.{told}
 use Rattle.types.proofs.write_value.Statement.{statement}
@@ -30,7 +30,7 @@ same-length-2 c = search needs
 returns-2 : tie.Need-returns-2
 returns-2 c = let a = c .before .before .before .before .before .before .before .args in
     let p = c .before .before .before .put-value .ensures in
-    record { says = told (within (length (a .out .now)) (form (a .buffer .now) (recordOf (a .value)))) _ (p .counts) (c .if1 .left); holds = p .holds }
+    record { says = told (within (length (a .out .now)) (valueAnswer (a .buffer .now) (recordOf (a .value)))) _ (p .counts) (c .if1 .left); holds = p .holds }
 
 pub write-value-spec : {M : Type 1} → statement M
 write-value-spec =
