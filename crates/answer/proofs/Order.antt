@@ -2,7 +2,7 @@
 use mathlib.Core.Path.{_≡_, refl, sym, ap, _∙_}
 use mathlib.Core.Bool.{Bool, true, false}
 use mathlib.Core.Logic.{⊎-elim}
-use mathlib.Core.List.{List, [], _∷_}
+use mathlib.Core.List.{List, [], _∷_, _++_}
 use Prim.Native.Nat.{ℕ, zero, suc, _+_, _-_, _≤_, _<_}
 use native.Mathlib.Numerals.{add-one}
 use native.Mathlib.Omega.{arith}
@@ -33,6 +33,33 @@ module _ (n : ℕ) (test : Bool) (checks : List Check) where
   pub first-passed : (n ≡ 0 → ⊥) → first ((n, test) ∷ checks) ≡ 0 → (test ≡ true) × (first checks ≡ 0)
   first-passed ne z =
       bool-cases test (λ t. (t, sym (first-holds t) ∙ z)) (λ t. absurd (ne (sym (first-fails t) ∙ z)))
+
+-- ---- one order behind another
+
+-- no line of it has the number 0, which stands for none
+abbrev pub Numbered : List Check → Type 0
+Numbered [] = Unit
+Numbered ((n, test) ∷ checks) = (n ≡ 0 → ⊥) × Numbered checks
+
+-- where the first order refuses, so do both
+pub first-both : (xs ys : List Check) → (first xs ≡ 0 → ⊥) → first (xs ++ ys) ≡ first xs
+unfolding first
+first-both [] ys ne = absurd (ne refl)
+first-both ((n, test) ∷ xs) ys ne =
+    bool-cases test (λ t. rw t (first-both xs ys (λ z. ne (rw t z)))) (λ t. rw t)
+
+-- and where it does not, both do as the second
+pub first-then : (xs ys : List Check) → Numbered xs → first xs ≡ 0 → first (xs ++ ys) ≡ first ys
+unfolding first
+first-then [] ys some z = refl
+first-then ((n, test) ∷ xs) ys some z =
+    bool-cases test (λ t. rw t (first-then xs ys (some .1) (rw t at z))) (λ t. absurd (some .0 (rw t at z)))
+
+-- so what passes both passes the first
+pub first-front : (xs ys : List Check) → first (xs ++ ys) ≡ 0 → first xs ≡ 0
+first-front xs ys z =
+    bool-cases (eqb (first xs) 0) (λ t. eqb-true (first xs) 0 t)
+    (λ t. let ne = eqb-false (first xs) 0 t in absurd (ne (sym (first-both xs ys ne) ∙ z)))
 
 -- ---- a refusal or what comes after it
 

@@ -28,28 +28,32 @@ module _ {A : Type 0} (at : ℕ → A) where
       ap (records at first) more
       ∙ ap (λ (l : List A). at first ∷ l) (records-both n (suc first) k ∙ ap (λ (m : ℕ). records at (suc first) n ++ records at m k) on)
 
-  -- what is left behind the first i of a run
-  pub records-on : (first count i : ℕ) → i < count
-      → records at (first + i) (count - i) ≡ at (first + i) ∷ records at (first + (i + 1)) (count - (i + 1))
+  -- what is left behind the first i
+  pub records-on : (count i : ℕ) → i < count → records at i (count - i) ≡ at i ∷ records at (i + 1) (count - (i + 1))
   unfolding records
-  records-on first count i h =
-      let one : count - i ≡ suc (count - (i + 1)) = omega arith in
-      let next : suc (first + i) ≡ first + (i + 1) = omega arith in
-      ap (records at (first + i)) one ∙ ap (λ (k : ℕ). at (first + i) ∷ records at k (count - (i + 1))) next
+  records-on count i h = let one : count - i ≡ suc (count - (i + 1)) = omega arith in rw (one, add-one i)
 
-  pub records-end : (first count i : ℕ) → count ≤ i → records at (first + i) (count - i) ≡ []
-  records-end first count i h = let none : count - i ≡ 0 = omega arith in ap (records at (first + i)) none ∙ records-none (first + i)
+  pub records-end : (count i : ℕ) → count ≤ i → records at i (count - i) ≡ []
+  records-end count i h = let none : count - i ≡ 0 = omega arith in ap (records at i) none ∙ records-none i
 
-  pub records-start : (first count : ℕ) → records at (first + 0) (count - 0) ≡ records at first count
-  records-start first count =
-      let none : count - 0 ≡ count = omega arith in
-      let here : first + 0 ≡ first = omega arith in
-      ap (records at (first + 0)) none ∙ ap (λ (k : ℕ). records at k count) here
+  pub records-start : (count : ℕ) → records at 0 (count - 0) ≡ records at 0 count
+  records-start count = let none : count - 0 ≡ count = omega arith in ap (records at 0) none
 
   -- one record more
-  pub records-snoc : (first i : ℕ) → records at first (i + 1) ≡ records at first i ++ (at (first + i) ∷ [])
+  pub records-snoc : (i : ℕ) → records at 0 (i + 1) ≡ records at 0 i ++ (at i ∷ [])
   unfolding records
-  records-snoc first i = records-both i first 1
+  records-snoc i = let here : 0 + i ≡ i = omega arith in records-both i 0 1 ∙ ap (λ (k : ℕ). records at 0 i ++ (at k ∷ [])) here
+
+  -- records from a place on are those of the run that starts there
+  run-from : (first n k : ℕ) → records at (first + k) n ≡ records (λ (j : ℕ). at (first + j)) k n
+  unfolding records
+  run-from first zero k = refl
+  run-from first (suc n) k =
+      let next : suc (first + k) ≡ first + suc k = omega arith in
+      ap (λ (l : List A). at (first + k) ∷ l) (ap (λ (m : ℕ). records at m n) next ∙ run-from first n (suc k))
+
+  pub records-run : (first n : ℕ) → records at first n ≡ records (λ (j : ℕ). at (first + j)) 0 n
+  records-run first n = let here : first ≡ first + 0 = omega arith in ap (λ (m : ℕ). records at m n) here ∙ run-from first n 0
 
 -- ---- one after the other
 
@@ -74,14 +78,12 @@ pub payload-at : {A : Type 0} (bytes : A → List ℕ) (at : ℕ → A) (count i
 payload-at {A = A} bytes at count i h =
     let whole : count ≡ i + (count - i) = omega arith in
     let here : 0 + i ≡ i = omega arith in
-    let next : 0 + (i + 1) ≡ i + 1 = omega arith in
     ap (λ (m : ℕ). joined bytes (records at 0 m)) whole
     ∙ ap (joined bytes) (records-both at i 0 (count - i))
     ∙ joined-both bytes (records at 0 i) (records at (0 + i) (count - i))
-    ∙ ap (λ (l : List A). joined bytes (records at 0 i) ++ joined bytes l) (records-on at 0 count i h)
-    ∙ ap (λ (l : List ℕ). joined bytes (records at 0 i) ++ l) (joined-on bytes (at (0 + i)) (records at (0 + (i + 1)) (count - (i + 1))))
-    ∙ ap (λ (m : ℕ). joined bytes (records at 0 i) ++ (bytes (at m) ++ joined bytes (records at (0 + (i + 1)) (count - (i + 1))))) here
-    ∙ ap (λ (m : ℕ). joined bytes (records at 0 i) ++ (bytes (at i) ++ joined bytes (records at m (count - (i + 1))))) next
+    ∙ ap (λ (m : ℕ). joined bytes (records at 0 i) ++ joined bytes (records at m (count - i))) here
+    ∙ ap (λ (l : List A). joined bytes (records at 0 i) ++ joined bytes l) (records-on at count i h)
+    ∙ ap (λ (l : List ℕ). joined bytes (records at 0 i) ++ l) (joined-on bytes (at i) (records at (i + 1) (count - (i + 1))))
 
 -- ---- some
 

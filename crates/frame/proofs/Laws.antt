@@ -1,9 +1,10 @@
--- Laws about a frame's head.
-use mathlib.Core.Path.{_≡_, refl, ap, _∙_}
+-- Laws about a frame's head, and about where the parts of a whole frame stand.
+use mathlib.Core.Path.{_≡_, refl, sym, ap, _∙_}
 use mathlib.Core.List.{List, [], _∷_, _++_, append-assoc}
-use Prim.Native.Nat.{ℕ, _+_, _/_, _%_, _^_, _<_}
+use Prim.Native.Nat.{ℕ, _+_, _*_, _/_, _%_, _^_, _≤_, _<_}
 use native.Mathlib.Omega.{arith}
-use lib.ListN.{length, length-append}
+use lib.ListN.{length, take, drop, getD, length-append}
+use lib.Seq.{take-at, drop-at}
 use Rattle.varint.specs.Number.{numberBytes}
 use Rattle.frame.specs.declared.Head.{Head}
 use Rattle.frame.specs.Head.{fourBytes, flagsOf, headBytes, frameBytes}
@@ -40,3 +41,66 @@ pub head-parts : (behind : ℕ) (h : Head)
     → (startBytes behind h ++ numberBytes (h .stream)) ++ numberBytes (h .frame) ≡ fourBytes behind ++ headBytes h
 unfolding headBytes
 head-parts behind h = simp append-assoc
+
+-- ---- a whole frame
+
+-- four bytes as a number, the highest first
+abbrev pub fourNumber : List ℕ → ℕ
+fourNumber s = 2 ^ 24 * getD s 0 0 + 2 ^ 16 * getD s 1 0 + 2 ^ 8 * getD s 2 0 + getD s 3 0
+
+-- The four bytes of a number below 2^32, read in network byte order, are the number.
+pub four-says : (n : ℕ) → n < 2 ^ 32 → fourNumber (fourBytes n) ≡ n
+unfolding fourBytes
+four-says n h =
+    let low : n ≡ 2 ^ 8 * (n / 2 ^ 8) + n % 256 = omega arith in
+    let mid : n / 2 ^ 8 ≡ 2 ^ 8 * (n / 2 ^ 16) + n / 2 ^ 8 % 256 = omega arith in
+    let high : n / 2 ^ 16 ≡ 2 ^ 8 * (n / 2 ^ 24) + n / 2 ^ 16 % 256 = omega arith in
+    let top : n / 2 ^ 24 % 256 ≡ n / 2 ^ 24 = omega arith in
+    sum (n / 2 ^ 24) (n / 2 ^ 16) (n / 2 ^ 8) n (n / 2 ^ 24 % 256) (n / 2 ^ 16 % 256) (n / 2 ^ 8 % 256) (n % 256) low mid high top
+  where
+    sum : (d c b n w x y z : ℕ) → n ≡ 2 ^ 8 * b + z → b ≡ 2 ^ 8 * c + y → c ≡ 2 ^ 8 * d + x → w ≡ d → 2 ^ 24 * w + 2 ^ 16 * x + 2 ^ 8 * y + z ≡ n
+    sum d c b n w x y z p q r t = omega arith
+
+-- Where a frame's parts stand: the length of the rest in the first four bytes, the type in the next, the flags in four more, and
+-- then the two numbers and the payload. The rest is within the limit.
+pub record Framed (h : Head) (limit : ℕ) (payload bytes : List ℕ) : Type 0 where
+  pub says : fourNumber (take 4 bytes) ≡ length (drop 4 bytes)
+  pub fits : length (drop 4 bytes) ≤ limit
+  pub type : take 1 (drop 4 bytes) ≡ h .kind ∷ []
+  pub flags : take 4 (drop 5 bytes) ≡ fourBytes (flagsOf (h .fin) (h .abort))
+  pub rest : drop 9 bytes ≡ numberBytes (h .stream) ++ (numberBytes (h .frame) ++ payload)
+
+frame-rest : (h : Head) (payload : List ℕ) → drop 4 (frameBytes h payload) ≡ headBytes h ++ payload
+unfolding frameBytes
+frame-rest h payload = drop-at (fourBytes (length (headBytes h ++ payload))) (headBytes h ++ payload) 4 (four-long (length (headBytes h ++ payload)))
+
+module _ (h : Head) (payload : List ℕ) where
+  length-first : take 4 (frameBytes h payload) ≡ fourBytes (length (headBytes h ++ payload))
+  unfolding frameBytes
+  length-first = take-at (fourBytes (length (headBytes h ++ payload))) (headBytes h ++ payload) 4 (four-long (length (headBytes h ++ payload)))
+
+  type-next : take 1 (headBytes h ++ payload) ≡ h .kind ∷ []
+  unfolding headBytes
+  type-next = refl
+
+  flags-next : take 4 (drop 5 (frameBytes h payload)) ≡ fourBytes (flagsOf (h .fin) (h .abort))
+  unfolding frameBytes fourBytes headBytes
+  flags-next = refl
+
+  numbers-last : drop 9 (frameBytes h payload) ≡ numberBytes (h .stream) ++ (numberBytes (h .frame) ++ payload)
+  unfolding frameBytes fourBytes headBytes
+  numbers-last = append-assoc (numberBytes (h .stream)) (numberBytes (h .frame)) payload
+
+-- Law: a frame within a limit of 32 bits has its parts there.
+pub framed : (h : Head) (limit : ℕ) (payload : List ℕ) → limit < 2 ^ 32 → length (headBytes h ++ payload) ≤ limit → Framed h limit payload (frameBytes h payload)
+framed h limit payload small l =
+    record {
+      says =
+          ap fourNumber (length-first h payload)
+          ∙ four-says (length (headBytes h ++ payload)) (omega arith)
+          ∙ ap length (sym (frame-rest h payload));
+      fits = rw (frame-rest h payload) l;
+      type = ap (take 1) (frame-rest h payload) ∙ type-next h payload;
+      flags = flags-next h payload;
+      rest = numbers-last h payload;
+    }

@@ -1,14 +1,16 @@
-// A frame's head (SPOE.txt, section 3.2): the four length bytes, the type, the flags, and the stream's and the frame's number.
+// A frame's head (SPOE.txt, section 3.2): the four length bytes, the type, the flags, and the stream's and the frame's number. And the
+// records that stand for what its payload holds, as tables of 64-bit numbers have them.
+use answer::NO_ROOM;
+use answer::Refusal;
+use answer::Written;
+use types::Value;
 ghost use mathlib.Core.Path.{_≡_};
 ghost use mathlib.Core.List.{_++_, _∷_};
 ghost use Prim.Native.Nat.{_≤_};
 ghost use lib.ListN.{length};
-ghost use Rattle.answer.specs.Answer.{written, within, leaves};
-ghost use Rattle.answer.specs.Writes.{Writes};
-ghost use Rattle.frame.specs.Head.{fourBytes, flagsOf, headBytes};
-use answer::NO_ROOM;
-use answer::Refusal;
-use answer::Written;
+ghost use Rattle.answer.specs.Answer.{written, leaves};
+ghost use Rattle.frame.specs.Head.{fourBytes, flagsOf};
+ghost use Rattle.frame.specs.Promise.{HeadLen, WriteHead};
 
 // Types of frame (SPOE.txt, section 3.2.2).
 pub const HAPROXY_HELLO: u64 = 1;
@@ -23,6 +25,40 @@ pub const AGENT_DISCONNECT: u64 = 102;
 
 pub const ACK: u64 = 103;
 
+// How many numbers a record has in its table.
+pub const MESSAGE_WIDTH: usize = 4;
+
+pub const PAIR_WIDTH: usize = 5;
+
+pub const ACTION_WIDTH: usize = 7;
+
+// A pair: where its key stands in the buffer, and its value.
+pub struct Pair {
+    pub start: u64,
+    pub len: u64,
+    pub value: Value,
+}
+
+// An action on a variable sets it, or unsets it.
+pub const SET_VAR: u64 = 1;
+
+pub const UNSET_VAR: u64 = 2;
+
+// An action: what it does, the variable's scope, and the variable's name and value as a pair.
+pub struct Action {
+    pub verb: u64,
+    pub scope: u64,
+    pub pair: Pair,
+}
+
+// A message: where its name stands in the buffer, and which pairs are its arguments: `count` of them from pair `first` on.
+pub struct Message {
+    pub start: u64,
+    pub len: u64,
+    pub first: u64,
+    pub count: u64,
+}
+
 // What stands before the payload: the type, the two flags, and the numbers of the stream and of the frame in it.
 pub struct Head {
     pub kind: u8,
@@ -34,14 +70,14 @@ pub struct Head {
 
 // How many bytes the head has, from its type to its second number.
 pub fn head_len(head: Head) -> usize
-    ensures { λ r. ⌜ r ≡ length (headBytes head) ⌝ }
+    ensures { λ r. ⌜ HeadLen head r ⌝ }
 {
     5 + varint::varint_len(head.stream) + varint::varint_len(head.frame)
 }
 
 // Writes the four length bytes and the head. `behind` is the length of the frame behind the length bytes.
 pub fn write_head(behind: u32, head: Head, out: &mut [u8]) -> Written
-    ensures { λ r. ⌜ Writes (within (length (now (out .entry))) (written (fourBytes behind ++ headBytes head))) r (now (out .entry)) (now (out .exit)) ⌝ }
+    ensures { λ r. ⌜ WriteHead behind head r (now (out .entry)) (now (out .exit)) ⌝ }
 {
     if out.len() < 4 + head_len(head) {
         return Written::Refused(Refusal {

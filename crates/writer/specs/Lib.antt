@@ -1,12 +1,8 @@
--- Definitions first: tables and their records, pairs, actions, and the whole answer of a writer. Then the laws.
-pub mod Table
+-- What pairs, actions and messages are written as and refused with; the whole answer of each writer; what the calls promise; and what only
+-- private contracts cite.
 pub mod Pair
 pub mod Action
+pub mod Message
 pub mod Frame
-pub mod Records
-pub mod Loops
-pub mod Pairs
-pub mod Actions
-pub mod Answers
-pub mod Laws
-pub mod Unique
+pub mod Promise
+pub mod Inner

@@ -12,17 +12,14 @@ use Rattle.answer.specs.Answer.{written, within}
 use Rattle.answer.specs.Writes.{Writes}
 use Rattle.frame.specs.Head.{fourBytes, headBytes}
 use Rattle.frame.proofs.Laws.{head-length}
-use Rattle.writer.specs.Answers.{begun-over, begun-short, begun-in, front-length, writes-refused}
+use Rattle.writer.proofs.Begun.{begun-over, begun-short, begun-in, front-length, writes-refused}
 use Rattle.writer.proofs.begin_frame.Statement.{statement}
 use Rattle.writer.proofs.begin_frame.Tie as tie
 
-refuse-requires : tie.Need-refuse-requires
-refuse-requires c κs = search needs
-
 returns : tie.Need-returns
 returns c =
-    let a = c .before .before .before .args in
-    rw (c .refuse .ensures) (writes-refused 12 (a .out .now) (begun-over (length (a .out .now)) (a .limit) (a .head) (a .len) (omega (arith, c .before .if1 .taken))))
+    let a = c .before .before .args in
+    writes-refused 12 (a .out .now) (begun-over (length (a .out .now)) (a .limit) (a .head) (a .len) (omega (arith, c .if1 .taken)))
 
 head-len-requires : tie.Need-head-len-requires
 head-len-requires c κs = search needs
@@ -40,24 +37,16 @@ add-behind c = omega (arith, small c)
 add-whole : tie.Need-add-whole
 add-whole c = omega (arith, small c)
 
-refuse-requires-2 : tie.Need-refuse-requires-2
-refuse-requires-2 c κs = search needs
-
 returns-2 : tie.Need-returns-2
 returns-2 c =
-    let a = c .before .before .before .before .before .args in
-    rw (c .refuse2 .ensures)
-    (writes-refused 12 (a .out .now) (begun-over (length (a .out .now)) (a .limit) (a .head) (a .len) (omega (arith, c .before .if2 .taken, c .before .before .head-len .ensures))))
-
-refuse-requires-3 : tie.Need-refuse-requires-3
-refuse-requires-3 c κs = search needs
+    let a = c .before .before .before .before .args in
+    writes-refused 12 (a .out .now) (begun-over (length (a .out .now)) (a .limit) (a .head) (a .len) (omega (arith, c .if2 .taken, c .before .head-len .ensures)))
 
 returns-3 : tie.Need-returns-3
 returns-3 c =
-    let a = c .before .before .before .before .before .before .args in
-    let n = c .before .before .before .head-len .ensures in
-    rw (c .refuse3 .ensures)
-    (writes-refused 11 (a .out .now) (begun-short (length (a .out .now)) (a .limit) (a .head) (a .len) (omega (arith, c .before .before .if2 .left, n)) (omega (arith, c .before .if3 .taken, n))))
+    let a = c .before .before .before .before .before .args in
+    let n = c .before .before .head-len .ensures in
+    writes-refused 11 (a .out .now) (begun-short (length (a .out .now)) (a .limit) (a .head) (a .len) (omega (arith, c .before .if2 .left, n)) (omega (arith, c .if3 .taken, n)))
 
 cast-write-head : tie.Need-cast-write-head
 cast-write-head c = search needs
@@ -82,14 +71,11 @@ pub begin-frame-spec : {M : Type 1} → statement M
 begin-frame-spec =
     tie.close
     (tie.spec
-    refuse-requires
     returns
     head-len-requires
     add-behind
     add-whole
-    refuse-requires-2
     returns-2
-    refuse-requires-3
     returns-3
     cast-write-head
     write-head-requires

@@ -2,7 +2,7 @@
 -- Assumes nothing.
 use borrow.Author.Needs.{needs}
 use mathlib.Core.Path.{sym}
-use Rattle.writer.specs.Records.{capped-in, capped-over}
+use Rattle.writer.proofs.Capped.{capped-in, capped-over}
 use Rattle.writer.proofs.cap.Statement.{statement}
 use Rattle.writer.proofs.cap.Tie as tie
 

@@ -1,0 +1,9 @@
+-- Laws about the writers: lengths as far as they matter, the records' checks and bytes, the loop that checks and measures, the front of a
+-- frame, what each answer is and what an accepted one has passed, and that no second result meets a promise.
+pub mod Capped
+pub mod Pairs
+pub mod Actions
+pub mod Checking
+pub mod Begun
+pub mod Answers
+pub mod Messages

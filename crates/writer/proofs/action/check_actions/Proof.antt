@@ -1,0 +1,112 @@
+-- `writer::action::check_actions` meets its contract: the loop checks and measures one record after the other.
+-- Assumes nothing.
+use borrow.Author.Needs.{needs}
+use mathlib.Core.Path.{_≡_, sym, ap, _∙_}
+use mathlib.Core.List.{List}
+use Prim.Native.Nat.{ℕ, _-_, _≤_}
+use native.Mathlib.Omega.{arith}
+use lib.ListN.{length}
+use Rattle.answer.specs.Order.{first}
+use Rattle.frame.specs.declared.Action.{Action}
+use Rattle.frame.specs.Records.{actionAt}
+use Rattle.writer.specs.Action.{actionBytes, actionChecks, actionRefusal}
+use Rattle.writer.specs.Inner.{capped}
+use Rattle.writer.proofs.Capped.{capped-most}
+use Rattle.writer.proofs.Actions.{action-number}
+use Rattle.writer.proofs.Checking.{Checking, checking-none, checking-small, checking-on, checking-here, checking-all}
+use Rattle.writer.proofs.action.check_actions.Statement.{statement}
+use Rattle.writer.proofs.action.check_actions.Tie as tie
+
+abbrev Inv-loop : tie.InvT-loop
+Inv-loop actions count buffer most len₀ i₀ len i =
+    (i ≤ count) × Checking (actionRefusal buffer actions) (actionBytes buffer) (actionAt actions) most len i
+
+abbrev μ-loop : tie.MeasureT-loop
+μ-loop actions count buffer most len₀ i₀ len i = count - i
+
+abbrev start : tie.In-loop Inv-loop μ-loop → tie.Start Inv-loop μ-loop
+start t = t .before .before .before .before
+
+loop-holds : tie.Need-loop-holds Inv-loop μ-loop
+loop-holds c = (omega arith, checking-none _ _ _ _)
+
+action-at-requires : tie.Need-action-at-requires Inv-loop μ-loop
+action-at-requires c κs = omega (arith, start c .pre, c .loop-test .taken)
+
+check-action-requires : tie.Need-check-action-requires Inv-loop μ-loop
+check-action-requires c κs = search needs
+
+-- what the check of action i found
+own : (c : tie.After-check-action Inv-loop μ-loop)
+    → let t = c .before .before in
+    let a = start t .args in
+    actionRefusal (a .buffer .now) (a .actions .now) (t .before .loop .i) ≡ c .check-action .result
+own c =
+    let t = c .before .before in
+    let a = start t .args in
+    action-number (a .buffer .now) (a .actions .now) (t .before .loop .i)
+    ∙ sym (c .check-action .ensures ∙ ap (λ (x : Action). first (actionChecks (a .buffer .now) x)) (c .before .action-at .ensures))
+
+returns : tie.Need-returns Inv-loop μ-loop
+returns c =
+    let k = c .before in
+    let t = k .before .before in
+    checking-here (t .before .loop .inv .1) _ _ (t .loop-test .taken) (own k) (c .if1 .taken) _
+
+action-len-requires : tie.Need-action-len-requires Inv-loop μ-loop
+action-len-requires c κs = sym (c .before .check-action .ensures) ∙ c .if1 .left
+
+-- and how long it is
+length-is : (c : tie.After-action-len Inv-loop μ-loop)
+    → let t = c .before .before .before .before in
+    let a = start t .args in
+    c .action-len .result ≡ capped (a .most) (length (actionBytes (a .buffer .now) (actionAt (a .actions .now) (t .before .loop .i))))
+length-is c =
+    let g = c .before .before .before in
+    let a = start (g .before) .args in
+    c .action-len .ensures ∙ ap (λ (x : Action). capped (a .most) (length (actionBytes (a .buffer .now) x))) (g .action-at .ensures)
+
+add-cap : tie.Need-add-cap Inv-loop μ-loop
+add-cap c =
+    let t = c .before .before .before .before in
+    let a = start t .args in
+    omega (arith, checking-small (t .before .loop .inv .1), length-is c, capped-most (a .most) (length (actionBytes (a .buffer .now) (actionAt (a .actions .now) (t .before .loop .i)))), start t .fits)
+
+cap-requires : tie.Need-cap-requires Inv-loop μ-loop
+cap-requires c κs = search needs
+
+add-i : tie.Need-add-i Inv-loop μ-loop
+add-i c = let t = c .before .before .before .before .before in omega (arith, t .loop-test .taken, start t .fits)
+
+loop-less : tie.Need-loop-less Inv-loop μ-loop
+loop-less c = omega (arith, c .before .before .before .before .before .loop-test .taken)
+
+loop-again : tie.Need-loop-again Inv-loop μ-loop
+loop-again c =
+    let l = c .before in
+    let e = l .before in
+    let t = e .before .before .before in (
+      omega (arith, t .loop-test .taken),
+      checking-on (t .before .loop .inv .1) (own (e .before) ∙ e .if1 .left) (l .action-len .result) (c .cap .result) (length-is l) (c .cap .ensures),
+    )
+
+returns-2 : tie.Need-returns-2 Inv-loop μ-loop
+returns-2 c = let l = c .before .loop in checking-all (l .inv .1) _ (omega (arith, l .inv .0, c .loop-test .left))
+
+pub check-actions-spec : {M : Type 1} → statement M
+check-actions-spec =
+    tie.close
+    (tie.spec
+    Inv-loop
+    μ-loop
+    loop-holds
+    action-at-requires
+    check-action-requires
+    returns
+    action-len-requires
+    add-cap
+    cap-requires
+    add-i
+    loop-less
+    loop-again
+    returns-2)

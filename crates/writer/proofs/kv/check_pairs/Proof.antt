@@ -1,0 +1,136 @@
+-- `writer::kv::check_pairs` meets its contract: the loop checks and measures one record after the other, each key against those before.
+-- Assumes nothing.
+use borrow.Author.Needs.{needs}
+use mathlib.Core.Path.{_≡_, sym, ap, _∙_}
+use mathlib.Core.List.{List}
+use Prim.Native.Nat.{ℕ, _+_, _-_, _≤_}
+use native.Mathlib.Omega.{arith}
+use lib.ListN.{length}
+use Rattle.answer.specs.Order.{first}
+use Rattle.answer.specs.Inner.{Sound}
+use Rattle.answer.proofs.Order.{sound-on}
+use Rattle.frame.specs.declared.Pair.{Pair}
+use Rattle.frame.specs.Records.{pairAt}
+use Rattle.writer.specs.Pair.{pairBytes, pairChecks, pairRefusal, kvRefusal}
+use Rattle.writer.specs.Inner.{capped}
+use Rattle.writer.proofs.Capped.{capped-most}
+use Rattle.writer.proofs.Pairs.{pair-number, formed-passed, kv-own, kv-met, kv-new, kv-sound}
+use Rattle.writer.proofs.Checking.{Checking, checking-none, checking-small, checking-on, checking-here, checking-all}
+use Rattle.writer.proofs.kv.check_pairs.Statement.{statement}
+use Rattle.writer.proofs.kv.check_pairs.Tie as tie
+
+abbrev Inv-loop : tie.InvT-loop
+Inv-loop pairs count buffer most len₀ i₀ len i =
+    (i ≤ count) × Checking (kvRefusal buffer pairs) (pairBytes buffer) (pairAt pairs) most len i
+
+abbrev μ-loop : tie.MeasureT-loop
+μ-loop pairs count buffer most len₀ i₀ len i = count - i
+
+abbrev start : tie.In-loop Inv-loop μ-loop → tie.Start Inv-loop μ-loop
+start t = t .before .before .before .before
+
+loop-holds : tie.Need-loop-holds Inv-loop μ-loop
+loop-holds c = (omega arith, checking-none _ _ _ _)
+
+pair-at-requires : tie.Need-pair-at-requires Inv-loop μ-loop
+pair-at-requires c κs = omega (arith, start c .pre, c .loop-test .taken)
+
+check-pair-requires : tie.Need-check-pair-requires Inv-loop μ-loop
+check-pair-requires c κs = search needs
+
+-- what the check of pair i found
+own : (c : tie.After-check-pair Inv-loop μ-loop)
+    → let t = c .before .before in
+    let a = start t .args in
+    pairRefusal (a .buffer .now) (a .pairs .now) (t .before .loop .i) ≡ c .check-pair .result
+own c =
+    let t = c .before .before in
+    let a = start t .args in
+    pair-number (a .buffer .now) (a .pairs .now) (t .before .loop .i)
+    ∙ sym (c .check-pair .ensures ∙ ap (λ (x : Pair). first (pairChecks (a .buffer .now) x)) (c .before .pair-at .ensures))
+
+returns : tie.Need-returns Inv-loop μ-loop
+returns c =
+    let k = c .before in
+    let t = k .before .before in
+    checking-here (t .before .loop .inv .1) _ _ (t .loop-test .taken) (kv-own _ _ _ _ (own k) (c .if1 .taken)) (c .if1 .taken) _
+
+-- past the first test it is not refused on its own, and no record before it is
+passed : (e : tie.Else1 Inv-loop μ-loop)
+    → let t = e .before .before .before in
+    let a = start t .args in
+    pairRefusal (a .buffer .now) (a .pairs .now) (t .before .loop .i) ≡ 0
+passed e = own (e .before) ∙ e .if1 .left
+
+key-met-requires : tie.Need-key-met-requires Inv-loop μ-loop
+key-met-requires c κs =
+    let t = c .before .before .before in
+    (omega (arith, start t .pre, t .loop-test .taken), sound-on (kv-sound (start t .args .buffer .now) (start t .args .pairs .now) (t .before .loop .inv .1 .sound)) (passed c))
+
+returns-2 : tie.Need-returns-2 Inv-loop μ-loop
+returns-2 c =
+    let m = c .before in
+    let e = m .before in
+    let t = e .before .before .before in
+    checking-here (t .before .loop .inv .1) _ 9 (t .loop-test .taken) (kv-met _ _ _ (passed e) (sym (m .key-met .ensures) ∙ c .if2 .taken)) (λ z. omega arith) _
+
+pair-len-requires : tie.Need-pair-len-requires Inv-loop μ-loop
+pair-len-requires c κs = let e = c .before .before in formed-passed _ _ (sym (e .before .check-pair .ensures) ∙ e .if1 .left)
+
+-- and how long it is
+length-is : (c : tie.After-pair-len Inv-loop μ-loop)
+    → let t = c .before .before .before .before .before .before in
+    let a = start t .args in
+    c .pair-len .result ≡ capped (a .most) (length (pairBytes (a .buffer .now) (pairAt (a .pairs .now) (t .before .loop .i))))
+length-is c =
+    let g = c .before .before .before .before .before in
+    let a = start (g .before) .args in
+    c .pair-len .ensures ∙ ap (λ (x : Pair). capped (a .most) (length (pairBytes (a .buffer .now) x))) (g .pair-at .ensures)
+
+add-cap : tie.Need-add-cap Inv-loop μ-loop
+add-cap c =
+    let t = c .before .before .before .before .before .before in
+    let a = start t .args in
+    omega (arith, checking-small (t .before .loop .inv .1), length-is c, capped-most (a .most) (length (pairBytes (a .buffer .now) (pairAt (a .pairs .now) (t .before .loop .i)))), start t .fits)
+
+cap-requires : tie.Need-cap-requires Inv-loop μ-loop
+cap-requires c κs = search needs
+
+add-i : tie.Need-add-i Inv-loop μ-loop
+add-i c = let t = c .before .before .before .before .before .before .before in omega (arith, t .loop-test .taken, start t .fits)
+
+loop-less : tie.Need-loop-less Inv-loop μ-loop
+loop-less c = omega (arith, c .before .before .before .before .before .before .before .loop-test .taken)
+
+loop-again : tie.Need-loop-again Inv-loop μ-loop
+loop-again c =
+    let l = c .before in
+    let n = l .before in
+    let e = n .before .before in
+    let t = e .before .before .before in (
+      omega (arith, t .loop-test .taken),
+      checking-on (t .before .loop .inv .1) (kv-new _ _ _ (passed e) (sym (n .before .key-met .ensures) ∙ n .if2 .left)) (l .pair-len .result) (c .cap .result) (length-is l) (c .cap .ensures),
+    )
+
+returns-3 : tie.Need-returns-3 Inv-loop μ-loop
+returns-3 c = let l = c .before .loop in checking-all (l .inv .1) _ (omega (arith, l .inv .0, c .loop-test .left))
+
+pub check-pairs-spec : {M : Type 1} → statement M
+check-pairs-spec =
+    tie.close
+    (tie.spec
+    Inv-loop
+    μ-loop
+    loop-holds
+    pair-at-requires
+    check-pair-requires
+    returns
+    key-met-requires
+    returns-2
+    pair-len-requires
+    add-cap
+    cap-requires
+    add-i
+    loop-less
+    loop-again
+    returns-3)

@@ -1,0 +1,112 @@
+-- `writer::notify::check_arguments` meets its contract: the loop checks and measures one record after the other.
+-- Assumes nothing.
+use borrow.Author.Needs.{needs}
+use mathlib.Core.Path.{_≡_, sym, ap, _∙_}
+use mathlib.Core.List.{List}
+use Prim.Native.Nat.{ℕ, _-_, _≤_}
+use native.Mathlib.Omega.{arith}
+use lib.ListN.{length}
+use Rattle.answer.specs.Order.{first}
+use Rattle.frame.specs.declared.Pair.{Pair}
+use Rattle.frame.specs.Records.{pairAt}
+use Rattle.writer.specs.Pair.{pairBytes, pairChecks, pairRefusal}
+use Rattle.writer.specs.Inner.{capped}
+use Rattle.writer.proofs.Capped.{capped-most}
+use Rattle.writer.proofs.Pairs.{pair-number, formed-passed}
+use Rattle.writer.proofs.Checking.{Checking, checking-none, checking-small, checking-on, checking-here, checking-all}
+use Rattle.writer.proofs.notify.check_arguments.Statement.{statement}
+use Rattle.writer.proofs.notify.check_arguments.Tie as tie
+
+abbrev Inv-loop : tie.InvT-loop
+Inv-loop pairs count buffer most len₀ i₀ len i =
+    (i ≤ count) × Checking (pairRefusal buffer pairs) (pairBytes buffer) (pairAt pairs) most len i
+
+abbrev μ-loop : tie.MeasureT-loop
+μ-loop pairs count buffer most len₀ i₀ len i = count - i
+
+abbrev start : tie.In-loop Inv-loop μ-loop → tie.Start Inv-loop μ-loop
+start t = t .before .before .before .before
+
+loop-holds : tie.Need-loop-holds Inv-loop μ-loop
+loop-holds c = (omega arith, checking-none _ _ _ _)
+
+pair-at-requires : tie.Need-pair-at-requires Inv-loop μ-loop
+pair-at-requires c κs = omega (arith, start c .pre, c .loop-test .taken)
+
+check-pair-requires : tie.Need-check-pair-requires Inv-loop μ-loop
+check-pair-requires c κs = search needs
+
+-- what the check of pair i found
+own : (c : tie.After-check-pair Inv-loop μ-loop)
+    → let t = c .before .before in
+    let a = start t .args in
+    pairRefusal (a .buffer .now) (a .pairs .now) (t .before .loop .i) ≡ c .check-pair .result
+own c =
+    let t = c .before .before in
+    let a = start t .args in
+    pair-number (a .buffer .now) (a .pairs .now) (t .before .loop .i)
+    ∙ sym (c .check-pair .ensures ∙ ap (λ (x : Pair). first (pairChecks (a .buffer .now) x)) (c .before .pair-at .ensures))
+
+returns : tie.Need-returns Inv-loop μ-loop
+returns c =
+    let k = c .before in
+    let t = k .before .before in
+    checking-here (t .before .loop .inv .1) _ _ (t .loop-test .taken) (own k) (c .if1 .taken) _
+
+pair-len-requires : tie.Need-pair-len-requires Inv-loop μ-loop
+pair-len-requires c κs = formed-passed _ _ (sym (c .before .check-pair .ensures) ∙ c .if1 .left)
+
+-- and how long it is
+length-is : (c : tie.After-pair-len Inv-loop μ-loop)
+    → let t = c .before .before .before .before in
+    let a = start t .args in
+    c .pair-len .result ≡ capped (a .most) (length (pairBytes (a .buffer .now) (pairAt (a .pairs .now) (t .before .loop .i))))
+length-is c =
+    let g = c .before .before .before in
+    let a = start (g .before) .args in
+    c .pair-len .ensures ∙ ap (λ (x : Pair). capped (a .most) (length (pairBytes (a .buffer .now) x))) (g .pair-at .ensures)
+
+add-cap : tie.Need-add-cap Inv-loop μ-loop
+add-cap c =
+    let t = c .before .before .before .before in
+    let a = start t .args in
+    omega (arith, checking-small (t .before .loop .inv .1), length-is c, capped-most (a .most) (length (pairBytes (a .buffer .now) (pairAt (a .pairs .now) (t .before .loop .i)))), start t .fits)
+
+cap-requires : tie.Need-cap-requires Inv-loop μ-loop
+cap-requires c κs = search needs
+
+add-i : tie.Need-add-i Inv-loop μ-loop
+add-i c = let t = c .before .before .before .before .before in omega (arith, t .loop-test .taken, start t .fits)
+
+loop-less : tie.Need-loop-less Inv-loop μ-loop
+loop-less c = omega (arith, c .before .before .before .before .before .loop-test .taken)
+
+loop-again : tie.Need-loop-again Inv-loop μ-loop
+loop-again c =
+    let l = c .before in
+    let e = l .before in
+    let t = e .before .before .before in (
+      omega (arith, t .loop-test .taken),
+      checking-on (t .before .loop .inv .1) (own (e .before) ∙ e .if1 .left) (l .pair-len .result) (c .cap .result) (length-is l) (c .cap .ensures),
+    )
+
+returns-2 : tie.Need-returns-2 Inv-loop μ-loop
+returns-2 c = let l = c .before .loop in checking-all (l .inv .1) _ (omega (arith, l .inv .0, c .loop-test .left))
+
+pub check-arguments-spec : {M : Type 1} → statement M
+check-arguments-spec =
+    tie.close
+    (tie.spec
+    Inv-loop
+    μ-loop
+    loop-holds
+    pair-at-requires
+    check-pair-requires
+    returns
+    pair-len-requires
+    add-cap
+    cap-requires
+    add-i
+    loop-less
+    loop-again
+    returns-2)

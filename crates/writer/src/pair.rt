@@ -1,0 +1,90 @@
+// Pairs: checked, measured and written, one by one and in runs.
+use answer::NOT_WRITABLE;
+use crate::cap;
+use frame::PAIR_WIDTH;
+use frame::Pair;
+use types::Value;
+ghost use mathlib.Core.Path.{_≡_};
+ghost use Prim.Native.Nat.{_+_, _*_, _≤_};
+ghost use lib.ListN.{length};
+ghost use Rattle.answer.specs.Answer.{written, leaves};
+ghost use Rattle.answer.specs.Order.{first as firstOf};
+ghost use Rattle.answer.specs.Table.{records, joined};
+ghost use Rattle.frame.specs.Records.{pairWidth, pairAt};
+ghost use Rattle.writer.specs.Pair.{pairBytes, pairChecks};
+ghost use Rattle.writer.specs.Inner.{capped, Formed, FormedRun};
+
+// Record i of a table of pairs.
+pub(crate) fn pair_at(pairs: &[u64], i: usize) -> Pair
+    requires { ⌜ i * pairWidth + pairWidth ≤ length (now pairs) ⌝ }
+    ensures { λ r. ⌜ r ≡ pairAt (now (pairs .entry)) i ⌝ }
+{
+    let at = i * PAIR_WIDTH;
+    Pair {
+        start: pairs[at],
+        len: pairs[at + 1],
+        value: Value {
+            kind: pairs[at + 2],
+            a: pairs[at + 3],
+            b: pairs[at + 4],
+        },
+    }
+}
+
+// What a pair on its own is refused with: 14, 16 or 15, the first that holds; else 0.
+pub(crate) fn check_pair(pair: Pair, buffer: &[u8]) -> u64
+    ensures { λ r. ⌜ r ≡ firstOf (pairChecks (now (buffer .entry)) pair) ⌝ }
+{
+    if !types::writable(pair.value) {
+        return NOT_WRITABLE;
+    }
+    let key = types::check_string(pair.start, pair.len, buffer);
+    if key != 0 {
+        return key;
+    }
+    types::check_part(pair.value, buffer)
+}
+
+// How many bytes the written form of a pair has, as far as it matters.
+pub(crate) fn pair_len(pair: Pair, buffer: &[u8], most: u32) -> u64
+    requires { ⌜ Formed (now buffer) pair ⌝ }
+    ensures { λ r. ⌜ r ≡ capped most (length (pairBytes (now (buffer .entry)) pair)) ⌝ }
+{
+    let key = cap(varint::varint_len(pair.len) as u64 + pair.len, most);
+    cap(key + types::value_len(pair.value, buffer) as u64, most)
+}
+
+// Writes a pair that has a written form, where there is room.
+pub(crate) fn put_pair(pair: Pair, buffer: &[u8], out: &mut [u8]) -> usize
+    requires { ⌜ Formed (now buffer) pair ⌝ }
+    requires { ⌜ length (pairBytes (now buffer) pair) ≤ length (now out) ⌝ }
+    ensures { λ r. ⌜ r ≡ length (pairBytes (now (buffer .entry)) pair) ⌝ }
+    ensures { λ r. ⌜ now (out .exit) ≡ leaves (written (pairBytes (now (buffer .entry)) pair)) (now (out .entry)) ⌝ }
+{
+    let from = pair.start as usize;
+    let to = from + pair.len as usize;
+    let n = answer::wrote(types::write_string(&buffer[from..to], out));
+    n + answer::wrote(types::write_value(pair.value, buffer, &mut out[n..]))
+}
+
+// Writes `count` pairs from pair `first` on, one after the other, where there is room.
+pub(crate) fn put_pairs(
+    pairs: &[u64],
+    first: usize,
+    count: usize,
+    buffer: &[u8],
+    out: &mut [u8],
+) -> usize
+    requires { ⌜ FormedRun (now buffer) (now pairs) first count ⌝ }
+    requires { ⌜ length (joined (pairBytes (now buffer)) (records (pairAt (now pairs)) first count)) ≤ length (now out) ⌝ }
+    ensures { λ r. ⌜ r ≡ length (joined (pairBytes (now (buffer .entry))) (records (pairAt (now (pairs .entry))) first count)) ⌝ }
+    ensures { λ r. ⌜ now (out .exit) ≡ leaves (written (joined (pairBytes (now (buffer .entry))) (records (pairAt (now (pairs .entry))) first count))) (now (out .entry)) ⌝ }
+{
+    let mut at = 0;
+    let mut i = 0;
+    while i < count {
+        at += put_pair(pair_at(pairs, first + i), buffer, &mut out[at..]);
+        i += 1;
+    }
+    at
+}
