@@ -44,7 +44,8 @@ class Chunk:
 
 
 class Module:
-    """A file of a library, with its definitions by their names and its `use` lines."""
+    """A file of a library: its definitions, its `use` lines, and the names that can be written in it. Of these `patterns` are
+    constructors, and `parts` are what stands between the places of an operator."""
 
     def __init__(self, crate, path):
         self.crate, self.stem, self.file = crate, path.stem, str(path.relative_to(TOP / "crates" / crate))
@@ -52,7 +53,7 @@ class Module:
         comment = ANTT_COMMENT if path.suffix == ".antt" else RT_COMMENT
         # Spaces in the place of comments, so that lines and columns stay.
         self.code = comment.sub(lambda m: m[0] if m[1] else re.sub(r"[^\n]", " ", m[0]), self.raw)
-        self.items, self.own, self.uses, self.scope = [], {}, [], None
+        self.items, self.own, self.uses, self.scope, self.patterns, self.parts = [], {}, [], None, set(), {}
 
     def fault(self, *words):
         faults.append(": ".join(("believe", self.crate, self.file) + words))
@@ -99,14 +100,14 @@ def read_antt(module):
         elif kind in ("infix", "infixl", "infixr"):
             fixities.append((chunk, section))
         elif kind in ("module", "mutual", "data", "record") or is_signature(words):
-            name = {"module": None, "mutual": None, "data": words[1], "record": words[1]}.get(kind, kind)
+            name = None if kind in ("module", "mutual") else words[1] if kind in ("data", "record") else kind
             last = Item(module, name, section, marks)
             sections[chunk] = last
             last.constructors = constructors_of(chunk) if kind == "data" else set()
             last.chunks.append(chunk)
             module.items.append(last)
             module.own.update((word, last) for word in last.constructors | {name} if word)
-        elif kind != "mod" and last:
+        elif last and kind not in ("mod", "open", "ruleset"):
             last.chunks.append(chunk)
         elif kind != "mod":
             module.fault(f"line {chunk.first}", "this declaration cannot be read here")
@@ -136,8 +137,9 @@ def variables(words, is_clause):
     """The names before a colon in a bracket, those that λ and let bind, and those on the left of a clause."""
     text = " ".join(words)
     bound = re.findall(rf"[({{] ((?:{NAME} )+?):", text) + re.findall(rf"\b(?:λ|let) ((?:{NAME} )+?)[.:=]", text)
-    left = re.split(r" = (?![^({]*[)}])", text)[0] if is_clause else ""
-    return set(" ".join(bound + [left]).split()) - {*"(){},._"}
+    if is_clause and words[0] not in ("unfolding", "infix", "infixl", "infixr"):
+        bound.append(re.split(r" = (?![^({]*[)}])", text)[0])
+    return set(" ".join(bound).split())
 
 
 def closing(text, at):
@@ -176,11 +178,11 @@ class Sources:
         self.modules = {}
         for crate in self.crates:
             for folder in ("specs", "proofs", "src"):
-                for path in sorted((TOP / "crates" / crate / folder).glob("*.rt" if folder == "src" else "*.antt")):
+                for path in sorted((TOP / "crates" / crate / folder).glob("*.antt" if folder != "src" else "**/*.rt")):
                     self.add(crate, folder, Module(crate, path))
 
     def add(self, crate, folder, module):
-        self.modules[crate, folder, module.stem] = module
+        self.modules[crate, folder, module.file if folder == "src" else module.stem] = module
         if folder == "src":
             module.uses = [" ".join(use.split()) for use in re.findall(r"\bghost use\s+([^;]+);", module.code)]
         else:
@@ -207,24 +209,33 @@ class Sources:
         """Each name of a file's own or of its `use` lines: a definition, or the path of a module."""
         if module.scope is None:
             module.scope = dict(module.own)
-            for use in module.uses:
-                path, _, leaves = use.partition(".{")
-                if not leaves:
-                    path, _, name = path.partition(" as ")
-                    module.scope[name or path.split(".")[-1]] = path
-                for leaf in re.findall(r"[^,\s}][^,}]*", leaves):
-                    name, _, local = leaf.strip().partition(" as ")
-                    module.scope[local or name.split(".")[-1]] = self.find(f"{path}.{name}", module)
-            # An operator is also written by what stands between its places.
-            for name in [name for name in module.scope if "_" in name.strip("«»")]:
-                for part in filter(None, name.split("_")):
-                    module.scope.setdefault(part, module.scope[name])
+            module.patterns = {word for item in module.items for word in item.constructors}
+            # Modules first, since a line may name a definition by the name that another line gives to its module.
+            for use in sorted(module.uses, key=lambda use: ".{" in use):
+                self.bring(module, *use.partition(".{")[::2])
+            for name in (name for name in module.scope if "_" in name and "«" not in name):
+                module.parts.update((part, module.scope[name]) for part in name.split("_") if part)
         return module.scope
+
+    def bring(self, module, path, leaves):
+        head, dot, rest = path.partition(".")
+        if not leaves:
+            path, _, name = path.partition(" as ")
+            module.scope[name or path.split(".")[-1]] = path
+        elif isinstance(module.scope.get(head), str):
+            path = module.scope[head] + dot + rest
+        if path.endswith("*"):
+            module.fault(f"use {path}", "the names that this brings are not followed")
+        for leaf in re.findall(r"[^,\s}][^,}]*", leaves):
+            name, _, local = leaf.strip().partition(" as ")
+            found = module.scope[local or name.split(".")[-1]] = self.find(f"{path}.{name}", module)
+            if found and name in found.constructors:
+                module.patterns.add(local or name)
 
     def resolve(self, word, module):
         """The definition of this repository that a word stands for, or nothing."""
         head, _, rest = word.partition(".")
-        found = self.scope(module).get(head) or self.scope(module).get(head.strip("_"))
+        found = self.scope(module).get(head) or module.parts.get(head.strip("_"))
         if isinstance(found, str):
             found = self.find(f"{found}.{rest}", module) if rest else None
         return found or (self.find(word, module) if "Rattle·" in head else None)
@@ -235,9 +246,9 @@ class Sources:
     def hidden(self, item):
         """The variables of a definition that are named like another one, so that a reader could take them for it."""
         for chunk in item.chunks:
-            for word in variables(chunk.words(), is_clause=chunk is not item.chunks[0]):
+            for word in variables(chunk.words(), chunk is not item.chunks[0]):
                 found = self.scope(item.module).get(word)
-                if isinstance(found, Item) and found is not item and word in found.module.own and word not in found.constructors:
+                if isinstance(found, Item) and found is not item and word not in item.module.patterns:
                     yield word
 
     def reached(self, items):
