@@ -11,8 +11,9 @@ TOP = Path(__file__).resolve().parent.parent
 NAME = r'(?:«[^»]*»|[^\s(){}.;,@"«»]+)'
 TOKEN = re.compile(rf'"(?:\\.|[^"\\])*"|{NAME}(?:\.{NAME})*|\.{NAME}|\S')
 ANTT_COMMENT = re.compile(r'("(?:\\.|[^"\\])*"|«[^»]*»)|\{-.*?-\}|(?<![^\s(){}.;,@"«»])--[^\n]*', re.S)
-RT_COMMENT = re.compile(r'("(?:\\.|[^"\\])*")|//[^\n]*')
-FUNCTION = re.compile(r'^[ \t]*(pub(?:\([^)]*\))?[ \t]+)?(?:(?:const|unsafe|extern(?:[ \t]*"[^"]*")?)[ \t]+)*fn[ \t]+(\w+)', re.M)
+RT_COMMENT = re.compile(r'("[^"\\\n]?")|"(?:\\.|[^"\\])*"|//[^\n]*', re.S)
+FUNCTION = re.compile(r'\b(pub(?:\([^)]*\))?\s+)?(?:(?:const|unsafe|extern(?:\s*"[^"]*")?)\s+)*fn\s+(\w+)')
+CLAUSE = re.compile(r"(?:[^{};\[]|\[[^]]*\])*?\b(requires|ensures)\s*(?=\{)")
 GROUPS = {"(": ")", "{": "}"}
 
 faults = []
@@ -51,7 +52,7 @@ class Module:
         self.crate, self.stem, self.file = crate, path.stem, str(path.relative_to(TOP / "crates" / crate))
         self.raw = path.read_text()
         comment = ANTT_COMMENT if path.suffix == ".antt" else RT_COMMENT
-        # Spaces in the place of comments, so that lines and columns stay.
+        # Spaces in the place of comments, and of a code's texts but the "C" of a head, so that lines and columns stay.
         self.code = comment.sub(lambda m: m[0] if m[1] else re.sub(r"[^\n]", " ", m[0]), self.raw)
         self.items, self.own, self.uses, self.scope, self.patterns, self.parts = [], {}, [], None, set(), {}
 
@@ -78,7 +79,7 @@ def chunks_of(module):
         goes_on = first in ")}]" or first in ("where", "deriving")
         while indent < levels[-1][0] and not goes_on:
             levels.pop()
-        if indent > levels[-1][0] or goes_on:
+        if chunks and (indent > levels[-1][0] or goes_on):
             chunks[-1].add(number, line)
             continue
         chunks.append(Chunk(number, line, levels[-1][1]))
@@ -127,8 +128,8 @@ def is_signature(words):
 
 def constructors_of(chunk):
     """The names before a colon that begin the lines which are indented least."""
-    body = [line for line in re.split(r"\bwhere\s*\n", chunk.text, maxsplit=1)[-1].split("\n") if line.strip()]
-    margin = min(len(line) - len(line.lstrip()) for line in body)
+    body = [line for line in chunk.text.partition(" where\n")[2].split("\n") if line.strip()]
+    margin = min((len(line) - len(line.lstrip()) for line in body), default=0)
     starts = [TOKEN.findall(line) for line in body if not line[margin].isspace()]
     return {word for words in starts if ":" in words for word in words[: words.index(":")]}
 
@@ -159,7 +160,7 @@ def functions_of(module):
         end = closing(module.code, at)
         parameters = set(re.findall(r"(\w+)\s*:(?!:)", module.code[at:end])) | {"self"}
         clauses, place = {"requires": [], "ensures": []}, end + 1
-        while found := re.compile(r"(?:[^{};\[]|\[[^]]*\])*?\b(requires|ensures)\s*(?=\{)").match(module.code, place):
+        while found := CLAUSE.match(module.code, place):
             place = closing(module.code, found.end()) + 1
             clauses[found[1]].append(TOKEN.findall(module.code[found.end() + 1 : place - 1]))
         yield head[2], (head[1] or "").strip() == "pub", parameters, clauses
@@ -213,7 +214,7 @@ class Sources:
             # Modules first, since a line may name a definition by the name that another line gives to its module.
             for use in sorted(module.uses, key=lambda use: ".{" in use):
                 self.bring(module, *use.partition(".{")[::2])
-            for name in (name for name in module.scope if "_" in name and "«" not in name):
+            for name in (name for name in module.scope if "_" in name and "«" not in name and module.scope[name]):
                 module.parts.update((part, module.scope[name]) for part in name.split("_") if part)
         return module.scope
 
