@@ -1,9 +1,11 @@
 //! KV frames: the port's pairs in their order, the Rust's as the set that its map holds.
 
 use crate::{
+    answers::Answer,
     inputs::{self, Random},
     port,
     records::{self, Frame, NOT_WRITABLE, OUTSIDE, Payload, REPEATED, Wrote, encoding},
+    shrink::{self, Fields},
     text::Difference,
     timing,
 };
@@ -16,7 +18,7 @@ use std::{collections::HashMap, hint::black_box};
 /// The most pairs that are drawn.
 const MOST: usize = 6;
 
-#[derive(Clone, Debug)]
+#[derive(Clone, Debug, PartialEq)]
 struct Call {
     kind: u64,
     fin: bool,
@@ -129,26 +131,66 @@ fn cut(mut bytes: &[u8], encodings: &[Vec<u8>]) -> bool {
 
 // ---------------------------------------------------------------- comparing
 
-fn compare(call: &Call) -> Result<(), Difference> {
+/// Answers the length of the frame, where one was written.
+fn compare(call: &Call) -> Result<Option<usize>, Difference> {
     let (port, rust) = (call.by_port(), call.by_rust());
     if port == rust {
-        return Ok(());
+        return Ok(port.length());
     }
-    Err(records::difference("write_kv", call, [("port", &port), ("rust", &rust)]))
+    let sides = [("port", &port), ("rust", &rust)];
+    Err(records::difference("write_kv", call, sides))
 }
 
 pub fn diff(random: &mut Random, rounds: u64) -> Result<String, Difference> {
     let mut done = 0;
     for _ in 0..rounds {
         let mut call = drawn(random);
-        compare(&call)?;
-        if let Some(length) = call.by_port().length() {
+        if let Some(length) = checked(&call)? {
             done += 1;
             records::to_an_edge(random, length, &mut call.limit, &mut call.room);
-            compare(&call)?;
+            checked(&call)?;
         }
     }
     Ok(format!("{rounds} rounds, {done} of them with a frame written"))
+}
+
+fn checked(call: &Call) -> Result<Option<usize>, Difference> {
+    compare(call).or_else(|_| compare(&shrink::call(call)))
+}
+
+impl shrink::Call for Call {
+    fn differing(&self) -> Option<[Answer; 2]> {
+        let (port, rust) = (self.by_port(), self.by_rust());
+        (port != rust).then_some([port.answer, rust.answer])
+    }
+
+    fn length(&self) -> Option<usize> {
+        self.expected().ok().map(|frame| frame.len())
+    }
+
+    fn with_less(&self) -> Vec<Call> {
+        let fewer = shrink::table(&self.pairs, self.count, 5);
+        let fewer = fewer.into_iter().map(|(pairs, count)| Call {
+            pairs,
+            count,
+            ..self.clone()
+        });
+        let plainer = (self.kind != 1).then(|| Call { kind: 1, ..self.clone() });
+        fewer.chain(plainer).collect()
+    }
+
+    fn fields(&mut self) -> Fields<'_> {
+        Fields {
+            flags: [&mut self.fin, &mut self.abort],
+            limit: &mut self.limit,
+            buffer: &mut self.buffer,
+            room: &mut self.room,
+            numbers: [&mut self.stream, &mut self.frame, &mut self.count]
+                .into_iter()
+                .chain(&mut self.pairs)
+                .collect(),
+        }
+    }
 }
 
 fn drawn(random: &mut Random) -> Call {

@@ -6,7 +6,7 @@ use crate::{
     inputs::{self, Random},
     port,
     records::{self, Frame, NOT_WRITABLE, OUTSIDE, TOO_MANY, Wrote},
-    shrink,
+    shrink::{self, Fields},
     text::{Difference, hex},
     timing,
 };
@@ -27,7 +27,7 @@ const ROW: usize = 64;
 /// A name, and the arguments in their order.
 type Message = (String, Vec<(String, TypedData)>);
 
-#[derive(Clone, Debug)]
+#[derive(Clone, Debug, PartialEq)]
 struct Call {
     fin: bool,
     abort: bool,
@@ -231,71 +231,53 @@ pub fn diff(random: &mut Random, rounds: u64) -> Result<String, Difference> {
 }
 
 fn checked(call: &Call) -> Result<Option<usize>, Difference> {
-    compare(call).or_else(|_| compare(&smallest(call.clone())))
+    compare(call).or_else(|_| compare(&shrink::call(call)))
 }
 
 // ---------------------------------------------------------------- making a call smaller
 
-/// Records go first, then numbers are lowered, and then bytes that no record points at any more can go.
-fn smallest(call: Call) -> Call {
-    let differs = |call: &Call| compare(call).is_err();
-    let mut best = call;
-    while let Some(less) = with_less(&best).into_iter().find(differs) {
-        best = less;
-    }
-    for place in 0..best.numbers().len() {
-        let with = |n| {
-            let mut less = best.clone();
-            *less.numbers()[place] = n;
-            less
-        };
-        let old = *best.clone().numbers()[place];
-        best = with(shrink::number(old, |n| differs(&with(n))));
-    }
-    let with_buffer = |bytes: &[u8]| Call {
-        buffer: bytes.to_vec(),
-        ..best.clone()
-    };
-    best = with_buffer(&shrink::bytes(&best.buffer, |bytes| {
-        differs(&with_buffer(bytes))
-    }));
-    let with_room = |room| Call {
-        room: room as usize,
-        ..best.clone()
-    };
-    // Both sides have to answer as before, or 11 would take the place of what differs.
-    let answers = best.answers();
-    with_room(shrink::number(best.room as u64, |room| {
-        let less = with_room(room);
-        differs(&less) && less.answers() == answers
-    }))
-}
-
-/// Calls with fewer pairs, messages or numbers behind them.
-fn with_less(call: &Call) -> Vec<Call> {
-    let rows = call.rows().count();
-    let mut all = vec![call.without_rests()];
-    for index in 0..rows {
-        let count = call.messages[4 * index + 3] as usize;
-        let fewer = [count, count / 2, 1].map(|less| call.without_pairs(index, less));
-        all.extend(fewer);
-        all.push(Some(call.without_message(index)));
-    }
-    all.into_iter().flatten().collect()
-}
-
-impl Call {
-    fn answers(&self) -> [Answer; 2] {
-        [self.by_port().answer, self.by_paper().answer]
+impl shrink::Call for Call {
+    fn differing(&self) -> Option<[Answer; 2]> {
+        let answers = [self.by_port().answer, self.by_paper().answer];
+        compare(self).is_err().then_some(answers)
     }
 
-    fn numbers(&mut self) -> Vec<&mut u64> {
+    fn length(&self) -> Option<usize> {
+        let messages = self.stands_for().ok()?;
+        Some(self.written(&messages).len())
+    }
+
+    fn with_less(&self) -> Vec<Call> {
+        let mut all = vec![self.without_rests()];
+        for index in 0..self.rows().count() {
+            let count = self.messages[4 * index + 3] as usize;
+            let fewer = [count, count / 2, 1].map(|less| self.without_pairs(index, less));
+            all.extend(fewer);
+            all.push(Some(self.without_message(index)));
+        }
+        let plainer = shrink::with_null(&self.pairs, 5).into_iter();
+        let plainer = plainer.map(|pairs| Call {
+            pairs,
+            ..self.clone()
+        });
+        all.into_iter().flatten().chain(plainer).collect()
+    }
+
+    fn fields(&mut self) -> Fields<'_> {
         let ids = [&mut self.stream, &mut self.frame];
         let counts = [&mut self.message_count, &mut self.pair_count];
         let tables = self.messages.iter_mut().chain(&mut self.pairs);
-        ids.into_iter().chain(counts).chain(tables).collect()
+        Fields {
+            flags: [&mut self.fin, &mut self.abort],
+            limit: &mut self.limit,
+            buffer: &mut self.buffer,
+            room: &mut self.room,
+            numbers: ids.into_iter().chain(counts).chain(tables).collect(),
+        }
     }
+}
 
+impl Call {
     /// Without what stands in the tables behind the records.
     fn without_rests(&self) -> Option<Call> {
         let mut less = self.clone();
