@@ -220,6 +220,33 @@ short (b ∷ s) place e =
     (λ l. let rest = more-short s b 1 place (sym (number-more b s l) ∙ e) in (omega arith, (l, rest .1)))
     (lt-or-le b 240)
 
+-- ---- where a number is refused
+
+pub more-place : (s : List ℕ) (sum k n place : ℕ) → more sum k s ≡ refused n place → place ≤ k + length s
+more-place [] sum k n place e =
+    let one : refused 3 k ≡ refused n place = sym (more-none sum k) ∙ e in
+    let p : k ≡ place = cc in
+    omega arith
+more-place (b ∷ s) sum k n place e =
+    more-cases sum k b
+    (λ broke.
+    let one : refused 7 (suc k) ≡ refused n place = sym (broke s) ∙ e in
+    let p : suc k ≡ place = cc in
+    omega arith)
+    (λ h o ends. not-both (ends s) e)
+    (λ l goes. let next = more-place s (sum + worth k b) (suc k) n place (sym (goes s) ∙ e) in omega arith)
+
+-- Law: a number is refused at a place within the bytes, their end included.
+pub number-place : (s : List ℕ) (n place : ℕ) → number s ≡ refused n place → place ≤ length s
+number-place [] n place e =
+    let one : refused 3 0 ≡ refused n place = sym number-none ∙ e in
+    let p : 0 ≡ place = cc in
+    omega arith
+number-place (b ∷ s) n place e =
+    ⊎-elim (λ l. not-both (number-one b s l) e)
+    (λ l. let next = more-place s b 1 n place (sym (number-more b s l) ∙ e) in omega arith)
+    (lt-or-le b 240)
+
 -- ---- bytes appended
 
 more-kept : (s t : List ℕ) (sum k : ℕ) (a : Answer ℕ) → more sum k s ≡ a → ((place : ℕ) → a ≡ refused 3 place → ⊥) → more sum k (s ++ t) ≡ a
@@ -231,15 +258,15 @@ more-kept (b ∷ s) t sum k a e no3 =
     (λ l goes. goes (s ++ t) ∙ more-kept s t (sum + worth k b) (suc k) a (sym (goes s) ∙ e) no3)
 
 -- Law: with bytes appended, every answer but 3 stays as it was: an accepted number and a 7.
-pub kept : (s t : List ℕ) (a : Answer ℕ) → number s ≡ a → ((place : ℕ) → a ≡ refused 3 place → ⊥) → number (s ++ t) ≡ a
-kept [] t a e no3 = absurd (no3 0 (sym e ∙ number-none))
-kept (b ∷ s) t a e no3 =
+pub number-kept : (s t : List ℕ) (a : Answer ℕ) → number s ≡ a → ((place : ℕ) → a ≡ refused 3 place → ⊥) → number (s ++ t) ≡ a
+number-kept [] t a e no3 = absurd (no3 0 (sym e ∙ number-none))
+number-kept (b ∷ s) t a e no3 =
     ⊎-elim (λ l. number-one b (s ++ t) l ∙ sym (number-one b s l) ∙ e)
     (λ l. number-more b (s ++ t) l ∙ more-kept s t b 1 a (sym (number-more b s l) ∙ e) no3)
     (lt-or-le b 240)
 
 pub accepted-kept : (s t : List ℕ) (v used : ℕ) → number s ≡ done v used → number (s ++ t) ≡ done v used
-accepted-kept s t v used e = kept s t (done v used) e (λ place p. not-both refl p)
+accepted-kept s t v used e = number-kept s t (done v used) e (λ place p. not-both refl p)
 
 pub large-kept : (s t : List ℕ) (place : ℕ) → number s ≡ refused 7 place → number (s ++ t) ≡ refused 7 place
-large-kept s t place e = kept s t (refused 7 place) e (λ p q. let z : _≡_ {A = ℕ} 7 3 = cc in omega arith)
+large-kept s t place e = number-kept s t (refused 7 place) e (λ p q. let z : _≡_ {A = ℕ} 7 3 = cc in omega arith)
