@@ -8,7 +8,6 @@ use answer::TOO_SOON;
 use answer::Written;
 ghost use mathlib.Core.Path.{_≡_};
 ghost use Prim.Native.Nat.{_≤_, _<_, _^_};
-ghost use lib.Dec.{leb};
 ghost use lib.ListN.{length, drop};
 ghost use Rattle.answer.specs.Answer.{written, leaves};
 ghost use Rattle.varint.specs.Number.{more, numberBytes, groups};
@@ -40,7 +39,8 @@ pub fn varint_len(i: u64) -> usize
 pub fn encode_varint(i: u64, out: &mut [u8]) -> Written
     ensures { λ r. ⌜ EncodeVarint i r (now (out .entry)) (now (out .exit)) ⌝ }
 {
-    if !has_room(i, out.len()) {
+    // Ten bytes are always enough, and spare the measuring.
+    if out.len() < 10 && out.len() < varint_len(i) {
         return Written::Refused(Refusal {
             number: NO_ROOM,
             place: 0,
@@ -53,16 +53,6 @@ pub fn encode_varint(i: u64, out: &mut [u8]) -> Written
     out[0] = (240 + i % 16) as u8;
     let n = encode_more((i - 240) / 16, &mut out[1..]);
     Written::Done(1 + n)
-}
-
-// Whether the written form of i has at most `room` bytes. Ten are always enough, and spare the measuring.
-fn has_room(i: u64, room: usize) -> bool
-    ensures { λ r. ⌜ r ≡ leb (length (numberBytes i)) room ⌝ }
-{
-    if 10 <= room {
-        return true;
-    }
-    varint_len(i) <= room
 }
 
 // Writes what follows the first byte, where there is room.
