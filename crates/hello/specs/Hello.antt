@@ -6,7 +6,7 @@ use lib.Dec.{leb, eqb}
 use Rattle.answer.specs.Answer.{Answer, done, refused}
 
 -- "The maximum size supported by peers for a frame must be greater than or equal to 256 bytes", and the agent returns "the lower
--- value between its maximum size allowed for a frame and the HAProxy one". 13 at place 0 where a size is below (document 01).
+-- value between its maximum size allowed for a frame and the HAProxy one". 13 at place 0 where a size is below (docs/RULES.md).
 unfoldable pub frameSize : ℕ → ℕ → Answer Unit
 frameSize theirs ours = cond (leb 256 theirs && leb 256 ours) (done tt (min theirs ours)) (refused 13 0)
 
