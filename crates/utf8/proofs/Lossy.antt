@@ -8,26 +8,26 @@ use native.Mathlib.Omega.{arith}
 use lib.ListN.{length, take, drop, length-append, length-take, length-drop, take-append-drop}
 use lib.Seq.{take-at, drop-at, length-take-le, take-append-le, drop-append-le}
 use Rattle.answer.proofs.Cases.{true-false}
-use Rattle.utf8.specs.Text.{Step, ends, char, mark, step, size, whole, replacement, becomes, isUtf8In, lossyIn, isUtf8, lossy}
+use Rattle.utf8.specs.Text.{Step, ends, char, mark, step, stepSize, whole, replacement, becomes, isUtf8In, lossyIn, isUtf8, lossy}
 use Rattle.utf8.proofs.Stepping.{Bounded, step-bounds, step-kept, step-none, step-replacement, step-ascii}
 
 -- ---- one step
 
 -- a step leaves fewer bytes, or there were none
-rest-length : (s : List ℕ) (left : ℕ) → length s ≤ suc left → length (drop (size (step s)) s) ≤ left
+rest-length : (s : List ℕ) (left : ℕ) → length s ≤ suc left → length (drop (stepSize (step s)) s) ≤ left
 rest-length s left h = simp length-drop (go (step s) (step-bounds s))
   where
-    go : (x : Step) → Bounded x (length s) → length s - size x ≤ left
+    go : (x : Step) → Bounded x (length s) → length s - stepSize x ≤ left
     go ends b = omega arith
     go (char n) b = omega arith
     go (mark n) b = omega arith
 
 module _ (left : ℕ) where
-  lossyIn-on : (s : List ℕ) → lossyIn (suc left) s ≡ becomes (step s) s ++ lossyIn left (drop (size (step s)) s)
+  lossyIn-on : (s : List ℕ) → lossyIn (suc left) s ≡ becomes (step s) s ++ lossyIn left (drop (stepSize (step s)) s)
   unfolding lossyIn
   lossyIn-on s = refl
 
-  isUtf8In-on : (s : List ℕ) → isUtf8In (suc left) s ≡ whole (step s) && isUtf8In left (drop (size (step s)) s)
+  isUtf8In-on : (s : List ℕ) → isUtf8In (suc left) s ≡ whole (step s) && isUtf8In left (drop (stepSize (step s)) s)
   unfolding isUtf8In
   isUtf8In-on s = refl
 
@@ -53,7 +53,7 @@ lossyIn-enough (suc j) zero s h g = rw (empty s g) (lossyIn-none (suc j) ∙ sym
 lossyIn-enough (suc j) (suc k) s h g =
     lossyIn-on j s
     ∙ ap (λ (l : List ℕ). becomes (step s) s ++ l)
-    (lossyIn-enough j k (drop (size (step s)) s) (rest-length s j h) (rest-length s k g))
+    (lossyIn-enough j k (drop (stepSize (step s)) s) (rest-length s j h) (rest-length s k g))
     ∙ sym (lossyIn-on k s)
 
 isUtf8In-enough : (j k : ℕ) (s : List ℕ) → length s ≤ j → length s ≤ k → isUtf8In j s ≡ isUtf8In k s
@@ -62,22 +62,22 @@ isUtf8In-enough (suc j) zero s h g = rw (empty s g) (isUtf8In-none (suc j) ∙ s
 isUtf8In-enough (suc j) (suc k) s h g =
     isUtf8In-on j s
     ∙ ap (λ (l : Bool). whole (step s) && l)
-    (isUtf8In-enough j k (drop (size (step s)) s) (rest-length s j h) (rest-length s k g))
+    (isUtf8In-enough j k (drop (stepSize (step s)) s) (rest-length s j h) (rest-length s k g))
     ∙ sym (isUtf8In-on k s)
 
 -- So both unroll without it.
-pub lossy-on : (s : List ℕ) → lossy s ≡ becomes (step s) s ++ lossy (drop (size (step s)) s)
+pub lossy-on : (s : List ℕ) → lossy s ≡ becomes (step s) s ++ lossy (drop (stepSize (step s)) s)
 unfolding lossy
 lossy-on s =
-    let t = drop (size (step s)) s in
+    let t = drop (stepSize (step s)) s in
     lossyIn-enough (length s) (suc (length s)) s (omega arith) (omega arith)
     ∙ lossyIn-on (length s) s
     ∙ ap (λ (l : List ℕ). becomes (step s) s ++ l) (lossyIn-enough (length s) (length t) t (rest-length s (length s) (omega arith)) (omega arith))
 
-pub isUtf8-on : (s : List ℕ) → isUtf8 s ≡ whole (step s) && isUtf8 (drop (size (step s)) s)
+pub isUtf8-on : (s : List ℕ) → isUtf8 s ≡ whole (step s) && isUtf8 (drop (stepSize (step s)) s)
 unfolding isUtf8
 isUtf8-on s =
-    let t = drop (size (step s)) s in
+    let t = drop (stepSize (step s)) s in
     isUtf8In-enough (length s) (suc (length s)) s (omega arith) (omega arith)
     ∙ isUtf8In-on (length s) s
     ∙ ap (λ (l : Bool). whole (step s) && l) (isUtf8In-enough (length s) (length t) t (rest-length s (length s) (omega arith)) (omega arith))
@@ -113,14 +113,14 @@ module _ (s : List ℕ) (n : ℕ) where
 module _ (P : List ℕ → Type 0) (none : P [])
     (one : (s : List ℕ) (n : ℕ) → step s ≡ char n → P (drop n s) → P s)
     (bad : (s : List ℕ) (n : ℕ) → step s ≡ mark n → P (drop n s) → P s) where
-  next : (s : List ℕ) (x : Step) → step s ≡ x → P (drop (size x) s) → P s
+  next : (s : List ℕ) (x : Step) → step s ≡ x → P (drop (stepSize x) s) → P s
   next s ends is p = p
   next s (char n) is p = one s n is p
   next s (mark n) is p = bad s n is p
 
   within-steps : (left : ℕ) (s : List ℕ) → length s ≤ left → P s
   within-steps zero s h = rw (empty s h) none
-  within-steps (suc left) s h = next s (step s) refl (within-steps left (drop (size (step s)) s) (rest-length s left h))
+  within-steps (suc left) s h = next s (step s) refl (within-steps left (drop (stepSize (step s)) s) (rest-length s left h))
 
   pub by-steps : (s : List ℕ) → P s
   by-steps s = within-steps (length s) s (omega arith)

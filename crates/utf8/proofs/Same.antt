@@ -11,7 +11,7 @@ use lib.ListN.{length, take, drop, getD}
 use native.Mathlib.Numerals.{add-one}
 use lib.Seq.{drop-cons, take-at, length-take-le}
 use borrow.Author.Tests.{eq-eqb, ne-eqb, eqb-true}
-use Rattle.utf8.specs.Text.{Step, ends, char, mark, step, size, becomes, isUtf8, lossy, same, sameText}
+use Rattle.utf8.specs.Text.{Step, ends, char, mark, step, stepSize, becomes, isUtf8, lossy, same, sameText}
 use Rattle.answer.proofs.Cases.{bool-cases, true-false}
 use Rattle.utf8.proofs.Stepping.{Bounded, step-bounds, step-none}
 use Rattle.utf8.proofs.Lossy.{empty, lossy-on, lossy-none, lossy-char, lossy-mark, lossy-same, lossy-step-char, lossy-step-mark, char-bounds}
@@ -83,7 +83,7 @@ abbrev pub piece : List ℕ → List ℕ
 piece s = becomes (step s) s
 
 abbrev pub rest : List ℕ → List ℕ
-rest s = drop (size (step s)) s
+rest s = drop (stepSize (step s)) s
 
 piece-lossy : (s : List ℕ) → piece (lossy s) ≡ piece s
 piece-lossy s = go (step s) refl

@@ -12,7 +12,7 @@ use lib.Seq.{drop-cons, drop-drop}
 use borrow.Author.Tests.{le-leb, lt-leb, eq-eqb, ne-eqb, eqb-true, leb-true}
 use Rattle.answer.proofs.Cases.{bool-cases}
 use Rattle.utf8.specs.Inner.{Led, unused, led, rowFor}
-use Rattle.utf8.specs.Text.{Range, _to_, Row, row, rows, follow, places, starts, inside, front, Step, ends, char, mark, taken, stepIn, step, size, replacement}
+use Rattle.utf8.specs.Text.{Range, _to_, Row, row, rows, follow, places, starts, inRange, front, Step, ends, char, mark, taken, stepIn, step, stepSize, replacement}
 
 -- the step that it leads to
 abbrev pub stepFor : Led → List ℕ → Step
@@ -22,27 +22,27 @@ stepFor (led (row lead second bytes)) s = taken (suc (bytes - 1)) (suc (front (f
 -- ---- a byte and its range
 
 module _ (low high b : ℕ) where
-  pub inside-in : low ≤ b → b ≤ high → inside (low to high) b ≡ true
-  unfolding inside
-  inside-in h g = simp (le-leb low b h, le-leb b high g)
+  pub inRange-in : low ≤ b → b ≤ high → inRange (low to high) b ≡ true
+  unfolding inRange
+  inRange-in h g = simp (le-leb low b h, le-leb b high g)
 
-  pub inside-high : low ≤ b → inside (low to high) b ≡ leb b high
-  unfolding inside
-  inside-high h = simp (le-leb low b h)
+  pub inRange-high : low ≤ b → inRange (low to high) b ≡ leb b high
+  unfolding inRange
+  inRange-high h = simp (le-leb low b h)
 
-  pub inside-below : b < low → inside (low to high) b ≡ false
-  unfolding inside
-  inside-below h = simp (lt-leb low b h)
+  pub inRange-below : b < low → inRange (low to high) b ≡ false
+  unfolding inRange
+  inRange-below h = simp (lt-leb low b h)
 
-  pub inside-above : low ≤ b → high < b → inside (low to high) b ≡ false
-  unfolding inside
-  inside-above h g = simp (le-leb low b h, lt-leb b high g)
+  pub inRange-above : low ≤ b → high < b → inRange (low to high) b ≡ false
+  unfolding inRange
+  inRange-above h g = simp (le-leb low b h, lt-leb b high g)
 
 module _ (p : Range) (s : List ℕ) (at : ℕ) where
   pub starts-end : length s ≤ at → starts p (drop at s) ≡ false
   starts-end h = rw (drop-of-length-le s {i = at} h)
 
-  pub starts-at : at < length s → starts p (drop at s) ≡ inside p (getD s at 0)
+  pub starts-at : at < length s → starts p (drop at s) ≡ inRange p (getD s at 0)
   starts-at h = rw (drop-cons s at 0 h)
 
 -- ---- how many bytes are as the places say
@@ -228,11 +228,11 @@ step-ends (b ∷ s) h = absurd (omega arith)
 -- ---- by the first byte alone
 
 module _ (lead second : Range) (bytes : ℕ) (rs : List Row) (b : ℕ) where
-  pub rowFor-past : inside lead b ≡ false → rowFor (row lead second bytes ∷ rs) b ≡ rowFor rs b
+  pub rowFor-past : inRange lead b ≡ false → rowFor (row lead second bytes ∷ rs) b ≡ rowFor rs b
   unfolding rowFor
   rowFor-past e = simp e
 
-  pub rowFor-here : inside lead b ≡ true → rowFor (row lead second bytes ∷ rs) b ≡ led (row lead second bytes)
+  pub rowFor-here : inRange lead b ≡ true → rowFor (row lead second bytes ∷ rs) b ≡ led (row lead second bytes)
   unfolding rowFor
   rowFor-here e = simp e
 
@@ -243,7 +243,7 @@ rowFor-none b = refl
 stepIn-for : (rs : List Row) (b : ℕ) (s : List ℕ) → stepIn rs (b ∷ s) ≡ stepFor (rowFor rs b) (b ∷ s)
 stepIn-for [] b s = rw (rowFor-none b) (stepIn-none (b ∷ s))
 stepIn-for (row lead second bytes ∷ rs) b s =
-    bool-cases (inside lead b)
+    bool-cases (inRange lead b)
     (λ e. rw (rowFor-here lead second bytes rs b e) (stepIn-here lead second bytes rs (b ∷ s) e))
     (λ e. rw (rowFor-past lead second bytes rs b e) (stepIn-past lead second bytes rs (b ∷ s) e ∙ stepIn-for rs b s))
 
@@ -259,12 +259,12 @@ unfolding step
 step-none = refl
 
 pub step-replacement : (t : List ℕ) → step (replacement ++ t) ≡ char 3
-unfolding step stepIn rows follow front inside
+unfolding step stepIn rows follow front inRange
 step-replacement t = refl
 
 -- ASCII
 pub step-ascii : (b : ℕ) (s : List ℕ) → b < 128 → step (b ∷ s) ≡ char 1
-unfolding step stepIn rows follow front inside
+unfolding step stepIn rows follow front inRange
 step-ascii b s h = simp (le-leb 0 b zero-le, le-leb b 127 (omega arith))
 
 pub step-ascii-front : (s : List ℕ) → 1 ≤ length s → getD s 0 0 < 128 → step s ≡ char 1

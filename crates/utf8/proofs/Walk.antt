@@ -12,7 +12,7 @@ use borrow.Author.Tests.{eq-eqb, ne-eqb}
 use Rattle.answer.proofs.Cases.{lt-or-le, bool-cases, true-false}
 use Rattle.utf8.specs.declared.Both as b
 use Rattle.utf8.specs.declared.Both.the-variants as v
-use Rattle.utf8.specs.Text.{Step, ends, char, mark, step, size, isUtf8, lossy, same, sameText}
+use Rattle.utf8.specs.Text.{Step, ends, char, mark, step, stepSize, isUtf8, lossy, same, sameText}
 use Rattle.utf8.specs.Inner.{Walks, ascii}
 use Rattle.utf8.proofs.Ascii.{ascii-well}
 use Rattle.utf8.proofs.Lossy.{lossy-none, lossy-front}
@@ -24,7 +24,7 @@ module _ (s t : List ℕ) where
   pub walks-apart : same (piece s) (piece t) ≡ false → Walks s t v.Apart
   walks-apart e = same-text-off s t e
 
-  pub walks-on : (m n : ℕ) → m ≡ size (step s) → n ≡ size (step t) → same (piece s) (piece t) ≡ true → Walks s t (v.On m n)
+  pub walks-on : (m n : ℕ) → m ≡ stepSize (step s) → n ≡ stepSize (step t) → same (piece s) (piece t) ≡ true → Walks s t (v.On m n)
   walks-on m n p q e = rw (p, q) (same-text-on s t e, step-advances s .there, step-advances t .there, step-advances s .moves)
 
 -- the first text has ended: they are the same where the second has too

@@ -14,7 +14,7 @@ use Rattle.utf8.specs.declared.Lead as l
 use Rattle.utf8.specs.declared.Lead.the-variants as v
 use Rattle.utf8.specs.declared.Both as b
 use Rattle.utf8.specs.declared.Both.the-variants as o
-use Rattle.utf8.specs.Text.{Range, _to_, Row, row, inside, Step, ends, char, mark, size, whole, becomes, isUtf8, lossy, sameText}
+use Rattle.utf8.specs.Text.{Range, _to_, Row, row, inRange, Step, ends, char, mark, stepSize, whole, becomes, isUtf8, lossy, sameText}
 
 -- a range and a row of the code's table
 abbrev pub asRange : g.Range → Range
@@ -38,7 +38,7 @@ pub data Led : Type 0 where
 -- the first row whose range has the byte
 unfoldable pub rowFor : List Row → ℕ → Led
 rowFor [] b = unused
-rowFor (row lead second bytes ∷ rs) b = cond (inside lead b) (led (row lead second bytes)) (rowFor rs b)
+rowFor (row lead second bytes ∷ rs) b = cond (inRange lead b) (led (row lead second bytes)) (rowFor rs b)
 
 -- the row that the code found for a first byte
 abbrev pub ledBy : l.Lead → Led
@@ -60,10 +60,10 @@ pub record AsciiTo (s : List ℕ) (n : ℕ) : Type 0 where
 
 -- As a step does, x takes some bytes off the front of s, and says what they become.
 pub record Advances (s : List ℕ) (x : Step) : Type 0 where
-  pub text : lossy s ≡ becomes x s ++ lossy (drop (size x) s)
-  pub well : isUtf8 s ≡ whole x && isUtf8 (drop (size x) s)
-  pub there : size x ≤ length s
-  pub moves : 1 ≤ length s → 1 ≤ size x
+  pub text : lossy s ≡ becomes x s ++ lossy (drop (stepSize x) s)
+  pub well : isUtf8 s ≡ whole x && isUtf8 (drop (stepSize x) s)
+  pub there : stepSize x ≤ length s
+  pub moves : 1 ≤ length s → 1 ≤ stepSize x
 
 -- how many bytes it becomes
 abbrev pub textSize : Step → ℕ

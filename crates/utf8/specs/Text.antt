@@ -38,13 +38,13 @@ follow (suc left) next = next ∷ follow left (0x80 to 0xBF)
 abbrev pub places : Row → List Range
 places (row lead second bytes) = lead ∷ follow (bytes - 1) second
 
-unfoldable pub inside : Range → ℕ → Bool
-inside (low to high) b = leb low b && leb b high
+unfoldable pub inRange : Range → ℕ → Bool
+inRange (low to high) b = leb low b && leb b high
 
 -- the first byte is there and in the range
 abbrev pub starts : Range → List ℕ → Bool
 starts p [] = false
-starts p (b ∷ s) = inside p b
+starts p (b ∷ s) = inRange p b
 
 -- how many bytes at the front are as these places say
 unfoldable pub front : List Range → List ℕ → ℕ
@@ -76,10 +76,10 @@ step [] = ends
 step (b ∷ s) = stepIn rows (b ∷ s)
 
 -- how many bytes a step takes
-abbrev pub size : Step → ℕ
-size ends = 0
-size (char n) = n
-size (mark n) = n
+abbrev pub stepSize : Step → ℕ
+stepSize ends = 0
+stepSize (char n) = n
+stepSize (mark n) = n
 
 -- whether it is well-formed
 abbrev pub whole : Step → Bool
@@ -100,11 +100,11 @@ becomes (mark n) s = replacement
 -- Step after step, as many as are counted down.
 unfoldable pub isUtf8In : ℕ → List ℕ → Bool
 isUtf8In zero s = true
-isUtf8In (suc left) s = whole (step s) && isUtf8In left (drop (size (step s)) s)
+isUtf8In (suc left) s = whole (step s) && isUtf8In left (drop (stepSize (step s)) s)
 
 unfoldable pub lossyIn : ℕ → List ℕ → List ℕ
 lossyIn zero s = []
-lossyIn (suc left) s = becomes (step s) s ++ lossyIn left (drop (size (step s)) s)
+lossyIn (suc left) s = becomes (step s) s ++ lossyIn left (drop (stepSize (step s)) s)
 
 -- A step takes at least one byte, so there are no more steps than bytes.
 

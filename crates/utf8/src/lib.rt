@@ -11,7 +11,7 @@ ghost use lib.ListN.{length, take, drop};
 ghost use lib.Dec.{leb};
 ghost use Rattle.answer.specs.Answer.{written, within, leaves};
 ghost use Rattle.answer.specs.Writes.{Writes};
-ghost use Rattle.utf8.specs.Text.{rows, inside, follow, front, taken, step, size, becomes, isUtf8, lossy, same, sameText};
+ghost use Rattle.utf8.specs.Text.{rows, inRange, follow, front, taken, step, stepSize, becomes, isUtf8, lossy, same, sameText};
 ghost use Rattle.utf8.specs.Inner.{asRange, seen, ledBy, rowFor, ascii, AsciiTo, Advances, textSize, Walks};
 
 // The bytes from the first to the last.
@@ -175,7 +175,7 @@ fn lead_row(lead: u8) -> Lead
 }
 
 fn in_range(byte: u8, range: Range) -> bool
-    ensures { λ r. ⌜ r ≡ inside (asRange range) byte ⌝ }
+    ensures { λ r. ⌜ r ≡ inRange (asRange range) byte ⌝ }
 {
     range.low <= byte && byte <= range.high
 }
@@ -397,7 +397,7 @@ fn write_lossy(bytes: &[u8], out: &mut [u8]) -> usize
 
 // How many bytes a step takes, and how many it becomes.
 fn step_len(x: Step) -> usize
-    ensures { λ r. ⌜ r ≡ size (seen x) ⌝ }
+    ensures { λ r. ⌜ r ≡ stepSize (seen x) ⌝ }
 {
     match x {
         Step::End => 0,
@@ -418,7 +418,7 @@ fn text_len(x: Step) -> usize
 
 // Writes what a step at the front of `s` becomes, where there is room.
 fn put(s: &[u8], x: Step, out: &mut [u8])
-    requires { ⌜ size (seen x) ≤ length (now s) ⌝ }
+    requires { ⌜ stepSize (seen x) ≤ length (now s) ⌝ }
     requires { ⌜ textSize (seen x) ≤ length (now out) ⌝ }
     ensures { λ r. ⌜ now (out .exit) ≡ leaves (written (becomes (seen x) (now (s .entry)))) (now (out .entry)) ⌝ }
 {
@@ -510,8 +510,8 @@ fn both_step(a: &[u8], b: &[u8]) -> Both
 
 // Whether two steps at the front of `a` and `b` become the same.
 fn same_start(a: &[u8], x: Step, b: &[u8], y: Step) -> bool
-    requires { ⌜ size (seen x) ≤ length (now a) ⌝ }
-    requires { ⌜ size (seen y) ≤ length (now b) ⌝ }
+    requires { ⌜ stepSize (seen x) ≤ length (now a) ⌝ }
+    requires { ⌜ stepSize (seen y) ≤ length (now b) ⌝ }
     ensures { λ r. ⌜ r ≡ same (becomes (seen x) (now (a .entry))) (becomes (seen y) (now (b .entry))) ⌝ }
 {
     match x {
@@ -522,7 +522,7 @@ fn same_start(a: &[u8], x: Step, b: &[u8], y: Step) -> bool
 }
 
 fn starts_as(text: &[u8], b: &[u8], y: Step) -> bool
-    requires { ⌜ size (seen y) ≤ length (now b) ⌝ }
+    requires { ⌜ stepSize (seen y) ≤ length (now b) ⌝ }
     ensures { λ r. ⌜ r ≡ same (now (text .entry)) (becomes (seen y) (now (b .entry))) ⌝ }
 {
     match y {

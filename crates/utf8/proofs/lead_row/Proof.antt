@@ -9,7 +9,7 @@ use borrow.Author.Needs.{needs}
 use native.Mathlib.Omega.{arith}
 use lib.ListN.{length, drop, getD, drop-of-length-le}
 use Rattle.utf8.specs.declared.Row as r
-use Rattle.utf8.specs.Text.{Row, rows, inside}
+use Rattle.utf8.specs.Text.{Row, rows, inRange}
 use Rattle.utf8.specs.Inner.{unused, led, rowFor, asRange, asRow}
 use Rattle.utf8.proofs.Table.{inCode, noRow, codeRows, row-at}
 use Rattle.utf8.proofs.Stepping.{rowFor-none, rowFor-past, rowFor-here}
@@ -21,10 +21,10 @@ rowAt i = getD codeRows i (inCode noRow)
 
 -- one row: the byte is not in its range, or is
 module _ (b i : ℕ) (h : i < 9) where
-  past : inside (asRange (rowAt i .lead)) b ≡ false → rowFor (drop i rows) b ≡ rowFor (drop (i + 1) rows) b
+  past : inRange (asRange (rowAt i .lead)) b ≡ false → rowFor (drop i rows) b ≡ rowFor (drop (i + 1) rows) b
   past e = ap (λ (l : List Row). rowFor l b) (row-at i h) ∙ rowFor-past _ _ _ _ b e
 
-  here : inside (asRange (rowAt i .lead)) b ≡ true → rowFor (drop i rows) b ≡ led (asRow (rowAt i))
+  here : inRange (asRange (rowAt i .lead)) b ≡ true → rowFor (drop i rows) b ≡ led (asRow (rowAt i))
   here e = ap (λ (l : List Row). rowFor l b) (row-at i h) ∙ rowFor-here _ _ _ _ b e
 
 no-row : (b i : ℕ) → 9 ≤ i → rowFor (drop i rows) b ≡ unused
@@ -38,7 +38,7 @@ abbrev μ-loop : tie.MeasureT-loop
 μ-loop lead i₀ i = 9 - i
 
 -- the row that is read is the definition's: this is where the code's table is held to it
-tested : (c : tie.After-in-range Inv-loop μ-loop) → c .in-range .result ≡ inside (asRange (rowAt (c .before .before .before .loop .i) .lead)) (c .before .before .before .before .args .lead)
+tested : (c : tie.After-in-range Inv-loop μ-loop) → c .in-range .result ≡ inRange (asRange (rowAt (c .before .before .before .loop .i) .lead)) (c .before .before .before .before .args .lead)
 unfolding rows
 tested c = c .in-range .ensures
 

@@ -8,7 +8,7 @@ use lib.ListN.{length, take, set, length-set}
 use lib.Seq.{length-take-le}
 use Rattle.answer.specs.Answer.{written, leaves}
 use Rattle.utf8.specs.declared.Step.the-variants as v
-use Rattle.utf8.specs.Text.{replacement, size, becomes}
+use Rattle.utf8.specs.Text.{replacement, stepSize, becomes}
 use Rattle.utf8.specs.Inner.{seen, textSize}
 use borrow.Author.Needs.{needs}
 use Rattle.utf8.proofs.put.Statement.{statement}
