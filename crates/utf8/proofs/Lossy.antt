@@ -8,7 +8,7 @@ use native.Mathlib.Omega.{arith}
 use lib.ListN.{length, take, drop, length-append, length-take, length-drop, take-append-drop}
 use lib.Seq.{take-at, drop-at, length-take-le, take-append-le, drop-append-le}
 use Rattle.answer.proofs.Cases.{true-false}
-use Rattle.utf8.specs.Text.{Step, ends, char, mark, step, stepSize, whole, replacement, becomes, isUtf8In, lossyIn, isUtf8, lossy}
+use Rattle.utf8.specs.Text.{Step, ends, char, mark, step, stepSize, whole, replacement, becomes, bySteps, isUtf8, lossy}
 use Rattle.utf8.proofs.Stepping.{Bounded, step-bounds, step-kept, step-none, step-replacement, step-ascii}
 
 -- ---- one step
@@ -22,73 +22,50 @@ rest-length s left h = simp length-drop (go (step s) (step-bounds s))
     go (char n) b = omega arith
     go (mark n) b = omega arith
 
-module _ (left : ℕ) where
-  lossyIn-on : (s : List ℕ) → lossyIn (suc left) s ≡ becomes (step s) s ++ lossyIn left (drop (stepSize (step s)) s)
-  unfolding lossyIn
-  lossyIn-on s = refl
-
-  isUtf8In-on : (s : List ℕ) → isUtf8In (suc left) s ≡ whole (step s) && isUtf8In left (drop (stepSize (step s)) s)
-  unfolding isUtf8In
-  isUtf8In-on s = refl
-
-lossyIn-none : (left : ℕ) → lossyIn left [] ≡ []
-unfolding lossyIn
-lossyIn-none zero = refl
-lossyIn-none (suc left) = simp (step-none, lossyIn-none left)
-
-isUtf8In-none : (left : ℕ) → isUtf8In left [] ≡ true
-unfolding isUtf8In
-isUtf8In-none zero = refl
-isUtf8In-none (suc left) = simp (step-none, isUtf8In-none left)
-
 -- no bytes
 pub empty : (s : List ℕ) → length s ≤ 0 → s ≡ []
 empty [] h = refl
 empty (b ∷ s) h = absurd (omega arith)
 
--- Where the count down starts does not matter, as long as it is enough.
-lossyIn-enough : (j k : ℕ) (s : List ℕ) → length s ≤ j → length s ≤ k → lossyIn j s ≡ lossyIn k s
-lossyIn-enough zero k s h g = rw (empty s h) (lossyIn-none 0 ∙ sym (lossyIn-none k))
-lossyIn-enough (suc j) zero s h g = rw (empty s g) (lossyIn-none (suc j) ∙ sym (lossyIn-none 0))
-lossyIn-enough (suc j) (suc k) s h g =
-    lossyIn-on j s
-    ∙ ap (λ (l : List ℕ). becomes (step s) s ++ l)
-    (lossyIn-enough j k (drop (stepSize (step s)) s) (rest-length s j h) (rest-length s k g))
-    ∙ sym (lossyIn-on k s)
+-- Of a turn that leaves the end as it is where there are no bytes: where the count down starts does not matter, as long as it
+-- is enough, so that steps unroll without it. By recursion on both counts.
+module _ {A : Type 0} (turn : Step → List ℕ → A → A) (end : A) (over : turn ends [] end ≡ end) where
+  none : (left : ℕ) → bySteps turn end left [] ≡ end
+  unfolding bySteps
+  none zero = refl
+  none (suc left) = simp (step-none, none left) over
 
-isUtf8In-enough : (j k : ℕ) (s : List ℕ) → length s ≤ j → length s ≤ k → isUtf8In j s ≡ isUtf8In k s
-isUtf8In-enough zero k s h g = rw (empty s h) (isUtf8In-none 0 ∙ sym (isUtf8In-none k))
-isUtf8In-enough (suc j) zero s h g = rw (empty s g) (isUtf8In-none (suc j) ∙ sym (isUtf8In-none 0))
-isUtf8In-enough (suc j) (suc k) s h g =
-    isUtf8In-on j s
-    ∙ ap (λ (l : Bool). whole (step s) && l)
-    (isUtf8In-enough j k (drop (stepSize (step s)) s) (rest-length s j h) (rest-length s k g))
-    ∙ sym (isUtf8In-on k s)
+  enough : (j k : ℕ) (s : List ℕ) → length s ≤ j → length s ≤ k → bySteps turn end j s ≡ bySteps turn end k s
+  unfolding bySteps
+  enough zero k s h g = rw (empty s h) (sym (none k))
+  enough (suc j) zero s h g = rw (empty s g) (none (suc j))
+  enough (suc j) (suc k) s h g =
+      ap (turn (step s) s) (enough j k (drop (stepSize (step s)) s) (rest-length s j h) (rest-length s k g))
 
--- So both unroll without it.
+  pub by-steps-on : (s : List ℕ)
+      → let t = drop (stepSize (step s)) s in
+      bySteps turn end (length s) s ≡ turn (step s) s (bySteps turn end (length t) t)
+  unfolding bySteps
+  by-steps-on s =
+      let t = drop (stepSize (step s)) s in
+      enough (length s) (suc (length s)) s (omega arith) (omega arith)
+      ∙ ap (turn (step s) s) (enough (length s) (length t) t (rest-length s (length s) (omega arith)) (omega arith))
+
 pub lossy-on : (s : List ℕ) → lossy s ≡ becomes (step s) s ++ lossy (drop (stepSize (step s)) s)
 unfolding lossy
-lossy-on s =
-    let t = drop (stepSize (step s)) s in
-    lossyIn-enough (length s) (suc (length s)) s (omega arith) (omega arith)
-    ∙ lossyIn-on (length s) s
-    ∙ ap (λ (l : List ℕ). becomes (step s) s ++ l) (lossyIn-enough (length s) (length t) t (rest-length s (length s) (omega arith)) (omega arith))
+lossy-on s = by-steps-on (λ x t others. becomes x t ++ others) [] refl s
 
 pub isUtf8-on : (s : List ℕ) → isUtf8 s ≡ whole (step s) && isUtf8 (drop (stepSize (step s)) s)
 unfolding isUtf8
-isUtf8-on s =
-    let t = drop (stepSize (step s)) s in
-    isUtf8In-enough (length s) (suc (length s)) s (omega arith) (omega arith)
-    ∙ isUtf8In-on (length s) s
-    ∙ ap (λ (l : Bool). whole (step s) && l) (isUtf8In-enough (length s) (length t) t (rest-length s (length s) (omega arith)) (omega arith))
+isUtf8-on s = by-steps-on (λ x t others. whole x && others) true refl s
 
 pub lossy-none : lossy [] ≡ []
-unfolding lossy
-lossy-none = lossyIn-none 0
+unfolding lossy bySteps
+lossy-none = refl
 
 pub isUtf8-none : isUtf8 [] ≡ true
-unfolding isUtf8
-isUtf8-none = isUtf8In-none 0
+unfolding isUtf8 bySteps
+isUtf8-none = refl
 
 module _ (s : List ℕ) (n : ℕ) where
   pub lossy-char : step s ≡ char n → lossy s ≡ take n s ++ lossy (drop n s)

@@ -97,24 +97,21 @@ becomes ends s = []
 becomes (char n) s = take n s
 becomes (mark n) s = replacement
 
--- Step after step, as many as are counted down.
-unfoldable pub isUtf8In : ℕ → List ℕ → Bool
-isUtf8In zero s = true
-isUtf8In (suc left) s = whole (step s) && isUtf8In left (drop (stepSize (step s)) s)
-
-unfoldable pub lossyIn : ℕ → List ℕ → List ℕ
-lossyIn zero s = []
-lossyIn (suc left) s = becomes (step s) s ++ lossyIn left (drop (stepSize (step s)) s)
+-- Step after step, as many as are counted down: `turn` makes something of a step, the bytes that it stands in front of, and
+-- what comes of the bytes behind it.
+unfoldable pub bySteps : {A : Type 0} → (Step → List ℕ → A → A) → A → ℕ → List ℕ → A
+bySteps turn end zero s = end
+bySteps turn end (suc left) s = turn (step s) s (bySteps turn end left (drop (stepSize (step s)) s))
 
 -- A step takes at least one byte, so there are no more steps than bytes.
 
--- The bytes are well-formed UTF-8.
+-- The bytes are well-formed UTF-8: every step is.
 unfoldable pub isUtf8 : List ℕ → Bool
-isUtf8 s = isUtf8In (length s) s
+isUtf8 s = bySteps (λ x t others. whole x && others) true (length s) s
 
 -- The bytes with each maximal subpart of an ill-formed sequence replaced ("U+FFFD Substitution of Maximal Subparts").
 unfoldable pub lossy : List ℕ → List ℕ
-lossy s = lossyIn (length s) s
+lossy s = bySteps (λ x t others. becomes x t ++ others) [] (length s) s
 
 -- The same bytes, and the same lossy text.
 unfoldable pub same : List ℕ → List ℕ → Bool

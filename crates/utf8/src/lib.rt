@@ -9,9 +9,9 @@ ghost use mathlib.Core.Bool.{true, _&&_};
 ghost use Prim.Native.Nat.{suc, _-_, _≤_};
 ghost use lib.ListN.{length, take, drop};
 ghost use lib.Dec.{leb};
-ghost use Rattle.answer.specs.Answer.{written, within, leaves};
-ghost use Rattle.answer.specs.Writes.{Writes};
-ghost use Rattle.utf8.specs.Text.{rows, inRange, follow, front, taken, step, stepSize, becomes, isUtf8, lossy, same, sameText};
+ghost use Rattle.answer.specs.Answer.{written, leaves};
+ghost use Rattle.utf8.specs.Text.{rows, inRange, follow, front, taken, step, stepSize, becomes, lossy, same};
+ghost use Rattle.utf8.specs.Promise.{IsUtf8, LossyText, SameText};
 ghost use Rattle.utf8.specs.Inner.{asRange, seen, ledBy, rowFor, ascii, AsciiTo, Advances, textSize, Walks};
 
 // The bytes from the first to the last.
@@ -334,7 +334,7 @@ fn eight_ascii(s: &[u8]) -> bool
 
 // Whether the bytes are well-formed UTF-8.
 pub fn is_utf8(bytes: &[u8]) -> bool
-    ensures { λ r. ⌜ r ≡ isUtf8 (now (bytes .entry)) ⌝ }
+    ensures { λ r. ⌜ IsUtf8 (now (bytes .entry)) r ⌝ }
 {
     let mut at = 0;
     while at < bytes.len() {
@@ -348,7 +348,7 @@ pub fn is_utf8(bytes: &[u8]) -> bool
 
 // Writes the lossy text of the bytes at the front of `out`.
 pub fn lossy_text(bytes: &[u8], out: &mut [u8]) -> Written
-    ensures { λ r. ⌜ Writes (within (length (now (out .entry))) (written (lossy (now (bytes .entry))))) r (now (out .entry)) (now (out .exit)) ⌝ }
+    ensures { λ r. ⌜ LossyText (now (bytes .entry)) r (now (out .entry)) (now (out .exit)) ⌝ }
 {
     if !has_room(bytes, out.len()) {
         return Written::Refused(Refusal {
@@ -446,7 +446,7 @@ fn copy(s: &[u8], out: &mut [u8])
 
 // Whether the lossy texts are the same, by walking both at once.
 pub fn same_text(a: &[u8], b: &[u8]) -> bool
-    ensures { λ r. ⌜ r ≡ sameText (now (a .entry)) (now (b .entry)) ⌝ }
+    ensures { λ r. ⌜ SameText (now (a .entry)) (now (b .entry)) r ⌝ }
 {
     let mut i = 0;
     let mut j = 0;
