@@ -10,7 +10,7 @@ ghost use Prim.Native.Nat.{suc, _-_, _≤_};
 ghost use lib.ListN.{length, take, drop};
 ghost use lib.Dec.{leb};
 ghost use Rattle.answer.specs.Answer.{written, leaves};
-ghost use Rattle.utf8.specs.Text.{rows, inRange, follow, front, taken, step, stepSize, becomes, lossy, same};
+ghost use Rattle.utf8.specs.Text.{rows, follow, front, taken, step, stepSize, becomes, lossy, same};
 ghost use Rattle.utf8.specs.Promise.{IsUtf8, LossyText, SameText};
 ghost use Rattle.utf8.specs.Inner.{asRange, seen, ledBy, rowFor, ascii, AsciiTo, Advances, textSize, Walks};
 
@@ -166,18 +166,12 @@ fn lead_row(lead: u8) -> Lead
     let mut i = 0;
     while i < 9 {
         let r = ROWS[i];
-        if in_range(lead, r.lead) {
+        if r.lead.low <= lead && lead <= r.lead.high {
             return Lead::In(r);
         }
         i += 1;
     }
     Lead::Unused
-}
-
-fn in_range(byte: u8, range: Range) -> bool
-    ensures { λ r. ⌜ r ≡ inRange (asRange range) byte ⌝ }
-{
-    range.low <= byte && byte <= range.high
 }
 
 // The step whose first byte is right, in a row of so many bytes and this range for the second.
