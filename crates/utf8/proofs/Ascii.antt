@@ -6,12 +6,13 @@ use Prim.Native.Nat.{ℕ, suc, _+_, _-_, _<_, _≤_, zero-le}
 use native.Mathlib.Numerals.{add-one}
 use native.Mathlib.Omega.{arith}
 use lib.Dec.{ltb}
-use lib.ListN.{length, take, drop, getD}
+use lib.ListN.{length, take, drop, getD, length-drop}
 use lib.Seq.{drop-cons, take-add, take-suc}
 use borrow.Author.Tests.{ltb-true, lt-ltb}
 use Rattle.utf8.specs.Text.{isUtf8}
 use Rattle.utf8.specs.Inner.{ascii, AsciiTo}
 use Rattle.answer.proofs.Cases.{bool-cases, true-false}
+use Rattle.answer.proofs.Output.{lent-tail}
 use Rattle.utf8.proofs.Stepping.{step-ascii}
 use Rattle.utf8.proofs.Lossy.{isUtf8-none, isUtf8-char}
 
@@ -55,8 +56,16 @@ pub ascii-to-none : (s : List ℕ) → AsciiTo s 0
 ascii-to-none s = record { there = zero-le; are = ascii-none }
 
 -- k more of them, in a block
-pub ascii-to-block : (s : List ℕ) (n k : ℕ) → AsciiTo s n → k ≤ length s - n → ascii (take k (drop n s)) ≡ true → AsciiTo s (n + k)
+ascii-to-block : (s : List ℕ) (n k : ℕ) → AsciiTo s n → k ≤ length s - n → ascii (take k (drop n s)) ≡ true → AsciiTo s (n + k)
 ascii-to-block s n k a h e = record { there = omega (arith, a .there); are = rw (take-add n k s) (ascii-both (take n s) (take k (drop n s)) (a .are) e) }
+
+-- A loop goes on by a block of k, where it lends the rest behind the first n, `&s[n..]`, and is told that its first k are ASCII.
+module _ (s : List ℕ) (n k : ℕ) (h : k ≤ length s - n) where
+  pub block-lent : k ≤ length (take (length s - n) (drop n s))
+  block-lent = rw (lent-tail n s) (omega (arith, length-drop n s))
+
+  pub block-on : AsciiTo s n → {told : Bool} → told ≡ ascii (take k (take (length s - n) (drop n s))) → told ≡ true → AsciiTo s (n + k)
+  block-on a is e = ascii-to-block s n k a h (rw (lent-tail n s) at (sym is ∙ e))
 
 -- a test of one byte more
 ascii-last : (s : List ℕ) (b : ℕ) → ascii (s ++ (b ∷ [])) ≡ ascii s && ltb b 128
