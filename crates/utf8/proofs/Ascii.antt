@@ -11,18 +11,16 @@ use lib.Seq.{drop-cons, take-add, take-suc}
 use borrow.Author.Tests.{ltb-true, lt-ltb}
 use Rattle.utf8.specs.Text.{isUtf8}
 use Rattle.utf8.specs.Inner.{ascii, AsciiTo}
-use Rattle.answer.proofs.Cases.{bool-cases, true-false}
 use Rattle.answer.proofs.Output.{lent-tail}
-use Rattle.utf8.proofs.Stepping.{step-ascii}
+use Rattle.utf8.proofs.Stepping.{both-true, step-ascii}
 use Rattle.utf8.proofs.Lossy.{isUtf8-none, isUtf8-char}
 
 pub ascii-well : (s : List ℕ) → ascii s ≡ true → isUtf8 s ≡ true
 unfolding ascii
 ascii-well [] e = isUtf8-none
 ascii-well (b ∷ s) e =
-    bool-cases (ltb b 128)
-    (λ q. isUtf8-char (b ∷ s) 1 (step-ascii b s (ltb-true b 128 q)) ∙ ascii-well s (simp q at e))
-    (λ q. let f = simp q at e in true-false f refl)
+    let q = both-true (ltb b 128) (ascii s) e in
+    isUtf8-char (b ∷ s) 1 (step-ascii b s (ltb-true b 128 (q .0))) ∙ ascii-well s (q .1)
 
 -- ---- eight at once
 
@@ -47,10 +45,7 @@ ascii-four s h = simp (ascii-next s 3 0 (omega arith), ascii-next s 2 1 (omega a
 ascii-both : (s t : List ℕ) → ascii s ≡ true → ascii t ≡ true → ascii (s ++ t) ≡ true
 unfolding ascii
 ascii-both [] t p q = q
-ascii-both (b ∷ s) t p q =
-    bool-cases (ltb b 128)
-    (λ e. simp e (ascii-both s t (simp e at p) q))
-    (λ e. let f = simp e at p in true-false f refl)
+ascii-both (b ∷ s) t p q = let e = both-true (ltb b 128) (ascii s) p in simp (e .0) (ascii-both s t (e .1) q)
 
 pub ascii-to-none : (s : List ℕ) → AsciiTo s 0
 ascii-to-none s = record { there = zero-le; are = ascii-none }
@@ -89,10 +84,7 @@ ascii-to-one s n a h e = record {
 ascii-front : (s t : List ℕ) → ascii (s ++ t) ≡ true → ascii s ≡ true
 unfolding ascii
 ascii-front [] t p = refl
-ascii-front (b ∷ s) t p =
-    bool-cases (ltb b 128)
-    (λ e. simp e (ascii-front s t (simp e at p)))
-    (λ e. let f = simp e at p in true-false f refl)
+ascii-front (b ∷ s) t p = let e = both-true (ltb b 128) (ascii (s ++ t)) p in simp (e .0) (ascii-front s t (e .1))
 
 ascii-less : (s : List ℕ) (n from : ℕ) → AsciiTo s n → from ≤ n → ascii (take from s) ≡ true
 ascii-less s n from a h =
@@ -110,13 +102,6 @@ ascii-to-end s n from k a h e are =
           ∙ ap ascii (take-add from k s)
           ∙ ascii-both (take from s) (take k (drop from s)) (ascii-less s n from a h) are;
     }
-
--- two tests that both hold
-pub both-first : (p q : Bool) → p && q ≡ true → p ≡ true
-both-first p q e = bool-cases p (λ t. t) (λ t. let f = simp t at e in true-false f refl)
-
-pub both-second : (p q : Bool) → p && q ≡ true → q ≡ true
-both-second p q e = bool-cases p (λ t. simp t at e) (λ t. let f = simp t at e in true-false f refl)
 
 -- so are few bytes whose first four and last four are
 pub ascii-few : (s : List ℕ) (from : ℕ) → from ≤ 4 → from + 4 ≡ length s → ascii (take 4 s) ≡ true → ascii (take 4 (drop from s)) ≡ true → AsciiTo s (length s)

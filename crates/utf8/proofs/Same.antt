@@ -13,7 +13,7 @@ use lib.Seq.{drop-cons, take-at, length-take-le}
 use borrow.Author.Tests.{eq-eqb, ne-eqb, eqb-true}
 use Rattle.utf8.specs.Text.{Step, ends, char, mark, step, stepSize, becomes, isUtf8, lossy, same, sameText}
 use Rattle.answer.proofs.Cases.{bool-cases, true-false}
-use Rattle.utf8.proofs.Stepping.{Bounded, step-bounds, step-none}
+use Rattle.utf8.proofs.Stepping.{both-true, step-bounds}
 use Rattle.utf8.proofs.Lossy.{empty, lossy-on, lossy-none, lossy-char, lossy-mark, lossy-same, lossy-step-char, lossy-step-mark, char-bounds}
 
 -- ---- the same bytes
@@ -28,10 +28,7 @@ unfolding same
 same-true [] [] e = refl
 same-true [] (b ∷ t) e = true-false e refl
 same-true (a ∷ s) [] e = true-false e refl
-same-true (a ∷ s) (b ∷ t) e =
-    bool-cases (eqb a b)
-    (λ q. ap₂ _∷_ (eqb-true a b q) (same-true s t (simp q at e)))
-    (λ q. let f = simp q at e in true-false f refl)
+same-true (a ∷ s) (b ∷ t) e = let q = both-true (eqb a b) (same s t) e in ap₂ _∷_ (eqb-true a b (q .0)) (same-true s t (q .1))
 
 pub same-iff : (s t : List ℕ) → (same s t ≡ true) ↔ (s ≡ t)
 same-iff s t = (same-true s t, λ e. rw e (same-refl t))

@@ -10,11 +10,16 @@ use lib.Dec.{leb, eqb, T}
 use lib.ListN.{length, take, drop, getD, drop-of-length-le}
 use lib.Seq.{drop-cons, drop-drop}
 use borrow.Author.Tests.{le-leb, lt-leb, eq-eqb, ne-eqb, eqb-true, leb-true}
-use Rattle.answer.proofs.Cases.{bool-cases}
+use Rattle.answer.proofs.Cases.{bool-cases, true-false}
 use Rattle.utf8.specs.Inner.{Led, unused, led, rowFor}
 use Rattle.utf8.specs.Text.{Range, _to_, Row, row, rows, follow, places, starts, inRange, front, Step, ends, char, mark, taken, stepIn, step, stepSize, replacement}
 
--- the step that it leads to
+-- two tests that both hold
+pub both-true : (p q : Bool) → p && q ≡ true → (p ≡ true) × (q ≡ true)
+both-true true q e = (refl, e)
+both-true false q e = true-false e refl
+
+-- the step that a row leads to
 abbrev pub stepFor : Led → List ℕ → Step
 stepFor unused s = mark 1
 stepFor (led (row lead second bytes)) s = taken (suc (bytes - 1)) (suc (front (follow (bytes - 1) second) (drop 1 s)))
@@ -25,10 +30,6 @@ module _ (low high b : ℕ) where
   pub inRange-in : low ≤ b → b ≤ high → inRange (low to high) b ≡ true
   unfolding inRange
   inRange-in h g = simp (le-leb low b h, le-leb b high g)
-
-  pub inRange-high : low ≤ b → inRange (low to high) b ≡ leb b high
-  unfolding inRange
-  inRange-high h = simp (le-leb low b h)
 
   pub inRange-below : b < low → inRange (low to high) b ≡ false
   unfolding inRange
@@ -171,10 +172,7 @@ rows-four = refl
 
 row-four : (r : Row) (rs : List Row) → atMostFour (r ∷ rs) ≡ true → (length (places r) ≤ 4) × (atMostFour rs ≡ true)
 unfolding atMostFour
-row-four r rs e =
-    bool-cases (leb (length (places r)) 4)
-    (λ q. (leb-true (length (places r)) 4 q, simp q at e))
-    (λ q. let f = simp q at e in let z : _≡_ {A = ℕ} 0 1 = cc f in absurd (omega arith))
+row-four r rs e = let q = both-true (leb (length (places r)) 4) (atMostFour rs) e in (leb-true (length (places r)) 4 (q .0), q .1)
 
 front-some : (p : Range) (ps : List Range) (s : List ℕ) → starts p s ≡ true → 1 ≤ front (p ∷ ps) s
 front-some p ps s e = rw (front-on p ps s e) (suc-le-suc zero-le)

@@ -9,11 +9,12 @@ use lib.Seq.{drop-cons}
 use lib.ListN.{length, take, drop, getD, length-drop, take-append-drop, drop-of-length-le}
 use mathlib.Core.Logic.{⊎-elim}
 use borrow.Author.Tests.{eq-eqb, ne-eqb}
-use Rattle.answer.proofs.Cases.{lt-or-le, bool-cases, true-false}
+use Rattle.answer.proofs.Cases.{lt-or-le}
 use Rattle.utf8.specs.declared.Both as b
 use Rattle.utf8.specs.declared.Both.the-variants as v
 use Rattle.utf8.specs.Text.{Step, ends, char, mark, step, stepSize, isUtf8, lossy, same, sameText}
 use Rattle.utf8.specs.Inner.{Walks, ascii}
+use Rattle.utf8.proofs.Stepping.{both-true}
 use Rattle.utf8.proofs.Ascii.{ascii-well}
 use Rattle.utf8.proofs.Lossy.{lossy-none, lossy-front}
 use Rattle.utf8.proofs.Advance.{step-advances, lossy-some}
@@ -57,7 +58,7 @@ unfolding sameText
 walks-eight s t h g e = (front, h, g, λ p. omega arith)
   where
     is : (ascii (take 8 s) ≡ true) × (same (take 8 s) (take 8 t) ≡ true)
-    is = bool-cases (ascii (take 8 s)) (λ p. (p, simp p at e)) (λ p. let f = simp p at e in true-false f refl)
+    is = both-true (ascii (take 8 s)) (same (take 8 s) (take 8 t)) e
 
     front : sameText s t ≡ sameText (drop 8 s) (drop 8 t)
     front =
