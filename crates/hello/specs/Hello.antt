@@ -1,5 +1,5 @@
 -- The HELLO handshake: SPOE.txt, sections 3.2, 3.2.4 and 3.2.5.
-use mathlib.Core.Bool.{Bool, true, false, cond, _&&_, _||_}
+use mathlib.Core.Bool.{Bool, false, cond, _&&_, _||_}
 use mathlib.Core.List.{List, [], _∷_}
 use Prim.Native.Nat.{ℕ, min}
 use lib.Dec.{leb, eqb}

@@ -1,16 +1,16 @@
 -- Going on over several bytes at once: what every walk over a text needs of it.
 use mathlib.Core.Path.{_≡_, refl, sym, ap, _∙_}
-use mathlib.Core.Bool.{Bool, true, false, _&&_}
-use mathlib.Core.List.{List, [], _∷_, _++_}
-use Prim.Native.Nat.{ℕ, zero, suc, _+_, _-_, _≤_, _<_, zero-le}
+use mathlib.Core.Bool.{true, false}
+use mathlib.Core.List.{List, [], _∷_}
+use Prim.Native.Nat.{ℕ, _+_, _-_, _≤_, _<_, zero-le}
 use native.Mathlib.Omega.{arith}
 use mathlib.Core.Logic.{⊎-elim}
 use lib.Dec.{leb}
 use borrow.Author.Tests.{le-leb, lt-leb}
 use Rattle.answer.proofs.Cases.{lt-or-le}
 use lib.ListN.{length, take, drop, length-append, length-drop, take-append-drop}
-use lib.Seq.{drop-drop, length-take-le}
-use Rattle.utf8.specs.Text.{Step, ends, char, mark, step, stepSize, whole, becomes, isUtf8, lossy}
+use lib.Seq.{length-take-le}
+use Rattle.utf8.specs.Text.{Step, ends, char, mark, step, stepSize, becomes, isUtf8, lossy}
 use Rattle.utf8.specs.Inner.{Advances, textSize}
 use Rattle.utf8.proofs.Stepping.{Bounded, step-bounds}
 use Rattle.utf8.proofs.Lossy.{lossy-none, lossy-on, isUtf8-on, lossy-front, isUtf8-front}

@@ -1,15 +1,15 @@
 -- Laws about well-formed text and lossy text.
-use mathlib.Core.Path.{_≡_, refl, sym, ap, ap₂, _∙_}
-use mathlib.Core.Logic.{_⊎_, inl, inr, ⊎-elim, _↔_}
-use mathlib.Core.Bool.{Bool, true, false, cond, _&&_}
-use mathlib.Core.List.{List, [], _∷_, _++_, append-assoc, append-nil}
-use Prim.Native.Nat.{ℕ, zero, suc, _+_, _-_, _*_, _≤_, _<_, zero-le, suc-le-suc}
+use mathlib.Core.Path.{_≡_, refl, sym, ap, _∙_}
+use mathlib.Core.Logic.{_↔_}
+use mathlib.Core.Bool.{true, false, _&&_}
+use mathlib.Core.List.{List, [], _∷_, _++_, append-assoc}
+use Prim.Native.Nat.{ℕ, zero, suc, _-_, _*_, _≤_, zero-le}
 use native.Mathlib.Omega.{arith}
-use lib.ListN.{length, take, drop, length-append, length-take, length-drop, take-append-drop}
-use lib.Seq.{take-at, drop-at, length-take-le, take-append-le, drop-append-le}
+use lib.ListN.{length, take, drop, length-append, length-drop, take-append-drop}
+use lib.Seq.{drop-at, length-take-le, take-append-le, drop-append-le}
 use Rattle.answer.proofs.Cases.{true-false}
 use Rattle.utf8.specs.Text.{Step, ends, char, mark, step, stepSize, whole, replacement, becomes, bySteps, isUtf8, lossy}
-use Rattle.utf8.proofs.Stepping.{Bounded, step-bounds, step-kept, step-none, step-replacement, step-ascii}
+use Rattle.utf8.proofs.Stepping.{Bounded, step-bounds, step-kept, step-none, step-replacement}
 
 -- ---- one step
 

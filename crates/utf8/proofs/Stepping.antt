@@ -1,18 +1,17 @@
 -- Laws about one step.
-use mathlib.Core.Path.{_≡_, refl, sym, ap, ap₂, _∙_}
-use mathlib.Core.Logic.{_⊎_, inl, inr, ⊎-elim}
-use mathlib.Core.Bool.{Bool, true, false, cond, _&&_}
+use mathlib.Core.Path.{_≡_, refl, sym, ap, _∙_}
+use mathlib.Core.Bool.{Bool, true, false, _&&_}
 use mathlib.Core.List.{List, [], _∷_, _++_}
-use Prim.Native.Nat.{ℕ, zero, suc, _+_, _-_, _≤_, _<_, zero-le, suc-le-suc}
+use Prim.Native.Nat.{ℕ, zero, suc, _-_, _≤_, _<_, zero-le, suc-le-suc}
 use native.Mathlib.Omega.{arith}
 use native.Mathlib.Decide.{ℕ-discrete}
-use lib.Dec.{leb, eqb, T}
+use lib.Dec.{leb}
 use lib.ListN.{length, take, drop, getD, drop-of-length-le}
-use lib.Seq.{drop-cons, drop-drop}
-use borrow.Author.Tests.{le-leb, lt-leb, eq-eqb, ne-eqb, eqb-true, leb-true}
+use lib.Seq.{drop-cons}
+use borrow.Author.Tests.{le-leb, lt-leb, eq-eqb, ne-eqb, leb-true}
 use Rattle.answer.proofs.Cases.{bool-cases, true-false}
 use Rattle.utf8.specs.Inner.{Led, unused, led, rowFor}
-use Rattle.utf8.specs.Text.{Range, _to_, Row, row, rows, follow, places, starts, inRange, front, Step, ends, char, mark, taken, stepIn, step, stepSize, replacement}
+use Rattle.utf8.specs.Text.{Range, _to_, Row, row, rows, follow, places, starts, inRange, front, Step, ends, char, mark, taken, stepIn, step, replacement}
 
 -- two tests that both hold
 pub both-true : (p q : Bool) → p && q ≡ true → (p ≡ true) × (q ≡ true)

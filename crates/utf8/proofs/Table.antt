@@ -3,7 +3,7 @@ use mathlib.Core.Path.{_≡_, refl, sym, ap, _∙_}
 use mathlib.Core.List.{List, _∷_, map}
 use Prim.Native.Nat.{ℕ, suc, _+_, _<_}
 use native.Mathlib.Numerals.{add-one}
-use lib.ListN.{length, drop, getD, List·getD-map}
+use lib.ListN.{drop, getD, List·getD-map}
 use lib.Seq.{drop-cons}
 use Rattle.utf8.specs.declared.Row as r
 use Rattle.utf8.specs.Text.{_to_, Row, row, rows}

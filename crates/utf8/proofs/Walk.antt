@@ -1,8 +1,8 @@
 -- Walking over two texts at once: what the walk needs of each turn.
-use mathlib.Core.Path.{_≡_, refl, sym, ap, ap₂, _∙_}
+use mathlib.Core.Path.{_≡_, sym, ap, ap₂, _∙_}
 use mathlib.Core.Bool.{Bool, true, false, _&&_, and-assoc, and-true}
-use mathlib.Core.List.{List, [], _∷_, _++_}
-use Prim.Native.Nat.{ℕ, zero, suc, _+_, _-_, _≤_, _<_}
+use mathlib.Core.List.{List, []}
+use Prim.Native.Nat.{ℕ, suc, _≤_, _<_}
 use native.Mathlib.Omega.{arith}
 use lib.Dec.{eqb}
 use lib.Seq.{drop-cons}
@@ -10,15 +10,14 @@ use lib.ListN.{length, take, drop, getD, length-drop, take-append-drop, drop-of-
 use mathlib.Core.Logic.{⊎-elim}
 use borrow.Author.Tests.{eq-eqb, ne-eqb}
 use Rattle.answer.proofs.Cases.{lt-or-le}
-use Rattle.utf8.specs.declared.Both as b
 use Rattle.utf8.specs.declared.Both.the-variants as v
-use Rattle.utf8.specs.Text.{Step, ends, char, mark, step, stepSize, isUtf8, lossy, same, sameText}
+use Rattle.utf8.specs.Text.{step, stepSize, lossy, same, sameText}
 use Rattle.utf8.specs.Inner.{Walks, ascii}
 use Rattle.utf8.proofs.Stepping.{both-true}
 use Rattle.utf8.proofs.Ascii.{ascii-well}
 use Rattle.utf8.proofs.Lossy.{lossy-none, lossy-front}
 use Rattle.utf8.proofs.Advance.{step-advances, lossy-some}
-use Rattle.utf8.proofs.Same.{piece, rest, same-refl, same-true, same-front, same-none, same-text-on, same-text-off}
+use Rattle.utf8.proofs.Same.{piece, same-refl, same-true, same-front, same-none, same-text-on, same-text-off}
 
 -- a step of each
 module _ (s t : List ℕ) where

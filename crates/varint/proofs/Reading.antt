@@ -1,7 +1,7 @@
 -- Laws about reading a number: what one byte more does, that what was written is read back, what an accepted number and a
 -- refusal say of the bytes, and that bytes appended change neither.
 use mathlib.Core.Path.{_≡_, refl, sym, ap, ap₂, _∙_}
-use mathlib.Core.Logic.{_⊎_, inl, inr, ⊎-elim}
+use mathlib.Core.Logic.{⊎-elim}
 use mathlib.Core.List.{List, [], _∷_, _++_, append-cancel-left}
 use Prim.Native.Nat.{ℕ, zero, suc, _+_, _-_, _*_, _/_, _%_, _^_, _≤_, _<_}
 use native.Mathlib.Nat.{mul-comm, mul-assoc, add-mul, mod-eq-of-lt}
@@ -9,7 +9,7 @@ use native.Mathlib.Decide.{ℕ-discrete}
 use native.Mathlib.Omega.{arith}
 use lib.Pow.{pow-add, low, shl-exact}
 use lib.ListN.{length, getD}
-use borrow.Author.Tests.{lt-ltb, le-ltb, le-leb, lt-leb, eq-eqb, ne-eqb}
+use borrow.Author.Tests.{lt-ltb, le-ltb, le-leb, lt-leb, ne-eqb}
 use Rattle.answer.specs.Answer.{Answer, done, refused}
 use Rattle.answer.proofs.Cases.{not-both, lt-or-le}
 use Rattle.varint.specs.Number.{worth, more, number, groups, numberBytes}

@@ -10,7 +10,7 @@ ghost use mathlib.Core.Path.{_≡_};
 ghost use Prim.Native.Nat.{_≤_, _<_, _^_};
 ghost use lib.ListN.{length, drop};
 ghost use Rattle.answer.specs.Answer.{written, leaves};
-ghost use Rattle.varint.specs.Number.{more, numberBytes, groups};
+ghost use Rattle.varint.specs.Number.{more, groups};
 ghost use Rattle.varint.specs.Promise.{numberRead, VarintLen, EncodeVarint, DecodeVarint};
 
 // What the number reader answers.

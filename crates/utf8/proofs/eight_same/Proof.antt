@@ -1,6 +1,5 @@
 -- `utf8::eight_same` meets its contract: the first eight are ASCII, and eight tests more, one for each pair of bytes.
 -- Assumes nothing.
-use mathlib.Core.Path.{_≡_}
 use lib.ListN.{take}
 use Rattle.utf8.specs.Inner.{ascii}
 use Rattle.utf8.proofs.Walk.{same-eight}

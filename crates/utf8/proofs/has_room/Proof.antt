@@ -1,7 +1,7 @@
 -- `utf8::has_room` meets its contract. The loop's invariant: the whole text has room exactly where what is left of it has room in
 -- what is left of the room.
 -- Assumes nothing.
-use Prim.Native.Nat.{ℕ, suc, _+_, _-_, _≤_, _<_}
+use Prim.Native.Nat.{ℕ, _+_, _-_, _≤_}
 use mathlib.Core.Path.{_≡_, refl, sym, ap, _∙_}
 use mathlib.Core.List.{List}
 use borrow.Author.Needs.{needs}

@@ -9,7 +9,7 @@ use lib.Dec.{leb}
 use mathlib.Core.List.{List}
 use Prim.Native.Nat.{ℕ, _+_, _-_, _≤_, _<_}
 use native.Mathlib.Omega.{arith}
-use lib.ListN.{length, drop, getD, drop-of-length-le}
+use lib.ListN.{drop, getD, drop-of-length-le}
 use Rattle.utf8.specs.declared.Row as r
 use Rattle.utf8.specs.Text.{Row, rows, inRange}
 use Rattle.utf8.specs.Inner.{unused, led, rowFor, asRange, asRow}

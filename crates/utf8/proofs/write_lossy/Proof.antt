@@ -1,12 +1,12 @@
 -- `utf8::write_lossy` meets its contract. The loop's invariant: the lossy text is partly written, and what is left to write is the
 -- lossy text of what is left of the bytes. Each turn writes what the next step becomes.
 -- Assumes nothing.
-use Prim.Native.Nat.{ℕ, suc, _+_, _-_, _≤_, _<_}
-use mathlib.Core.Path.{_≡_, refl, sym, ap, _∙_}
-use mathlib.Core.List.{List, [], _++_}
+use Prim.Native.Nat.{_+_, _-_, _≤_}
+use mathlib.Core.Path.{sym, ap, _∙_}
+use mathlib.Core.List.{[], _++_}
 use borrow.Author.Needs.{needs}
 use native.Mathlib.Omega.{arith}
-use lib.ListN.{length, take, drop, length-drop, drop-of-length-le}
+use lib.ListN.{length, drop, length-drop, drop-of-length-le}
 use lib.Seq.{drop-drop}
 use Rattle.answer.proofs.Output.{Partly, partly-none, partly-length, partly-count, partly-all, lent-tail}
 use Rattle.utf8.specs.Text.{lossy, stepSize, becomes}
