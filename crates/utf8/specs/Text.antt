@@ -62,18 +62,24 @@ pub data Step : Type 0 where
 abbrev pub taken : ℕ → ℕ → Step
 taken all n = cond (eqb n all) (char n) (mark n)
 
--- By the row in whose range the first byte is: no two rows share one. A maximal subpart is the longest start of a well-formed
--- sequence, or one byte where there is none (D93b).
-unfoldable pub stepIn : List Row → List ℕ → Step
-stepIn [] s = mark 1
-stepIn (row lead second bytes ∷ rs) s =
-    cond (starts lead s)
-    (taken (length (places (row lead second bytes))) (front (places (row lead second bytes)) s))
-    (stepIn rs s)
+-- the row in whose range a first byte is, if there is one: no two rows share a byte
+pub data Led : Type 0 where
+  unused : Led
+  led : Row → Led
+
+unfoldable pub rowFor : List Row → ℕ → Led
+rowFor [] b = unused
+rowFor (row lead second bytes ∷ rs) b = cond (inRange lead b) (led (row lead second bytes)) (rowFor rs b)
+
+-- By the row of the first byte: a maximal subpart is the longest start of a well-formed sequence, or one byte where there is
+-- none (D93b).
+abbrev pub stepFor : Led → List ℕ → Step
+stepFor unused s = mark 1
+stepFor (led r) s = taken (length (places r)) (front (places r) s)
 
 unfoldable pub step : List ℕ → Step
 step [] = ends
-step (b ∷ s) = stepIn rows (b ∷ s)
+step (b ∷ s) = stepFor (rowFor rows b) (b ∷ s)
 
 -- how many bytes a step takes
 abbrev pub stepSize : Step → ℕ

@@ -10,9 +10,9 @@ ghost use Prim.Native.Nat.{suc, _-_, _≤_};
 ghost use lib.ListN.{length, take, drop};
 ghost use lib.Dec.{leb};
 ghost use Rattle.answer.specs.Answer.{written, leaves};
-ghost use Rattle.utf8.specs.Text.{rows, follow, front, taken, step, stepSize, becomes, lossy, same};
+ghost use Rattle.utf8.specs.Text.{rows, rowFor, follow, front, taken, step, stepSize, becomes, lossy, same};
 ghost use Rattle.utf8.specs.Promise.{IsUtf8, LossyText, SameText};
-ghost use Rattle.utf8.specs.Inner.{asRange, seen, ledBy, rowFor, ascii, AsciiTo, Advances, textSize, Walks};
+ghost use Rattle.utf8.specs.Inner.{asRange, seen, ledBy, ascii, AsciiTo, Advances, textSize, Walks};
 
 // The bytes from the first to the last.
 struct Range {

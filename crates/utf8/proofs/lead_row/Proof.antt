@@ -11,8 +11,8 @@ use Prim.Native.Nat.{ℕ, _+_, _-_, _≤_, _<_}
 use native.Mathlib.Omega.{arith}
 use lib.ListN.{drop, getD, drop-of-length-le}
 use Rattle.utf8.specs.declared.Row as r
-use Rattle.utf8.specs.Text.{Row, rows, inRange}
-use Rattle.utf8.specs.Inner.{unused, led, rowFor, asRange, asRow}
+use Rattle.utf8.specs.Text.{Row, rows, inRange, unused, led, rowFor}
+use Rattle.utf8.specs.Inner.{asRange, asRow}
 use Rattle.utf8.proofs.Table.{inCode, noRow, codeRows, row-at}
 use Rattle.utf8.proofs.Stepping.{inRange-in, inRange-below, inRange-above, rowFor-none, rowFor-past, rowFor-here}
 use Rattle.utf8.proofs.lead_row.Statement.{statement}
