@@ -1,4 +1,4 @@
--- Laws about well-formed text and lossy text.
+-- Laws about well-formed text and lossy text: how they unroll step by step, and what each says of the other.
 use mathlib.Core.Path.{_≡_, refl, sym, ap, _∙_}
 use mathlib.Core.Logic.{_↔_}
 use mathlib.Core.Bool.{true, false, _&&_}
@@ -51,6 +51,7 @@ module _ {A : Type 0} (turn : Step → List ℕ → A → A) (end : A) (over : t
       enough (length s) (suc (length s)) s (omega arith) (omega arith)
       ∙ ap (turn (step s) s) (enough (length s) (length t) t (rest-length s (length s) (omega arith)) (omega arith))
 
+-- So both unroll.
 pub lossy-on : (s : List ℕ) → lossy s ≡ becomes (step s) s ++ lossy (drop (stepSize (step s)) s)
 unfolding lossy
 lossy-on s = by-steps-on (λ x t others. becomes x t ++ others) [] refl s
@@ -86,7 +87,7 @@ module _ (s : List ℕ) (n : ℕ) where
   pub mark-bounds : step s ≡ mark n → (1 ≤ n) × (n ≤ length s) × (n ≤ 3)
   mark-bounds is = rw is at (step-bounds s)
 
--- A law about a text goes step by step.
+-- A law about a text goes step by step: it holds of no bytes, and of some where it holds behind their first step.
 module _ (P : List ℕ → Type 0) (none : P [])
     (one : (s : List ℕ) (n : ℕ) → step s ≡ char n → P (drop n s) → P s)
     (bad : (s : List ℕ) (n : ℕ) → step s ≡ mark n → P (drop n s) → P s) where
@@ -118,6 +119,7 @@ module _ (s : List ℕ) (n : ℕ) where
   lossy-rest-mark : step s ≡ mark n → drop 3 (lossy s) ≡ lossy (drop n s)
   lossy-rest-mark is = rw (lossy-mark s n is)
 
+-- Each step becomes a well-formed sequence, which is the lossy text's first step.
 pub lossy-well : (s : List ℕ) → isUtf8 (lossy s) ≡ true
 lossy-well =
     by-steps (λ (s : List ℕ). isUtf8 (lossy s) ≡ true)
@@ -125,6 +127,7 @@ lossy-well =
     (λ s n is p. isUtf8-char (lossy s) n (lossy-step-char s n is) ∙ ap isUtf8 (lossy-rest-char s n is) ∙ p)
     (λ s n is p. isUtf8-char (lossy s) 3 (lossy-step-mark s n is) ∙ ap isUtf8 (lossy-rest-mark s n is) ∙ p)
 
+-- A well-formed text has no mark, and every other step becomes itself.
 pub lossy-same : (s : List ℕ) → isUtf8 s ≡ true → lossy s ≡ s
 lossy-same =
     by-steps (λ (s : List ℕ). isUtf8 s ≡ true → lossy s ≡ s)
@@ -141,7 +144,7 @@ well-iff s = (lossy-same s, λ e. sym (ap isUtf8 e) ∙ lossy-well s)
 pub lossy-again : (s : List ℕ) → lossy (lossy s) ≡ lossy s
 lossy-again s = lossy-same (lossy s) (lossy-well s)
 
--- ---- law: it is at most three times as long
+-- ---- law: it is at most three times as long, since a step of one byte becomes at most three
 
 pub lossy-length : (s : List ℕ) → length (lossy s) ≤ 3 * length s
 lossy-length =
@@ -156,7 +159,7 @@ lossy-length =
     let q = rw (length-drop n s) at p in
     rw (lossy-mark s n is) (omega arith))
 
--- ---- law: a well-formed text in front stays in front
+-- ---- law: a well-formed text in front stays in front, since each of its steps does
 
 module _ (b : List ℕ) where
   step-front : (a : List ℕ) (n : ℕ) → step a ≡ char n → step (a ++ b) ≡ char n

@@ -1,4 +1,4 @@
--- Laws about texts with the same lossy text.
+-- Laws about the same bytes, and about texts with the same lossy text.
 use mathlib.Core.Path.{_≡_, refl, sym, ap, ap₂, _∙_}
 use mathlib.Core.Logic.{_↔_}
 use mathlib.Core.Bool.{true, false}
@@ -94,6 +94,7 @@ piece-lossy s = go (step s) refl
         (ap (take n) (lossy-char s n is) ∙ take-at (take n s) (lossy (drop n s)) n (length-take-le n s (char-bounds s n is .1)))
     go (mark n) is = rw (lossy-step-mark s n is, is) (ap (take 3) (lossy-mark s n is))
 
+-- Where the first pieces are the same, the rests decide; where not, the lossy texts differ in their first piece.
 pub same-text-on : (s t : List ℕ) → same (piece s) (piece t) ≡ true → sameText s t ≡ sameText (rest s) (rest t)
 unfolding sameText
 same-text-on s t e =

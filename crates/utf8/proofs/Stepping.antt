@@ -1,4 +1,4 @@
--- Laws about one step.
+-- Laws about one step: its row, how many of the row's places are filled, and how many bytes it takes.
 use mathlib.Core.Path.{_≡_, refl, sym, ap, ap₂, _∙_}
 use mathlib.Core.Bool.{Bool, true, false, _&&_}
 use mathlib.Core.List.{List, [], _∷_, _++_}
@@ -54,6 +54,7 @@ module _ (p : Range) (ps : List Range) (s : List ℕ) where
   unfolding front
   front-on e = simp e
 
+-- no more than there are places, and than there are bytes: place by place
 pub front-places : (ps : List Range) (s : List ℕ) → front ps s ≤ length ps
 front-places [] s = rw (front-none s) zero-le
 front-places (p ∷ ps) s =
@@ -91,7 +92,7 @@ unfolding follow
 follow-length zero p = refl
 follow-length (suc left) p = ap suc (follow-length left (0x80 to 0xBF))
 
--- all places filled: the bytes behind them do not matter
+-- all places filled: the bytes behind them do not matter, place by place
 pub front-kept : (ps : List Range) (s t : List ℕ) → front ps s ≡ length ps → front ps (take (length ps) s ++ t) ≡ length ps
 front-kept [] s t e = front-none _
 front-kept (p ∷ ps) [] t e =
@@ -164,6 +165,7 @@ Bounded ends there = there ≡ 0
 Bounded (char n) there = (1 ≤ n) × (n ≤ there) × (n ≤ 4)
 Bounded (mark n) there = (1 ≤ n) × (n ≤ there) × (n ≤ 3)
 
+-- by whether all places are filled: a mark lacks one of at most four
 taken-bounds : (all n there : ℕ) → 1 ≤ n → n ≤ there → n ≤ all → all ≤ 4 → Bounded (taken all n) there
 taken-bounds all n there some most places four = go (ℕ-discrete n all)
   where
@@ -188,6 +190,7 @@ step-bounds (b ∷ s) = go (rowFor rows b) (found b)
 
 -- ---- a well-formed sequence in front of a list stays in front: its bytes fill all of its row's places
 
+-- only all places make a well-formed sequence
 taken-char : (all m n : ℕ) → taken all m ≡ char n → (m ≡ all) × (m ≡ n)
 taken-char all m n e = go (ℕ-discrete m all)
   where

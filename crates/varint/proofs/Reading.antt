@@ -1,5 +1,5 @@
 -- Laws about reading a number: what one byte more does, that what was written is read back, what an accepted number and a
--- refusal say of the bytes, and that bytes appended change neither.
+-- refusal say of the bytes, where a number is refused, and that bytes appended change no answer but 3.
 use mathlib.Core.Path.{_≡_, refl, sym, ap, ap₂, _∙_}
 use mathlib.Core.Logic.{⊎-elim}
 use mathlib.Core.List.{List, [], _∷_, _++_, append-cancel-left}
@@ -159,6 +159,7 @@ pub number-none : number [] ≡ refused 3 0
 unfolding number
 number-none = refl
 
+-- byte by byte, as more-cases has it
 more-accepted : (s : List ℕ) (sum k v used : ℕ) → more sum k s ≡ done v used
     → (k < used) × (used ≤ 10) × (used ≤ k + length s) × (v < 2 ^ 64)
 more-accepted [] sum k v used e = not-both e (more-none sum k)
@@ -187,10 +188,11 @@ accepted (b ∷ s) v used e =
 
 -- The bytes that are there end inside a number: there are none, or the first is at least 240 and the rest at least 128, so
 -- that the last one announces another.
-abbrev pub Inside : List ℕ → Type 0
-Inside [] = Unit
-Inside (b ∷ s) = (240 ≤ b) × ((i : ℕ) → i < length s → 128 ≤ getD s i 0)
+abbrev pub Unfinished : List ℕ → Type 0
+Unfinished [] = Unit
+Unfinished (b ∷ s) = (240 ≤ b) × ((i : ℕ) → i < length s → 128 ≤ getD s i 0)
 
+-- only the end of the bytes gives 3, so each byte before it announced another
 more-short : (s : List ℕ) (sum k place : ℕ) → more sum k s ≡ refused 3 place
     → (place ≡ k + length s) × ((i : ℕ) → i < length s → 128 ≤ getD s i 0)
 more-short [] sum k place e =
@@ -210,7 +212,7 @@ more-short (b ∷ s) sum k place e =
     all l rest (suc i) h = rest i (omega arith)
 
 -- Law: 3 is given at the end of the bytes, and only where they end inside a number.
-pub short : (s : List ℕ) (place : ℕ) → number s ≡ refused 3 place → (place ≡ length s) × Inside s
+pub short : (s : List ℕ) (place : ℕ) → number s ≡ refused 3 place → (place ≡ length s) × Unfinished s
 short [] place e =
     let one : refused 3 0 ≡ refused 3 place = sym number-none ∙ e in
     let p : 0 ≡ place = cc in
@@ -222,6 +224,7 @@ short (b ∷ s) place e =
 
 -- ---- where a number is refused
 
+-- at the end of the bytes, or right behind the byte that breaks the number
 pub more-place : (s : List ℕ) (sum k n place : ℕ) → more sum k s ≡ refused n place → place ≤ k + length s
 more-place [] sum k n place e =
     let one : refused 3 k ≡ refused n place = sym (more-none sum k) ∙ e in
@@ -249,6 +252,7 @@ number-place (b ∷ s) n place e =
 
 -- ---- bytes appended
 
+-- the byte that decides is there before and after
 more-kept : (s t : List ℕ) (sum k : ℕ) (a : Answer ℕ) → more sum k s ≡ a → ((place : ℕ) → a ≡ refused 3 place → ⊥) → more sum k (s ++ t) ≡ a
 more-kept [] t sum k a e no3 = absurd (no3 k (sym e ∙ more-none sum k))
 more-kept (b ∷ s) t sum k a e no3 =
