@@ -1,17 +1,17 @@
--- No second result meets a promise.
-use mathlib.Core.Path.{_≡_, sym, ap, _∙_}
+-- No second result meets a call's promise: it fixes the answer.
+use mathlib.Core.Path.{_≡_, ap}
 use mathlib.Core.List.{List}
 use Prim.Native.Nat.{ℕ}
 use native.Mathlib.Omega.{arith}
-use Rattle.answer.proofs.Same.{refusal-same}
+use Rattle.answer.proofs.Same.{refusal-same, one-only}
 use Rattle.hello.specs.declared.Size.{Size}
 use Rattle.hello.specs.declared.Size.the-variants as z
 use Rattle.hello.specs.declared.Version as v
 use Rattle.hello.specs.declared.Chosen.{Chosen}
 use Rattle.hello.specs.declared.Chosen.the-variants as c
-use Rattle.hello.specs.Hello.{frameSize, choice}
-use Rattle.hello.specs.Promise.{sizeOf, choiceOf}
+use Rattle.hello.specs.Promise.{sizeOf, choiceOf, NegotiateMaxFrameSize, NegotiateVersion}
 
+-- answers that say the same are the same
 sizeOf-same : (a b : Size) → sizeOf a ≡ sizeOf b → a ≡ b
 sizeOf-same (z.Agreed m) (z.Agreed n) e = let q : m ≡ n = cc in cc
 sizeOf-same (z.Agreed m) (z.Refused q) e = let z : _≡_ {A = ℕ} 0 1 = cc in absurd (omega arith)
@@ -27,8 +27,8 @@ choiceOf-same (c.Version x) c.None e = let z : _≡_ {A = ℕ} 0 1 = cc in absur
 choiceOf-same c.None (c.Version y) e = let z : _≡_ {A = ℕ} 0 1 = cc in absurd (omega arith)
 choiceOf-same c.None c.None e = cc
 
-pub negotiate-max-frame-size-unique : (theirs ours : ℕ) (r q : Size) → sizeOf r ≡ frameSize theirs ours → sizeOf q ≡ frameSize theirs ours → r ≡ q
-negotiate-max-frame-size-unique theirs ours r q p s = sizeOf-same r q (p ∙ sym s)
+pub negotiate-max-frame-size-unique : (theirs ours : ℕ) (r q : Size) → NegotiateMaxFrameSize theirs ours r → NegotiateMaxFrameSize theirs ours q → r ≡ q
+negotiate-max-frame-size-unique theirs ours r q p s = sizeOf-same r q (one-only p s)
 
-pub negotiate-version-unique : (versions : List ℕ) (r q : Chosen) → choiceOf r ≡ choice versions → choiceOf q ≡ choice versions → r ≡ q
-negotiate-version-unique versions r q p s = choiceOf-same r q (p ∙ sym s)
+pub negotiate-version-unique : (versions : List ℕ) (r q : Chosen) → NegotiateVersion versions r → NegotiateVersion versions q → r ≡ q
+negotiate-version-unique versions r q p s = choiceOf-same r q (one-only p s)

@@ -1,12 +1,12 @@
 -- The HELLO handshake: SPOE.txt, sections 3.2, 3.2.4 and 3.2.5.
-use mathlib.Core.Bool.{Bool, true, false, cond, _&&_, _||_}
+use mathlib.Core.Bool.{Bool, false, cond, _&&_, _||_}
 use mathlib.Core.List.{List, [], _∷_}
 use Prim.Native.Nat.{ℕ, min}
 use lib.Dec.{leb, eqb}
 use Rattle.answer.specs.Answer.{Answer, done, refused}
 
 -- "The maximum size supported by peers for a frame must be greater than or equal to 256 bytes", and the agent returns "the lower
--- value between its maximum size allowed for a frame and the HAProxy one". 13 at place 0 where a size is below (document 01).
+-- value between its maximum size allowed for a frame and the HAProxy one". 13 at place 0 where a size is below (docs/RULES.md).
 unfoldable pub frameSize : ℕ → ℕ → Answer Unit
 frameSize theirs ours = cond (leb 256 theirs && leb 256 ours) (done tt (min theirs ours)) (refused 13 0)
 

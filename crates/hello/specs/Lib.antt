@@ -1,3 +1,3 @@
--- The two negotiations of the HELLO handshake, and what the calls promise.
+-- The two negotiations of the HELLO handshake, and what each call promises.
 pub mod Hello
 pub mod Promise

@@ -1,13 +1,7 @@
 // The two negotiations of the HELLO handshake (SPOE.txt, sections 3.2.4 and 3.2.5).
-ghost use mathlib.Core.Path.{_≡_};
-ghost use Rattle.answer.specs.Answer.{refused};
-ghost use Rattle.hello.specs.Hello.{frameSize, choice};
-ghost use Rattle.hello.specs.Promise.{sizeOf, choiceOf};
 use answer::Refusal;
 use answer::SIZE_TOO_SMALL;
-
-// The most that a frame may declare before the handshake settled on less.
-pub const MAX_FRAME_SIZE_LIMIT: u32 = 1_048_576;
+ghost use Rattle.hello.specs.Promise.{NegotiateMaxFrameSize, NegotiateVersion};
 
 // The least size that a peer may announce.
 pub const MIN_FRAME_SIZE: u32 = 256;
@@ -38,13 +32,19 @@ pub enum Chosen {
 
 // The smaller of both sizes.
 pub fn negotiate_max_frame_size(theirs: u32, ours: u32) -> Size
-    ensures { λ r. ⌜ sizeOf r ≡ frameSize theirs ours ⌝ }
+    ensures { λ r. ⌜ NegotiateMaxFrameSize theirs ours r ⌝ }
 {
     if theirs < MIN_FRAME_SIZE {
-        return refuse();
+        return Size::Refused(Refusal {
+            number: SIZE_TOO_SMALL,
+            place: 0,
+        });
     }
     if ours < MIN_FRAME_SIZE {
-        return refuse();
+        return Size::Refused(Refusal {
+            number: SIZE_TOO_SMALL,
+            place: 0,
+        });
     }
     if theirs < ours {
         return Size::Agreed(theirs);
@@ -52,18 +52,9 @@ pub fn negotiate_max_frame_size(theirs: u32, ours: u32) -> Size
     Size::Agreed(ours)
 }
 
-fn refuse() -> Size
-    ensures { λ r. ⌜ sizeOf r ≡ refused 13 0 ⌝ }
-{
-    Size::Refused(Refusal {
-        number: SIZE_TOO_SMALL,
-        place: 0,
-    })
-}
-
 // The supported version, where one of the announced ones has its major number. A version is three numbers of the slice.
 pub fn negotiate_version(versions: &[u64]) -> Chosen
-    ensures { λ r. ⌜ choiceOf r ≡ choice (now (versions .entry)) ⌝ }
+    ensures { λ r. ⌜ NegotiateVersion (now (versions .entry)) r ⌝ }
 {
     let mut at = 0;
     while 3 <= versions.len() - at {

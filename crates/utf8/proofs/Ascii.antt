@@ -1,27 +1,26 @@
 -- Bytes below 128 are text, each a character of its own.
 use mathlib.Core.Path.{_≡_, refl, sym, ap, _∙_}
-use mathlib.Core.Bool.{Bool, true, false, _&&_, and-assoc, and-true}
+use mathlib.Core.Bool.{Bool, true, _&&_, and-assoc, and-true}
 use mathlib.Core.List.{List, [], _∷_, _++_}
 use Prim.Native.Nat.{ℕ, suc, _+_, _-_, _<_, _≤_, zero-le}
 use native.Mathlib.Numerals.{add-one}
 use native.Mathlib.Omega.{arith}
 use lib.Dec.{ltb}
-use lib.ListN.{length, take, drop, getD}
+use lib.ListN.{length, take, drop, getD, length-drop}
 use lib.Seq.{drop-cons, take-add, take-suc}
 use borrow.Author.Tests.{ltb-true, lt-ltb}
 use Rattle.utf8.specs.Text.{isUtf8}
 use Rattle.utf8.specs.Inner.{ascii, AsciiTo}
-use Rattle.answer.proofs.Cases.{bool-cases, true-false}
-use Rattle.utf8.proofs.Stepping.{step-ascii}
+use Rattle.answer.proofs.Output.{lent-tail}
+use Rattle.utf8.proofs.Stepping.{both-true, step-ascii}
 use Rattle.utf8.proofs.Lossy.{isUtf8-none, isUtf8-char}
 
 pub ascii-well : (s : List ℕ) → ascii s ≡ true → isUtf8 s ≡ true
 unfolding ascii
 ascii-well [] e = isUtf8-none
 ascii-well (b ∷ s) e =
-    bool-cases (ltb b 128)
-    (λ q. isUtf8-char (b ∷ s) 1 (step-ascii b s (ltb-true b 128 q)) ∙ ascii-well s (simp q at e))
-    (λ q. let f = simp q at e in true-false f refl)
+    let q = both-true (ltb b 128) (ascii s) e in
+    isUtf8-char (b ∷ s) 1 (step-ascii b s (ltb-true b 128 (q .0))) ∙ ascii-well s (q .1)
 
 -- ---- eight at once
 
@@ -46,17 +45,22 @@ ascii-four s h = simp (ascii-next s 3 0 (omega arith), ascii-next s 2 1 (omega a
 ascii-both : (s t : List ℕ) → ascii s ≡ true → ascii t ≡ true → ascii (s ++ t) ≡ true
 unfolding ascii
 ascii-both [] t p q = q
-ascii-both (b ∷ s) t p q =
-    bool-cases (ltb b 128)
-    (λ e. simp e (ascii-both s t (simp e at p) q))
-    (λ e. let f = simp e at p in true-false f refl)
+ascii-both (b ∷ s) t p q = let e = both-true (ltb b 128) (ascii s) p in simp (e .0) (ascii-both s t (e .1) q)
 
 pub ascii-to-none : (s : List ℕ) → AsciiTo s 0
 ascii-to-none s = record { there = zero-le; are = ascii-none }
 
 -- k more of them, in a block
-pub ascii-to-block : (s : List ℕ) (n k : ℕ) → AsciiTo s n → k ≤ length s - n → ascii (take k (drop n s)) ≡ true → AsciiTo s (n + k)
+ascii-to-block : (s : List ℕ) (n k : ℕ) → AsciiTo s n → k ≤ length s - n → ascii (take k (drop n s)) ≡ true → AsciiTo s (n + k)
 ascii-to-block s n k a h e = record { there = omega (arith, a .there); are = rw (take-add n k s) (ascii-both (take n s) (take k (drop n s)) (a .are) e) }
+
+-- A loop goes on by a block of k, where it lends the rest behind the first n, `&s[n..]`, and is told that its first k are ASCII.
+module _ (s : List ℕ) (n k : ℕ) (h : k ≤ length s - n) where
+  pub block-lent : k ≤ length (take (length s - n) (drop n s))
+  block-lent = rw (lent-tail n s) (omega (arith, length-drop n s))
+
+  pub block-on : AsciiTo s n → {told : Bool} → told ≡ ascii (take k (take (length s - n) (drop n s))) → told ≡ true → AsciiTo s (n + k)
+  block-on a is e = ascii-to-block s n k a h (rw (lent-tail n s) at (sym is ∙ e))
 
 -- a test of one byte more
 ascii-last : (s : List ℕ) (b : ℕ) → ascii (s ++ (b ∷ [])) ≡ ascii s && ltb b 128
@@ -80,10 +84,7 @@ ascii-to-one s n a h e = record {
 ascii-front : (s t : List ℕ) → ascii (s ++ t) ≡ true → ascii s ≡ true
 unfolding ascii
 ascii-front [] t p = refl
-ascii-front (b ∷ s) t p =
-    bool-cases (ltb b 128)
-    (λ e. simp e (ascii-front s t (simp e at p)))
-    (λ e. let f = simp e at p in true-false f refl)
+ascii-front (b ∷ s) t p = let e = both-true (ltb b 128) (ascii (s ++ t)) p in simp (e .0) (ascii-front s t (e .1))
 
 ascii-less : (s : List ℕ) (n from : ℕ) → AsciiTo s n → from ≤ n → ascii (take from s) ≡ true
 ascii-less s n from a h =
@@ -101,13 +102,6 @@ ascii-to-end s n from k a h e are =
           ∙ ap ascii (take-add from k s)
           ∙ ascii-both (take from s) (take k (drop from s)) (ascii-less s n from a h) are;
     }
-
--- two tests that both hold
-pub both-first : (p q : Bool) → p && q ≡ true → p ≡ true
-both-first p q e = bool-cases p (λ t. t) (λ t. let f = simp t at e in true-false f refl)
-
-pub both-second : (p q : Bool) → p && q ≡ true → q ≡ true
-both-second p q e = bool-cases p (λ t. simp t at e) (λ t. let f = simp t at e in true-false f refl)
 
 -- so are few bytes whose first four and last four are
 pub ascii-few : (s : List ℕ) (from : ℕ) → from ≤ 4 → from + 4 ≡ length s → ascii (take 4 s) ≡ true → ascii (take 4 (drop from s)) ≡ true → AsciiTo s (length s)

@@ -1,4 +1,5 @@
--- Laws about text: its steps, lossy text, ASCII, texts that are the same, and what each walk over a text needs.
+-- Laws about text: the table, its steps, lossy text, ASCII, texts that are the same, what each walk over a text needs, and that no
+-- second result meets a promise.
 pub mod Table
 pub mod Stepping
 pub mod Lossy

@@ -1,94 +1,72 @@
--- Laws about well-formed text and lossy text.
-use mathlib.Core.Path.{_≡_, refl, sym, ap, ap₂, _∙_}
-use mathlib.Core.Logic.{_⊎_, inl, inr, ⊎-elim, _↔_}
-use mathlib.Core.Bool.{Bool, true, false, cond, _&&_}
-use mathlib.Core.List.{List, [], _∷_, _++_, append-assoc, append-nil}
-use Prim.Native.Nat.{ℕ, zero, suc, _+_, _-_, _*_, _≤_, _<_, zero-le, suc-le-suc}
+-- Laws about well-formed text and lossy text: how they unroll step by step, and what each says of the other.
+use mathlib.Core.Path.{_≡_, refl, sym, ap, _∙_}
+use mathlib.Core.Logic.{_↔_}
+use mathlib.Core.Bool.{true, false, _&&_}
+use mathlib.Core.List.{List, [], _∷_, _++_, append-assoc}
+use Prim.Native.Nat.{ℕ, zero, suc, _-_, _*_, _≤_, zero-le}
 use native.Mathlib.Omega.{arith}
-use lib.ListN.{length, take, drop, length-append, length-take, length-drop, take-append-drop}
-use lib.Seq.{take-at, drop-at, length-take-le, take-append-le, drop-append-le}
+use lib.ListN.{length, take, drop, length-append, length-drop, take-append-drop}
+use lib.Seq.{drop-at, length-take-le, take-append-le, drop-append-le}
 use Rattle.answer.proofs.Cases.{true-false}
-use Rattle.utf8.specs.Text.{Step, ends, char, mark, step, size, whole, replacement, becomes, isUtf8In, lossyIn, isUtf8, lossy}
-use Rattle.utf8.proofs.Stepping.{Bounded, step-bounds, step-kept, step-none, step-replacement, step-ascii}
+use Rattle.utf8.specs.Text.{Step, ends, char, mark, step, stepSize, whole, replacement, becomes, bySteps, isUtf8, lossy}
+use Rattle.utf8.proofs.Stepping.{Bounded, step-bounds, step-kept, step-none, step-replacement}
 
 -- ---- one step
 
 -- a step leaves fewer bytes, or there were none
-rest-length : (s : List ℕ) (left : ℕ) → length s ≤ suc left → length (drop (size (step s)) s) ≤ left
+rest-length : (s : List ℕ) (left : ℕ) → length s ≤ suc left → length (drop (stepSize (step s)) s) ≤ left
 rest-length s left h = simp length-drop (go (step s) (step-bounds s))
   where
-    go : (x : Step) → Bounded x (length s) → length s - size x ≤ left
+    go : (x : Step) → Bounded x (length s) → length s - stepSize x ≤ left
     go ends b = omega arith
     go (char n) b = omega arith
     go (mark n) b = omega arith
-
-module _ (left : ℕ) where
-  lossyIn-on : (s : List ℕ) → lossyIn (suc left) s ≡ becomes (step s) s ++ lossyIn left (drop (size (step s)) s)
-  unfolding lossyIn
-  lossyIn-on s = refl
-
-  isUtf8In-on : (s : List ℕ) → isUtf8In (suc left) s ≡ whole (step s) && isUtf8In left (drop (size (step s)) s)
-  unfolding isUtf8In
-  isUtf8In-on s = refl
-
-lossyIn-none : (left : ℕ) → lossyIn left [] ≡ []
-unfolding lossyIn
-lossyIn-none zero = refl
-lossyIn-none (suc left) = simp (step-none, lossyIn-none left)
-
-isUtf8In-none : (left : ℕ) → isUtf8In left [] ≡ true
-unfolding isUtf8In
-isUtf8In-none zero = refl
-isUtf8In-none (suc left) = simp (step-none, isUtf8In-none left)
 
 -- no bytes
 pub empty : (s : List ℕ) → length s ≤ 0 → s ≡ []
 empty [] h = refl
 empty (b ∷ s) h = absurd (omega arith)
 
--- Where the count down starts does not matter, as long as it is enough.
-lossyIn-enough : (j k : ℕ) (s : List ℕ) → length s ≤ j → length s ≤ k → lossyIn j s ≡ lossyIn k s
-lossyIn-enough zero k s h g = rw (empty s h) (lossyIn-none 0 ∙ sym (lossyIn-none k))
-lossyIn-enough (suc j) zero s h g = rw (empty s g) (lossyIn-none (suc j) ∙ sym (lossyIn-none 0))
-lossyIn-enough (suc j) (suc k) s h g =
-    lossyIn-on j s
-    ∙ ap (λ (l : List ℕ). becomes (step s) s ++ l)
-    (lossyIn-enough j k (drop (size (step s)) s) (rest-length s j h) (rest-length s k g))
-    ∙ sym (lossyIn-on k s)
+-- Of a turn that leaves the end as it is where there are no bytes: where the count down starts does not matter, as long as it
+-- is enough, so that steps unroll without it. By recursion on both counts.
+module _ {A : Type 0} (turn : Step → List ℕ → A → A) (end : A) (over : turn ends [] end ≡ end) where
+  none : (left : ℕ) → bySteps turn end left [] ≡ end
+  unfolding bySteps
+  none zero = refl
+  none (suc left) = simp (step-none, none left) over
 
-isUtf8In-enough : (j k : ℕ) (s : List ℕ) → length s ≤ j → length s ≤ k → isUtf8In j s ≡ isUtf8In k s
-isUtf8In-enough zero k s h g = rw (empty s h) (isUtf8In-none 0 ∙ sym (isUtf8In-none k))
-isUtf8In-enough (suc j) zero s h g = rw (empty s g) (isUtf8In-none (suc j) ∙ sym (isUtf8In-none 0))
-isUtf8In-enough (suc j) (suc k) s h g =
-    isUtf8In-on j s
-    ∙ ap (λ (l : Bool). whole (step s) && l)
-    (isUtf8In-enough j k (drop (size (step s)) s) (rest-length s j h) (rest-length s k g))
-    ∙ sym (isUtf8In-on k s)
+  enough : (j k : ℕ) (s : List ℕ) → length s ≤ j → length s ≤ k → bySteps turn end j s ≡ bySteps turn end k s
+  unfolding bySteps
+  enough zero k s h g = rw (empty s h) (sym (none k))
+  enough (suc j) zero s h g = rw (empty s g) (none (suc j))
+  enough (suc j) (suc k) s h g =
+      ap (turn (step s) s) (enough j k (drop (stepSize (step s)) s) (rest-length s j h) (rest-length s k g))
 
--- So both unroll without it.
-pub lossy-on : (s : List ℕ) → lossy s ≡ becomes (step s) s ++ lossy (drop (size (step s)) s)
+  pub by-steps-on : (s : List ℕ)
+      → let t = drop (stepSize (step s)) s in
+      bySteps turn end (length s) s ≡ turn (step s) s (bySteps turn end (length t) t)
+  unfolding bySteps
+  by-steps-on s =
+      let t = drop (stepSize (step s)) s in
+      enough (length s) (suc (length s)) s (omega arith) (omega arith)
+      ∙ ap (turn (step s) s) (enough (length s) (length t) t (rest-length s (length s) (omega arith)) (omega arith))
+
+-- So both unroll.
+pub lossy-on : (s : List ℕ) → lossy s ≡ becomes (step s) s ++ lossy (drop (stepSize (step s)) s)
 unfolding lossy
-lossy-on s =
-    let t = drop (size (step s)) s in
-    lossyIn-enough (length s) (suc (length s)) s (omega arith) (omega arith)
-    ∙ lossyIn-on (length s) s
-    ∙ ap (λ (l : List ℕ). becomes (step s) s ++ l) (lossyIn-enough (length s) (length t) t (rest-length s (length s) (omega arith)) (omega arith))
+lossy-on s = by-steps-on (λ x t others. becomes x t ++ others) [] refl s
 
-pub isUtf8-on : (s : List ℕ) → isUtf8 s ≡ whole (step s) && isUtf8 (drop (size (step s)) s)
+pub isUtf8-on : (s : List ℕ) → isUtf8 s ≡ whole (step s) && isUtf8 (drop (stepSize (step s)) s)
 unfolding isUtf8
-isUtf8-on s =
-    let t = drop (size (step s)) s in
-    isUtf8In-enough (length s) (suc (length s)) s (omega arith) (omega arith)
-    ∙ isUtf8In-on (length s) s
-    ∙ ap (λ (l : Bool). whole (step s) && l) (isUtf8In-enough (length s) (length t) t (rest-length s (length s) (omega arith)) (omega arith))
+isUtf8-on s = by-steps-on (λ x t others. whole x && others) true refl s
 
 pub lossy-none : lossy [] ≡ []
-unfolding lossy
-lossy-none = lossyIn-none 0
+unfolding lossy bySteps
+lossy-none = refl
 
 pub isUtf8-none : isUtf8 [] ≡ true
-unfolding isUtf8
-isUtf8-none = isUtf8In-none 0
+unfolding isUtf8 bySteps
+isUtf8-none = refl
 
 module _ (s : List ℕ) (n : ℕ) where
   pub lossy-char : step s ≡ char n → lossy s ≡ take n s ++ lossy (drop n s)
@@ -109,18 +87,18 @@ module _ (s : List ℕ) (n : ℕ) where
   pub mark-bounds : step s ≡ mark n → (1 ≤ n) × (n ≤ length s) × (n ≤ 3)
   mark-bounds is = rw is at (step-bounds s)
 
--- A law about a text goes step by step.
+-- A law about a text goes step by step: it holds of no bytes, and of some where it holds behind their first step.
 module _ (P : List ℕ → Type 0) (none : P [])
     (one : (s : List ℕ) (n : ℕ) → step s ≡ char n → P (drop n s) → P s)
     (bad : (s : List ℕ) (n : ℕ) → step s ≡ mark n → P (drop n s) → P s) where
-  next : (s : List ℕ) (x : Step) → step s ≡ x → P (drop (size x) s) → P s
+  next : (s : List ℕ) (x : Step) → step s ≡ x → P (drop (stepSize x) s) → P s
   next s ends is p = p
   next s (char n) is p = one s n is p
   next s (mark n) is p = bad s n is p
 
   within-steps : (left : ℕ) (s : List ℕ) → length s ≤ left → P s
   within-steps zero s h = rw (empty s h) none
-  within-steps (suc left) s h = next s (step s) refl (within-steps left (drop (size (step s)) s) (rest-length s left h))
+  within-steps (suc left) s h = next s (step s) refl (within-steps left (drop (stepSize (step s)) s) (rest-length s left h))
 
   pub by-steps : (s : List ℕ) → P s
   by-steps s = within-steps (length s) s (omega arith)
@@ -141,6 +119,7 @@ module _ (s : List ℕ) (n : ℕ) where
   lossy-rest-mark : step s ≡ mark n → drop 3 (lossy s) ≡ lossy (drop n s)
   lossy-rest-mark is = rw (lossy-mark s n is)
 
+-- Each step becomes a well-formed sequence, which is the lossy text's first step.
 pub lossy-well : (s : List ℕ) → isUtf8 (lossy s) ≡ true
 lossy-well =
     by-steps (λ (s : List ℕ). isUtf8 (lossy s) ≡ true)
@@ -148,6 +127,7 @@ lossy-well =
     (λ s n is p. isUtf8-char (lossy s) n (lossy-step-char s n is) ∙ ap isUtf8 (lossy-rest-char s n is) ∙ p)
     (λ s n is p. isUtf8-char (lossy s) 3 (lossy-step-mark s n is) ∙ ap isUtf8 (lossy-rest-mark s n is) ∙ p)
 
+-- A well-formed text has no mark, and every other step becomes itself.
 pub lossy-same : (s : List ℕ) → isUtf8 s ≡ true → lossy s ≡ s
 lossy-same =
     by-steps (λ (s : List ℕ). isUtf8 s ≡ true → lossy s ≡ s)
@@ -164,7 +144,7 @@ well-iff s = (lossy-same s, λ e. sym (ap isUtf8 e) ∙ lossy-well s)
 pub lossy-again : (s : List ℕ) → lossy (lossy s) ≡ lossy s
 lossy-again s = lossy-same (lossy s) (lossy-well s)
 
--- ---- law: it is at most three times as long
+-- ---- law: it is at most three times as long, since a step of one byte becomes at most three
 
 pub lossy-length : (s : List ℕ) → length (lossy s) ≤ 3 * length s
 lossy-length =
@@ -179,7 +159,7 @@ lossy-length =
     let q = rw (length-drop n s) at p in
     rw (lossy-mark s n is) (omega arith))
 
--- ---- law: a well-formed text in front stays in front
+-- ---- law: a well-formed text in front stays in front, since each of its steps does
 
 module _ (b : List ℕ) where
   step-front : (a : List ℕ) (n : ℕ) → step a ≡ char n → step (a ++ b) ≡ char n

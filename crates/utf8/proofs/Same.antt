@@ -1,19 +1,18 @@
--- Laws about texts with the same lossy text.
+-- Laws about the same bytes, and about texts with the same lossy text.
 use mathlib.Core.Path.{_≡_, refl, sym, ap, ap₂, _∙_}
-use mathlib.Core.Logic.{_⊎_, inl, inr, ⊎-elim, _↔_}
-use mathlib.Core.Bool.{Bool, true, false, cond, _&&_}
+use mathlib.Core.Logic.{_↔_}
+use mathlib.Core.Bool.{true, false}
 use mathlib.Core.List.{List, [], _∷_, _++_}
-use Prim.Native.Nat.{ℕ, zero, suc, _+_, _-_, _*_, _≤_, _<_, zero-le, suc-le-suc}
+use Prim.Native.Nat.{ℕ, _+_, _<_}
 use native.Mathlib.Omega.{arith}
-use native.Mathlib.Decide.{ℕ-discrete}
 use lib.Dec.{eqb, eqb·suc-zero}
 use lib.ListN.{length, take, drop, getD}
 use native.Mathlib.Numerals.{add-one}
 use lib.Seq.{drop-cons, take-at, length-take-le}
 use borrow.Author.Tests.{eq-eqb, ne-eqb, eqb-true}
-use Rattle.utf8.specs.Text.{Step, ends, char, mark, step, size, becomes, isUtf8, lossy, same, sameText}
+use Rattle.utf8.specs.Text.{Step, ends, char, mark, step, stepSize, becomes, isUtf8, lossy, same, sameText}
 use Rattle.answer.proofs.Cases.{bool-cases, true-false}
-use Rattle.utf8.proofs.Stepping.{Bounded, step-bounds, step-none}
+use Rattle.utf8.proofs.Stepping.{both-true, step-bounds}
 use Rattle.utf8.proofs.Lossy.{empty, lossy-on, lossy-none, lossy-char, lossy-mark, lossy-same, lossy-step-char, lossy-step-mark, char-bounds}
 
 -- ---- the same bytes
@@ -28,10 +27,7 @@ unfolding same
 same-true [] [] e = refl
 same-true [] (b ∷ t) e = true-false e refl
 same-true (a ∷ s) [] e = true-false e refl
-same-true (a ∷ s) (b ∷ t) e =
-    bool-cases (eqb a b)
-    (λ q. ap₂ _∷_ (eqb-true a b q) (same-true s t (simp q at e)))
-    (λ q. let f = simp q at e in true-false f refl)
+same-true (a ∷ s) (b ∷ t) e = let q = both-true (eqb a b) (same s t) e in ap₂ _∷_ (eqb-true a b (q .0)) (same-true s t (q .1))
 
 pub same-iff : (s t : List ℕ) → (same s t ≡ true) ↔ (s ≡ t)
 same-iff s t = (same-true s t, λ e. rw e (same-refl t))
@@ -83,7 +79,7 @@ abbrev pub piece : List ℕ → List ℕ
 piece s = becomes (step s) s
 
 abbrev pub rest : List ℕ → List ℕ
-rest s = drop (size (step s)) s
+rest s = drop (stepSize (step s)) s
 
 piece-lossy : (s : List ℕ) → piece (lossy s) ≡ piece s
 piece-lossy s = go (step s) refl
@@ -98,6 +94,7 @@ piece-lossy s = go (step s) refl
         (ap (take n) (lossy-char s n is) ∙ take-at (take n s) (lossy (drop n s)) n (length-take-le n s (char-bounds s n is .1)))
     go (mark n) is = rw (lossy-step-mark s n is, is) (ap (take 3) (lossy-mark s n is))
 
+-- Where the first pieces are the same, the rests decide; where not, the lossy texts differ in their first piece.
 pub same-text-on : (s t : List ℕ) → same (piece s) (piece t) ≡ true → sameText s t ≡ sameText (rest s) (rest t)
 unfolding sameText
 same-text-on s t e =

@@ -1,9 +1,9 @@
--- The code's table and the definition's.
+-- The definition's table as the code has it, for the loop that reads it row by row.
 use mathlib.Core.Path.{_≡_, refl, sym, ap, _∙_}
 use mathlib.Core.List.{List, _∷_, map}
 use Prim.Native.Nat.{ℕ, suc, _+_, _<_}
 use native.Mathlib.Numerals.{add-one}
-use lib.ListN.{length, drop, getD, List·getD-map}
+use lib.ListN.{drop, getD, List·getD-map}
 use lib.Seq.{drop-cons}
 use Rattle.utf8.specs.declared.Row as r
 use Rattle.utf8.specs.Text.{_to_, Row, row, rows}
@@ -16,14 +16,14 @@ inCode (row (a to b) (c to d) n) = record { lead = record { low = a; high = b };
 abbrev pub noRow : Row
 noRow = row (0 to 0) (0 to 0) 0
 
--- The code's table is this list (`lead_row`'s proof says so, where it reads a row), so code and definition hold the same rows.
+-- The code's table has no name here: `lead_row`'s proof holds it to this list, by computing, where a row is read.
 abbrev pub codeRows : List r.Row
 codeRows = map inCode rows
 
 same-row : (x : Row) → asRow (inCode x) ≡ x
 same-row (row (a to b) (c to d) n) = refl
 
--- what is left of the table starts with the row that the code reads
+-- What is left of the table starts with row i of that list: a row comes back from the code's form as it was.
 pub row-at : (i : ℕ) → i < 9 → drop i rows ≡ asRow (getD codeRows i (inCode noRow)) ∷ drop (i + 1) rows
 unfolding rows
 row-at i h =

@@ -1,30 +1,30 @@
 -- Walking over two texts at once: what the walk needs of each turn.
-use mathlib.Core.Path.{_≡_, refl, sym, ap, ap₂, _∙_}
+use mathlib.Core.Path.{_≡_, sym, ap, ap₂, _∙_}
 use mathlib.Core.Bool.{Bool, true, false, _&&_, and-assoc, and-true}
-use mathlib.Core.List.{List, [], _∷_, _++_}
-use Prim.Native.Nat.{ℕ, zero, suc, _+_, _-_, _≤_, _<_}
+use mathlib.Core.List.{List, []}
+use Prim.Native.Nat.{ℕ, suc, _≤_, _<_}
 use native.Mathlib.Omega.{arith}
 use lib.Dec.{eqb}
 use lib.Seq.{drop-cons}
 use lib.ListN.{length, take, drop, getD, length-drop, take-append-drop, drop-of-length-le}
 use mathlib.Core.Logic.{⊎-elim}
 use borrow.Author.Tests.{eq-eqb, ne-eqb}
-use Rattle.answer.proofs.Cases.{lt-or-le, bool-cases, true-false}
-use Rattle.utf8.specs.declared.Both as b
+use Rattle.answer.proofs.Cases.{lt-or-le}
 use Rattle.utf8.specs.declared.Both.the-variants as v
-use Rattle.utf8.specs.Text.{Step, ends, char, mark, step, size, isUtf8, lossy, same, sameText}
+use Rattle.utf8.specs.Text.{step, stepSize, lossy, same, sameText}
 use Rattle.utf8.specs.Inner.{Walks, ascii}
+use Rattle.utf8.proofs.Stepping.{both-true}
 use Rattle.utf8.proofs.Ascii.{ascii-well}
 use Rattle.utf8.proofs.Lossy.{lossy-none, lossy-front}
 use Rattle.utf8.proofs.Advance.{step-advances, lossy-some}
-use Rattle.utf8.proofs.Same.{piece, rest, same-refl, same-true, same-front, same-none, same-text-on, same-text-off}
+use Rattle.utf8.proofs.Same.{piece, same-refl, same-true, same-front, same-none, same-text-on, same-text-off}
 
 -- a step of each
 module _ (s t : List ℕ) where
   pub walks-apart : same (piece s) (piece t) ≡ false → Walks s t v.Apart
   walks-apart e = same-text-off s t e
 
-  pub walks-on : (m n : ℕ) → m ≡ size (step s) → n ≡ size (step t) → same (piece s) (piece t) ≡ true → Walks s t (v.On m n)
+  pub walks-on : (m n : ℕ) → m ≡ stepSize (step s) → n ≡ stepSize (step t) → same (piece s) (piece t) ≡ true → Walks s t (v.On m n)
   walks-on m n p q e = rw (p, q) (same-text-on s t e, step-advances s .there, step-advances t .there, step-advances s .moves)
 
 -- the first text has ended: they are the same where the second has too
@@ -57,7 +57,7 @@ unfolding sameText
 walks-eight s t h g e = (front, h, g, λ p. omega arith)
   where
     is : (ascii (take 8 s) ≡ true) × (same (take 8 s) (take 8 t) ≡ true)
-    is = bool-cases (ascii (take 8 s)) (λ p. (p, simp p at e)) (λ p. let f = simp p at e in true-false f refl)
+    is = both-true (ascii (take 8 s)) (same (take 8 s) (take 8 t)) e
 
     front : sameText s t ≡ sameText (drop 8 s) (drop 8 t)
     front =

@@ -1,7 +1,7 @@
 -- What only private contracts cite: the code's own types in the definitions' terms, and what its shorter ways over a text are to come to.
 -- No public promise rests on anything in this file.
 use mathlib.Core.Path.{_≡_}
-use mathlib.Core.Bool.{Bool, true, false, cond, _&&_}
+use mathlib.Core.Bool.{Bool, true, false, _&&_}
 use mathlib.Core.List.{List, [], _∷_, _++_}
 use Prim.Native.Nat.{ℕ, _≤_}
 use lib.Dec.{ltb}
@@ -14,7 +14,7 @@ use Rattle.utf8.specs.declared.Lead as l
 use Rattle.utf8.specs.declared.Lead.the-variants as v
 use Rattle.utf8.specs.declared.Both as b
 use Rattle.utf8.specs.declared.Both.the-variants as o
-use Rattle.utf8.specs.Text.{Range, _to_, Row, row, inside, Step, ends, char, mark, size, whole, becomes, isUtf8, lossy, sameText}
+use Rattle.utf8.specs.Text.{Range, _to_, Row, row, Led, unused, led, Step, ends, char, mark, stepSize, whole, becomes, isUtf8, lossy, sameText}
 
 -- a range and a row of the code's table
 abbrev pub asRange : g.Range → Range
@@ -29,18 +29,7 @@ seen s.End = ends
 seen (s.Char n) = char n
 seen (s.Mark n) = mark n
 
--- ---- the row of a first byte
-
-pub data Led : Type 0 where
-  unused : Led
-  led : Row → Led
-
--- the first row whose range has the byte
-unfoldable pub rowFor : List Row → ℕ → Led
-rowFor [] b = unused
-rowFor (row lead second bytes ∷ rs) b = cond (inside lead b) (led (row lead second bytes)) (rowFor rs b)
-
--- the row that the code found for a first byte
+-- the row that it found for a first byte
 abbrev pub ledBy : l.Lead → Led
 ledBy v.Unused = unused
 ledBy (v.In x) = led (asRow x)
@@ -60,10 +49,10 @@ pub record AsciiTo (s : List ℕ) (n : ℕ) : Type 0 where
 
 -- As a step does, x takes some bytes off the front of s, and says what they become.
 pub record Advances (s : List ℕ) (x : Step) : Type 0 where
-  pub text : lossy s ≡ becomes x s ++ lossy (drop (size x) s)
-  pub well : isUtf8 s ≡ whole x && isUtf8 (drop (size x) s)
-  pub there : size x ≤ length s
-  pub moves : 1 ≤ length s → 1 ≤ size x
+  pub text : lossy s ≡ becomes x s ++ lossy (drop (stepSize x) s)
+  pub well : isUtf8 s ≡ whole x && isUtf8 (drop (stepSize x) s)
+  pub there : stepSize x ≤ length s
+  pub moves : 1 ≤ length s → 1 ≤ stepSize x
 
 -- how many bytes it becomes
 abbrev pub textSize : Step → ℕ

@@ -1,28 +1,22 @@
--- What the code's own types mean.
+-- What each call promises.
+use mathlib.Core.Path.{_≡_}
+use mathlib.Core.Bool.{Bool}
+use mathlib.Core.List.{List}
 use Prim.Native.Nat.{ℕ}
-use Rattle.utf8.specs.declared.Range as g
-use Rattle.utf8.specs.declared.Row as r
-use Rattle.utf8.specs.declared.Step as t
-use Rattle.utf8.specs.declared.Step.the-variants as s
-use Rattle.utf8.specs.declared.Lead as l
-use Rattle.utf8.specs.declared.Lead.the-variants as v
-use Rattle.utf8.specs.Inner.{Led, unused, led}
-use Rattle.utf8.specs.Text.{Range, _to_, Row, row, Step, ends, char, mark}
+use lib.ListN.{length}
+use Rattle.answer.specs.declared.Written.{Written}
+use Rattle.answer.specs.Answer.{written, within}
+use Rattle.answer.specs.Writes.{Writes}
+use Rattle.utf8.specs.Text.{isUtf8, lossy, sameText}
 
--- a range and a row of the code's table
-abbrev pub asRange : g.Range → Range
-asRange x = x .low to x .high
+-- `is_utf8` says whether the bytes are well-formed.
+abbrev pub IsUtf8 : List ℕ → Bool → Type 0
+IsUtf8 bytes r = r ≡ isUtf8 bytes
 
-abbrev pub asRow : r.Row → Row
-asRow x = row (asRange (x .lead)) (asRange (x .second)) (x .bytes)
+-- `lossy_text` writes the lossy text, where there is room.
+abbrev pub LossyText : List ℕ → Written → List ℕ → List ℕ → Type 0
+LossyText bytes r old new = Writes (within (length old) (written (lossy bytes))) r old new
 
--- what the code saw at the front of some bytes
-abbrev pub seen : t.Step → Step
-seen s.End = ends
-seen (s.Char n) = char n
-seen (s.Mark n) = mark n
-
--- the row that the code found for a first byte
-abbrev pub ledBy : l.Lead → Led
-ledBy v.Unused = unused
-ledBy (v.In x) = led (asRow x)
+-- `same_text` says whether both have the same lossy text.
+abbrev pub SameText : List ℕ → List ℕ → Bool → Type 0
+SameText a b r = r ≡ sameText a b

@@ -38,13 +38,13 @@ follow (suc left) next = next ∷ follow left (0x80 to 0xBF)
 abbrev pub places : Row → List Range
 places (row lead second bytes) = lead ∷ follow (bytes - 1) second
 
-unfoldable pub inside : Range → ℕ → Bool
-inside (low to high) b = leb low b && leb b high
+unfoldable pub inRange : Range → ℕ → Bool
+inRange (low to high) b = leb low b && leb b high
 
 -- the first byte is there and in the range
 abbrev pub starts : Range → List ℕ → Bool
 starts p [] = false
-starts p (b ∷ s) = inside p b
+starts p (b ∷ s) = inRange p b
 
 -- how many bytes at the front are as these places say
 unfoldable pub front : List Range → List ℕ → ℕ
@@ -62,24 +62,30 @@ pub data Step : Type 0 where
 abbrev pub taken : ℕ → ℕ → Step
 taken all n = cond (eqb n all) (char n) (mark n)
 
--- By the row in whose range the first byte is: no two rows share one. A maximal subpart is the longest start of a well-formed
--- sequence, or one byte where there is none (D93b).
-unfoldable pub stepIn : List Row → List ℕ → Step
-stepIn [] s = mark 1
-stepIn (row lead second bytes ∷ rs) s =
-    cond (starts lead s)
-    (taken (length (places (row lead second bytes))) (front (places (row lead second bytes)) s))
-    (stepIn rs s)
+-- the row in whose range a first byte is, if there is one: no two rows share a byte
+pub data Led : Type 0 where
+  unused : Led
+  led : Row → Led
+
+unfoldable pub rowFor : List Row → ℕ → Led
+rowFor [] b = unused
+rowFor (row lead second bytes ∷ rs) b = cond (inRange lead b) (led (row lead second bytes)) (rowFor rs b)
+
+-- By the row of the first byte: a maximal subpart is the longest start of a well-formed sequence, or one byte where there is
+-- none (D93b).
+abbrev pub stepFor : Led → List ℕ → Step
+stepFor unused s = mark 1
+stepFor (led r) s = taken (length (places r)) (front (places r) s)
 
 unfoldable pub step : List ℕ → Step
 step [] = ends
-step (b ∷ s) = stepIn rows (b ∷ s)
+step (b ∷ s) = stepFor (rowFor rows b) (b ∷ s)
 
 -- how many bytes a step takes
-abbrev pub size : Step → ℕ
-size ends = 0
-size (char n) = n
-size (mark n) = n
+abbrev pub stepSize : Step → ℕ
+stepSize ends = 0
+stepSize (char n) = n
+stepSize (mark n) = n
 
 -- whether it is well-formed
 abbrev pub whole : Step → Bool
@@ -97,24 +103,21 @@ becomes ends s = []
 becomes (char n) s = take n s
 becomes (mark n) s = replacement
 
--- Step after step, as many as are counted down.
-unfoldable pub isUtf8In : ℕ → List ℕ → Bool
-isUtf8In zero s = true
-isUtf8In (suc left) s = whole (step s) && isUtf8In left (drop (size (step s)) s)
-
-unfoldable pub lossyIn : ℕ → List ℕ → List ℕ
-lossyIn zero s = []
-lossyIn (suc left) s = becomes (step s) s ++ lossyIn left (drop (size (step s)) s)
+-- Step after step, as many as are counted down: `turn` makes something of a step, the bytes that it stands in front of, and
+-- what comes of the bytes behind it.
+unfoldable pub bySteps : {A : Type 0} → (Step → List ℕ → A → A) → A → ℕ → List ℕ → A
+bySteps turn end zero s = end
+bySteps turn end (suc left) s = turn (step s) s (bySteps turn end left (drop (stepSize (step s)) s))
 
 -- A step takes at least one byte, so there are no more steps than bytes.
 
--- The bytes are well-formed UTF-8.
+-- The bytes are well-formed UTF-8: every step is.
 unfoldable pub isUtf8 : List ℕ → Bool
-isUtf8 s = isUtf8In (length s) s
+isUtf8 s = bySteps (λ x t others. whole x && others) true (length s) s
 
 -- The bytes with each maximal subpart of an ill-formed sequence replaced ("U+FFFD Substitution of Maximal Subparts").
 unfoldable pub lossy : List ℕ → List ℕ
-lossy s = lossyIn (length s) s
+lossy s = bySteps (λ x t others. becomes x t ++ others) [] (length s) s
 
 -- The same bytes, and the same lossy text.
 unfoldable pub same : List ℕ → List ℕ → Bool

@@ -9,10 +9,10 @@ ghost use mathlib.Core.Bool.{true, _&&_};
 ghost use Prim.Native.Nat.{suc, _-_, _≤_};
 ghost use lib.ListN.{length, take, drop};
 ghost use lib.Dec.{leb};
-ghost use Rattle.answer.specs.Answer.{written, within, leaves};
-ghost use Rattle.answer.specs.Writes.{Writes};
-ghost use Rattle.utf8.specs.Text.{rows, inside, follow, front, taken, step, size, becomes, isUtf8, lossy, same, sameText};
-ghost use Rattle.utf8.specs.Inner.{asRange, seen, ledBy, rowFor, ascii, AsciiTo, Advances, textSize, Walks};
+ghost use Rattle.answer.specs.Answer.{written, leaves};
+ghost use Rattle.utf8.specs.Text.{rows, rowFor, follow, front, taken, step, stepSize, becomes, lossy, same};
+ghost use Rattle.utf8.specs.Promise.{IsUtf8, LossyText, SameText};
+ghost use Rattle.utf8.specs.Inner.{asRange, seen, ledBy, ascii, AsciiTo, Advances, textSize, Walks};
 
 // The bytes from the first to the last.
 struct Range {
@@ -166,18 +166,12 @@ fn lead_row(lead: u8) -> Lead
     let mut i = 0;
     while i < 9 {
         let r = ROWS[i];
-        if in_range(lead, r.lead) {
+        if r.lead.low <= lead && lead <= r.lead.high {
             return Lead::In(r);
         }
         i += 1;
     }
     Lead::Unused
-}
-
-fn in_range(byte: u8, range: Range) -> bool
-    ensures { λ r. ⌜ r ≡ inside (asRange range) byte ⌝ }
-{
-    range.low <= byte && byte <= range.high
 }
 
 // The step whose first byte is right, in a row of so many bytes and this range for the second.
@@ -334,7 +328,7 @@ fn eight_ascii(s: &[u8]) -> bool
 
 // Whether the bytes are well-formed UTF-8.
 pub fn is_utf8(bytes: &[u8]) -> bool
-    ensures { λ r. ⌜ r ≡ isUtf8 (now (bytes .entry)) ⌝ }
+    ensures { λ r. ⌜ IsUtf8 (now (bytes .entry)) r ⌝ }
 {
     let mut at = 0;
     while at < bytes.len() {
@@ -348,7 +342,7 @@ pub fn is_utf8(bytes: &[u8]) -> bool
 
 // Writes the lossy text of the bytes at the front of `out`.
 pub fn lossy_text(bytes: &[u8], out: &mut [u8]) -> Written
-    ensures { λ r. ⌜ Writes (within (length (now (out .entry))) (written (lossy (now (bytes .entry))))) r (now (out .entry)) (now (out .exit)) ⌝ }
+    ensures { λ r. ⌜ LossyText (now (bytes .entry)) r (now (out .entry)) (now (out .exit)) ⌝ }
 {
     if !has_room(bytes, out.len()) {
         return Written::Refused(Refusal {
@@ -397,7 +391,7 @@ fn write_lossy(bytes: &[u8], out: &mut [u8]) -> usize
 
 // How many bytes a step takes, and how many it becomes.
 fn step_len(x: Step) -> usize
-    ensures { λ r. ⌜ r ≡ size (seen x) ⌝ }
+    ensures { λ r. ⌜ r ≡ stepSize (seen x) ⌝ }
 {
     match x {
         Step::End => 0,
@@ -418,7 +412,7 @@ fn text_len(x: Step) -> usize
 
 // Writes what a step at the front of `s` becomes, where there is room.
 fn put(s: &[u8], x: Step, out: &mut [u8])
-    requires { ⌜ size (seen x) ≤ length (now s) ⌝ }
+    requires { ⌜ stepSize (seen x) ≤ length (now s) ⌝ }
     requires { ⌜ textSize (seen x) ≤ length (now out) ⌝ }
     ensures { λ r. ⌜ now (out .exit) ≡ leaves (written (becomes (seen x) (now (s .entry)))) (now (out .entry)) ⌝ }
 {
@@ -446,7 +440,7 @@ fn copy(s: &[u8], out: &mut [u8])
 
 // Whether the lossy texts are the same, by walking both at once.
 pub fn same_text(a: &[u8], b: &[u8]) -> bool
-    ensures { λ r. ⌜ r ≡ sameText (now (a .entry)) (now (b .entry)) ⌝ }
+    ensures { λ r. ⌜ SameText (now (a .entry)) (now (b .entry)) r ⌝ }
 {
     let mut i = 0;
     let mut j = 0;
@@ -510,8 +504,8 @@ fn both_step(a: &[u8], b: &[u8]) -> Both
 
 // Whether two steps at the front of `a` and `b` become the same.
 fn same_start(a: &[u8], x: Step, b: &[u8], y: Step) -> bool
-    requires { ⌜ size (seen x) ≤ length (now a) ⌝ }
-    requires { ⌜ size (seen y) ≤ length (now b) ⌝ }
+    requires { ⌜ stepSize (seen x) ≤ length (now a) ⌝ }
+    requires { ⌜ stepSize (seen y) ≤ length (now b) ⌝ }
     ensures { λ r. ⌜ r ≡ same (becomes (seen x) (now (a .entry))) (becomes (seen y) (now (b .entry))) ⌝ }
 {
     match x {
@@ -522,7 +516,7 @@ fn same_start(a: &[u8], x: Step, b: &[u8], y: Step) -> bool
 }
 
 fn starts_as(text: &[u8], b: &[u8], y: Step) -> bool
-    requires { ⌜ size (seen y) ≤ length (now b) ⌝ }
+    requires { ⌜ stepSize (seen y) ≤ length (now b) ⌝ }
     ensures { λ r. ⌜ r ≡ same (now (text .entry)) (becomes (seen y) (now (b .entry))) ⌝ }
 {
     match y {

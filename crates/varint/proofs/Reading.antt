@@ -1,7 +1,7 @@
 -- Laws about reading a number: what one byte more does, that what was written is read back, what an accepted number and a
--- refusal say of the bytes, and that bytes appended change neither.
+-- refusal say of the bytes, where a number is refused, and that bytes appended change no answer but 3.
 use mathlib.Core.Path.{_≡_, refl, sym, ap, ap₂, _∙_}
-use mathlib.Core.Logic.{_⊎_, inl, inr, ⊎-elim}
+use mathlib.Core.Logic.{⊎-elim}
 use mathlib.Core.List.{List, [], _∷_, _++_, append-cancel-left}
 use Prim.Native.Nat.{ℕ, zero, suc, _+_, _-_, _*_, _/_, _%_, _^_, _≤_, _<_}
 use native.Mathlib.Nat.{mul-comm, mul-assoc, add-mul, mod-eq-of-lt}
@@ -9,7 +9,7 @@ use native.Mathlib.Decide.{ℕ-discrete}
 use native.Mathlib.Omega.{arith}
 use lib.Pow.{pow-add, low, shl-exact}
 use lib.ListN.{length, getD}
-use borrow.Author.Tests.{lt-ltb, le-ltb, le-leb, lt-leb, eq-eqb, ne-eqb}
+use borrow.Author.Tests.{lt-ltb, le-ltb, le-leb, lt-leb, ne-eqb}
 use Rattle.answer.specs.Answer.{Answer, done, refused}
 use Rattle.answer.proofs.Cases.{not-both, lt-or-le}
 use Rattle.varint.specs.Number.{worth, more, number, groups, numberBytes}
@@ -159,6 +159,7 @@ pub number-none : number [] ≡ refused 3 0
 unfolding number
 number-none = refl
 
+-- byte by byte, as more-cases has it
 more-accepted : (s : List ℕ) (sum k v used : ℕ) → more sum k s ≡ done v used
     → (k < used) × (used ≤ 10) × (used ≤ k + length s) × (v < 2 ^ 64)
 more-accepted [] sum k v used e = not-both e (more-none sum k)
@@ -187,10 +188,11 @@ accepted (b ∷ s) v used e =
 
 -- The bytes that are there end inside a number: there are none, or the first is at least 240 and the rest at least 128, so
 -- that the last one announces another.
-abbrev pub Inside : List ℕ → Type 0
-Inside [] = Unit
-Inside (b ∷ s) = (240 ≤ b) × ((i : ℕ) → i < length s → 128 ≤ getD s i 0)
+abbrev pub Unfinished : List ℕ → Type 0
+Unfinished [] = Unit
+Unfinished (b ∷ s) = (240 ≤ b) × ((i : ℕ) → i < length s → 128 ≤ getD s i 0)
 
+-- only the end of the bytes gives 3, so each byte before it announced another
 more-short : (s : List ℕ) (sum k place : ℕ) → more sum k s ≡ refused 3 place
     → (place ≡ k + length s) × ((i : ℕ) → i < length s → 128 ≤ getD s i 0)
 more-short [] sum k place e =
@@ -210,7 +212,7 @@ more-short (b ∷ s) sum k place e =
     all l rest (suc i) h = rest i (omega arith)
 
 -- Law: 3 is given at the end of the bytes, and only where they end inside a number.
-pub short : (s : List ℕ) (place : ℕ) → number s ≡ refused 3 place → (place ≡ length s) × Inside s
+pub short : (s : List ℕ) (place : ℕ) → number s ≡ refused 3 place → (place ≡ length s) × Unfinished s
 short [] place e =
     let one : refused 3 0 ≡ refused 3 place = sym number-none ∙ e in
     let p : 0 ≡ place = cc in
@@ -220,8 +222,37 @@ short (b ∷ s) place e =
     (λ l. let rest = more-short s b 1 place (sym (number-more b s l) ∙ e) in (omega arith, (l, rest .1)))
     (lt-or-le b 240)
 
+-- ---- where a number is refused
+
+-- at the end of the bytes, or right behind the byte that breaks the number
+pub more-place : (s : List ℕ) (sum k n place : ℕ) → more sum k s ≡ refused n place → place ≤ k + length s
+more-place [] sum k n place e =
+    let one : refused 3 k ≡ refused n place = sym (more-none sum k) ∙ e in
+    let p : k ≡ place = cc in
+    omega arith
+more-place (b ∷ s) sum k n place e =
+    more-cases sum k b
+    (λ broke.
+    let one : refused 7 (suc k) ≡ refused n place = sym (broke s) ∙ e in
+    let p : suc k ≡ place = cc in
+    omega arith)
+    (λ h o ends. not-both (ends s) e)
+    (λ l goes. let next = more-place s (sum + worth k b) (suc k) n place (sym (goes s) ∙ e) in omega arith)
+
+-- Law: a number is refused at a place within the bytes, their end included.
+pub number-place : (s : List ℕ) (n place : ℕ) → number s ≡ refused n place → place ≤ length s
+number-place [] n place e =
+    let one : refused 3 0 ≡ refused n place = sym number-none ∙ e in
+    let p : 0 ≡ place = cc in
+    omega arith
+number-place (b ∷ s) n place e =
+    ⊎-elim (λ l. not-both (number-one b s l) e)
+    (λ l. let next = more-place s b 1 n place (sym (number-more b s l) ∙ e) in omega arith)
+    (lt-or-le b 240)
+
 -- ---- bytes appended
 
+-- the byte that decides is there before and after
 more-kept : (s t : List ℕ) (sum k : ℕ) (a : Answer ℕ) → more sum k s ≡ a → ((place : ℕ) → a ≡ refused 3 place → ⊥) → more sum k (s ++ t) ≡ a
 more-kept [] t sum k a e no3 = absurd (no3 k (sym e ∙ more-none sum k))
 more-kept (b ∷ s) t sum k a e no3 =
@@ -231,15 +262,15 @@ more-kept (b ∷ s) t sum k a e no3 =
     (λ l goes. goes (s ++ t) ∙ more-kept s t (sum + worth k b) (suc k) a (sym (goes s) ∙ e) no3)
 
 -- Law: with bytes appended, every answer but 3 stays as it was: an accepted number and a 7.
-pub kept : (s t : List ℕ) (a : Answer ℕ) → number s ≡ a → ((place : ℕ) → a ≡ refused 3 place → ⊥) → number (s ++ t) ≡ a
-kept [] t a e no3 = absurd (no3 0 (sym e ∙ number-none))
-kept (b ∷ s) t a e no3 =
+pub number-kept : (s t : List ℕ) (a : Answer ℕ) → number s ≡ a → ((place : ℕ) → a ≡ refused 3 place → ⊥) → number (s ++ t) ≡ a
+number-kept [] t a e no3 = absurd (no3 0 (sym e ∙ number-none))
+number-kept (b ∷ s) t a e no3 =
     ⊎-elim (λ l. number-one b (s ++ t) l ∙ sym (number-one b s l) ∙ e)
     (λ l. number-more b (s ++ t) l ∙ more-kept s t b 1 a (sym (number-more b s l) ∙ e) no3)
     (lt-or-le b 240)
 
 pub accepted-kept : (s t : List ℕ) (v used : ℕ) → number s ≡ done v used → number (s ++ t) ≡ done v used
-accepted-kept s t v used e = kept s t (done v used) e (λ place p. not-both refl p)
+accepted-kept s t v used e = number-kept s t (done v used) e (λ place p. not-both refl p)
 
 pub large-kept : (s t : List ℕ) (place : ℕ) → number s ≡ refused 7 place → number (s ++ t) ≡ refused 7 place
-large-kept s t place e = kept s t (refused 7 place) e (λ p q. let z : _≡_ {A = ℕ} 7 3 = cc in omega arith)
+large-kept s t place e = number-kept s t (refused 7 place) e (λ p q. let z : _≡_ {A = ℕ} 7 3 = cc in omega arith)

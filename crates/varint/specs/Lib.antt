@@ -1,3 +1,3 @@
--- Which bytes a number has, and what the calls promise.
+-- Which bytes a number has, and what each call promises.
 pub mod Number
 pub mod Promise

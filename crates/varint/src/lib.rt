@@ -8,12 +8,10 @@ use answer::TOO_SOON;
 use answer::Written;
 ghost use mathlib.Core.Path.{_≡_};
 ghost use Prim.Native.Nat.{_≤_, _<_, _^_};
-ghost use lib.Dec.{leb};
 ghost use lib.ListN.{length, drop};
-ghost use Rattle.answer.specs.Answer.{refused, written, within, leaves};
-ghost use Rattle.varint.specs.Number.{number, more, numberBytes, groups};
-ghost use Rattle.varint.specs.Promise.{numberRead};
-ghost use Rattle.answer.specs.Writes.{Writes};
+ghost use Rattle.answer.specs.Answer.{written, leaves};
+ghost use Rattle.varint.specs.Number.{more, groups};
+ghost use Rattle.varint.specs.Promise.{numberRead, VarintLen, EncodeVarint, DecodeVarint};
 
 // What the number reader answers.
 pub enum Number {
@@ -23,7 +21,7 @@ pub enum Number {
 
 // How many bytes the written form of i has.
 pub fn varint_len(i: u64) -> usize
-    ensures { λ r. ⌜ r ≡ length (numberBytes i) ⌝ }
+    ensures { λ r. ⌜ VarintLen i r ⌝ }
 {
     if i < 240 {
         return 1;
@@ -39,9 +37,10 @@ pub fn varint_len(i: u64) -> usize
 
 // Writes i at the front of `out`.
 pub fn encode_varint(i: u64, out: &mut [u8]) -> Written
-    ensures { λ r. ⌜ Writes (within (length (now (out .entry))) (written (numberBytes i))) r (now (out .entry)) (now (out .exit)) ⌝ }
+    ensures { λ r. ⌜ EncodeVarint i r (now (out .entry)) (now (out .exit)) ⌝ }
 {
-    if !has_room(i, out.len()) {
+    // Ten bytes are always enough, and spare the measuring.
+    if out.len() < 10 && out.len() < varint_len(i) {
         return Written::Refused(Refusal {
             number: NO_ROOM,
             place: 0,
@@ -54,16 +53,6 @@ pub fn encode_varint(i: u64, out: &mut [u8]) -> Written
     out[0] = (240 + i % 16) as u8;
     let n = encode_more((i - 240) / 16, &mut out[1..]);
     Written::Done(1 + n)
-}
-
-// Whether the written form of i has at most `room` bytes. Ten are always enough, and spare the measuring.
-fn has_room(i: u64, room: usize) -> bool
-    ensures { λ r. ⌜ r ≡ leb (length (numberBytes i)) room ⌝ }
-{
-    if 10 <= room {
-        return true;
-    }
-    varint_len(i) <= room
 }
 
 // Writes what follows the first byte, where there is room.
@@ -86,10 +75,13 @@ fn encode_more(steps: u64, out: &mut [u8]) -> usize
 
 // Reads the number at the front of `input`.
 pub fn decode_varint(input: &[u8]) -> Number
-    ensures { λ r. ⌜ numberRead r ≡ number (now (input .entry)) ⌝ }
+    ensures { λ r. ⌜ DecodeVarint (now (input .entry)) r ⌝ }
 {
     if input.len() == 0 {
-        return refuse(TOO_SOON, 0);
+        return Number::Refused(Refusal {
+            number: TOO_SOON,
+            place: 0,
+        });
     }
     let first = input[0];
     if first < 240 {
@@ -110,16 +102,25 @@ fn decode_more(first: u64, input: &[u8]) -> Number
     let mut shift: u64 = 4;
     let value = loop {
         if input.len() <= used {
-            return refuse(TOO_SOON, used);
+            return Number::Refused(Refusal {
+                number: TOO_SOON,
+                place: used,
+            });
         }
         if 64 <= shift {
-            return refuse(TOO_LARGE, used + 1);
+            return Number::Refused(Refusal {
+                number: TOO_LARGE,
+                place: used + 1,
+            });
         }
         let byte = input[used];
         // The shift drops the upper bits of a tenth byte.
         let addend = (byte as u64) << shift;
         if u64::MAX - sum < addend {
-            return refuse(TOO_LARGE, used + 1);
+            return Number::Refused(Refusal {
+                number: TOO_LARGE,
+                place: used + 1,
+            });
         }
         sum += addend;
         used += 1;
@@ -129,10 +130,4 @@ fn decode_more(first: u64, input: &[u8]) -> Number
         }
     };
     Number::Done { value, used }
-}
-
-fn refuse(number: u64, place: usize) -> Number
-    ensures { λ r. ⌜ numberRead r ≡ refused number place ⌝ }
-{
-    Number::Refused(Refusal { number, place })
 }

@@ -1,7 +1,6 @@
 -- `hello::negotiate_max_frame_size` meets its contract: each `return` is the law for the tests that led there.
 -- Assumes nothing.
 use mathlib.Core.Path.{sym, ap, _∙_}
-use borrow.Author.Needs.{needs}
 use native.Mathlib.Nat.{min-eq-left, min-eq-right}
 use native.Mathlib.Omega.{arith}
 use Rattle.answer.specs.Answer.{done}
@@ -9,17 +8,11 @@ use Rattle.hello.proofs.Laws.{size-theirs, size-ours, size-both}
 use Rattle.hello.proofs.negotiate_max_frame_size.Statement.{statement}
 use Rattle.hello.proofs.negotiate_max_frame_size.Tie as tie
 
-refuse-requires : tie.Need-refuse-requires
-refuse-requires c κs = search needs
-
 returns : tie.Need-returns
-returns c = c .refuse .ensures ∙ sym (size-theirs _ _ (c .before .if1 .taken))
-
-refuse-requires-2 : tie.Need-refuse-requires-2
-refuse-requires-2 c κs = search needs
+returns c = sym (size-theirs _ _ (c .if1 .taken))
 
 returns-2 : tie.Need-returns-2
-returns-2 c = c .refuse2 .ensures ∙ sym (size-ours _ _ (c .before .before .if1 .left) (c .before .if2 .taken))
+returns-2 c = sym (size-ours _ _ (c .before .if1 .left) (c .if2 .taken))
 
 returns-3 : tie.Need-returns-3
 returns-3 c = sym (size-both _ _ (c .before .before .if1 .left) (c .before .if2 .left) ∙ ap (done tt) (min-eq-left (omega (arith, c .if3 .taken))))
@@ -29,4 +22,4 @@ returns-4 c = sym (size-both _ _ (c .before .before .if1 .left) (c .before .if2 
 
 pub negotiate-max-frame-size-spec : {M : Type 1} → statement M
 negotiate-max-frame-size-spec =
-    tie.close (tie.spec refuse-requires returns refuse-requires-2 returns-2 returns-3 returns-4)
+    tie.close (tie.spec returns returns-2 returns-3 returns-4)

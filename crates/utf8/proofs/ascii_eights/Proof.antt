@@ -1,14 +1,13 @@
--- `utf8::ascii_eights` meets its contract. The loop's invariant: the bytes up to `at` are ASCII.
+-- `utf8::ascii_eights` meets its contract. The loop's invariant: the bytes up to `at` are ASCII. Each turn adds a block that was
+-- tested.
 -- Assumes nothing.
-use Prim.Native.Nat.{_-_, _≤_}
-use mathlib.Core.Path.{_≡_, sym, ap, _∙_}
+use Prim.Native.Nat.{_-_}
 use borrow.Author.Needs.{needs}
 use native.Mathlib.Omega.{arith}
-use lib.ListN.{length, take, drop, length-drop}
+use lib.ListN.{length}
 use borrow.Author.Tests.{not-false}
-use Rattle.answer.proofs.Output.{lent-tail}
-use Rattle.utf8.specs.Inner.{ascii, AsciiTo}
-use Rattle.utf8.proofs.Ascii.{ascii-to-block}
+use Rattle.utf8.specs.Inner.{AsciiTo}
+use Rattle.utf8.proofs.Ascii.{block-lent, block-on}
 use Rattle.utf8.proofs.ascii_eights.Statement.{statement}
 use Rattle.utf8.proofs.ascii_eights.Tie as tie
 
@@ -37,9 +36,7 @@ part-eight-ascii-end : tie.Need-part-eight-ascii-end Inv-loop μ-loop
 part-eight-ascii-end c = search needs
 
 eight-ascii-requires : tie.Need-eight-ascii-requires Inv-loop μ-loop
-eight-ascii-requires c κs = let k = c .before .before in
-    let s = k .before .before .before .args .s .now in
-    rw (lent-tail (k .loop .at) s) (omega (arith, length-drop (k .loop .at) s, c .before .loop-test .taken))
+eight-ascii-requires c κs = block-lent (c .before .before .before .before .before .args .s .now) (c .before .before .loop .at) 8 (c .before .loop-test .taken)
 
 returns : tie.Need-returns Inv-loop μ-loop
 returns c = c .before .before .before .before .loop .inv
@@ -52,9 +49,7 @@ loop-less c = omega (arith, c .before .before .before .loop-test .taken)
 
 loop-again : tie.Need-loop-again Inv-loop μ-loop
 loop-again c = let k = c .before .before .before .before in
-    let s = k .before .before .before .args .s .now in
-    ascii-to-block s (k .loop .at) 8 (k .loop .inv) (c .before .before .before .loop-test .taken)
-    (rw (lent-tail (k .loop .at) s) at (sym (c .before .eight-ascii .ensures) ∙ not-false _ (c .if1 .left)))
+    block-on (k .before .before .before .args .s .now) (k .loop .at) 8 (c .before .before .before .loop-test .taken) (k .loop .inv) (c .before .eight-ascii .ensures) (not-false _ (c .if1 .left))
 
 returns-2 : tie.Need-returns-2 Inv-loop μ-loop
 returns-2 c = c .before .loop .inv

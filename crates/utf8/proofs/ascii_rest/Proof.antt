@@ -1,22 +1,20 @@
--- `utf8::ascii_rest` meets its contract: what is known to be ASCII reaches to where the last test starts.
+-- `utf8::ascii_rest` meets its contract: what is known to be ASCII reaches to where the last test starts, and a no promises
+-- nothing.
 -- Assumes nothing.
-use mathlib.Core.Path.{_≡_, sym, _∙_}
-use mathlib.Core.Bool.{true, false}
-use Prim.Native.Nat.{ℕ, _-_}
+use mathlib.Core.Path.{refl, sym, _∙_}
+use Prim.Native.Nat.{_-_}
 use borrow.Author.Needs.{needs}
 use native.Mathlib.Omega.{arith}
 use lib.ListN.{length}
+use Rattle.answer.proofs.Cases.{true-false}
 use Rattle.answer.proofs.Output.{lent-tail}
-use Rattle.utf8.proofs.Ascii.{ascii-to-end, ascii-few, both-first, both-second}
+use Rattle.utf8.proofs.Stepping.{both-true}
+use Rattle.utf8.proofs.Ascii.{ascii-to-end, ascii-few}
 use Rattle.utf8.proofs.ascii_rest.Statement.{statement}
 use Rattle.utf8.proofs.ascii_rest.Tie as tie
 
--- a no promises nothing
-no : {G : Type 0} → false ≡ true → G
-no e = let z : _≡_ {A = ℕ} 0 1 = cc in absurd (omega arith)
-
 returns : tie.Need-returns
-returns c = λ t. no t
+returns c = λ t. true-false t refl
 
 sub-eight-ascii : tie.Need-sub-eight-ascii
 sub-eight-ascii c = search needs
@@ -57,12 +55,12 @@ returns-3 c = λ t.
     let bytes = c .before .before .before .before .before .before .args .s .now in
     let long = c .before .before .before .if3 .taken in
     let short = c .before .before .before .before .if1 .left in
-    ascii-few bytes (length bytes - 4) (omega arith) (omega arith)
-    (sym (c .before .before .four-ascii .ensures) ∙ both-first (c .before .before .four-ascii .result) (c .four-ascii2 .result) t)
-    (rw (lent-tail (length bytes - 4) bytes) at (sym (c .four-ascii2 .ensures) ∙ both-second (c .before .before .four-ascii .result) (c .four-ascii2 .result) t))
+    let both = both-true (c .before .before .four-ascii .result) (c .four-ascii2 .result) t in
+    ascii-few bytes (length bytes - 4) (omega arith) (omega arith) (sym (c .before .before .four-ascii .ensures) ∙ both .0)
+    (rw (lent-tail (length bytes - 4) bytes) at (sym (c .four-ascii2 .ensures) ∙ both .1))
 
 returns-4 : tie.Need-returns-4
-returns-4 c = λ t. no t
+returns-4 c = λ t. true-false t refl
 
 pub ascii-rest-spec : {M : Type 1} → statement M
 ascii-rest-spec =

@@ -1,6 +1,6 @@
 -- `utf8::ascii_run` meets its contract. The loop's invariant: the bytes up to `at` are ASCII.
 -- Assumes nothing.
-use Prim.Native.Nat.{_-_, _≤_}
+use Prim.Native.Nat.{_-_}
 use native.Mathlib.Omega.{arith}
 use lib.ListN.{length}
 use Rattle.utf8.specs.Inner.{AsciiTo}

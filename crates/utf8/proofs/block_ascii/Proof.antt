@@ -1,11 +1,11 @@
 -- `utf8::block_ascii` meets its contract. The loop's invariant: `all` says whether the bytes before i are ASCII.
 -- Assumes nothing.
-use mathlib.Core.Path.{_≡_, refl, sym, ap, _∙_}
+use mathlib.Core.Path.{_≡_, sym, ap, _∙_}
 use mathlib.Core.Bool.{Bool, _&&_}
 use Prim.Native.Nat.{ℕ, _-_, _≤_}
 use native.Mathlib.Omega.{arith}
 use lib.Dec.{ltb}
-use lib.ListN.{length, take, getD}
+use lib.ListN.{take, getD}
 use Rattle.utf8.specs.Inner.{ascii}
 use Rattle.utf8.proofs.Ascii.{ascii-none, ascii-test}
 use Rattle.utf8.proofs.block_ascii.Statement.{statement}

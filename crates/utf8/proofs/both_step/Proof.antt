@@ -2,7 +2,7 @@
 -- Assumes nothing.
 use mathlib.Core.Path.{_≡_, sym, ap, _∙_}
 use borrow.Author.Tests.{not-true, not-false}
-use Rattle.utf8.specs.Text.{size, same}
+use Rattle.utf8.specs.Text.{stepSize, same}
 use Rattle.utf8.proofs.Advance.{step-advances}
 use Rattle.utf8.proofs.Same.{piece}
 use Rattle.utf8.proofs.Walk.{walks-apart, walks-on}
@@ -35,7 +35,7 @@ step-len-requires-2 c κs = search needs
 
 returns-2 : tie.Need-returns-2
 returns-2 c = let e = c .before .before .before in
-    walks-on _ _ _ _ (c .before .step-len .ensures ∙ ap size (e .before .before .front-step .ensures)) (c .step-len2 .ensures ∙ ap size (e .before .front-step2 .ensures))
+    walks-on _ _ _ _ (c .before .step-len .ensures ∙ ap stepSize (e .before .before .front-step .ensures)) (c .step-len2 .ensures ∙ ap stepSize (e .before .front-step2 .ensures))
     (sym (tested e) ∙ not-false _ (c .before .before .if1 .left))
 
 pub both-step-spec : {M : Type 1} → statement M

@@ -1,6 +1,6 @@
 -- `utf8::both_stride` meets its contract: the same eight bytes of ASCII on both sides go on, and so does a step of each.
 -- Assumes nothing.
-use mathlib.Core.Path.{_≡_, sym, _∙_}
+use mathlib.Core.Path.{sym, _∙_}
 use Rattle.utf8.proofs.Walk.{walks-eight}
 use borrow.Author.Needs.{needs}
 use Rattle.utf8.proofs.both_stride.Statement.{statement}

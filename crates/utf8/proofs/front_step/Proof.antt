@@ -4,9 +4,9 @@ use mathlib.Core.Path.{_≡_, sym, ap, _∙_}
 use Prim.Native.Nat.{_≤_}
 use native.Mathlib.Omega.{arith}
 use lib.ListN.{length}
-use Rattle.utf8.specs.Text.{step}
-use Rattle.utf8.specs.Inner.{Led, ledBy}
-use Rattle.utf8.proofs.Stepping.{stepFor, step-ends, step-for, step-ascii-front}
+use Rattle.utf8.specs.Text.{Led, step}
+use Rattle.utf8.specs.Inner.{ledBy}
+use Rattle.utf8.proofs.Stepping.{stepBehind, step-ends, step-for, step-ascii-front}
 use borrow.Author.Needs.{needs}
 use Rattle.utf8.proofs.front_step.Statement.{statement}
 use Rattle.utf8.proofs.front_step.Tie as tie
@@ -15,9 +15,9 @@ some : (c : tie.Else1) → 1 ≤ length (c .before .before .args .s .now)
 some c = omega (arith, c .if1 .left)
 
 which : (c : tie.After-lead-row)
-    → step (c .before .before .before .before .before .args .s .now) ≡ stepFor (ledBy (c .lead-row .result)) (c .before .before .before .before .before .args .s .now)
+    → step (c .before .before .before .before .before .args .s .now) ≡ stepBehind (ledBy (c .lead-row .result)) (c .before .before .before .before .before .args .s .now)
 which c = let s = c .before .before .before .before .before .args .s .now in
-    step-for s (some (c .before .before .before)) ∙ ap (λ (x : Led). stepFor x s) (sym (c .lead-row .ensures))
+    step-for s (some (c .before .before .before)) ∙ ap (λ (x : Led). stepBehind x s) (sym (c .lead-row .ensures))
 
 returns : tie.Need-returns
 returns c = sym (step-ends _ (c .if1 .taken))

@@ -1,7 +1,7 @@
 -- `utf8::has_room` meets its contract. The loop's invariant: the whole text has room exactly where what is left of it has room in
 -- what is left of the room.
 -- Assumes nothing.
-use Prim.Native.Nat.{ℕ, suc, _+_, _-_, _≤_, _<_}
+use Prim.Native.Nat.{ℕ, _+_, _-_, _≤_}
 use mathlib.Core.Path.{_≡_, refl, sym, ap, _∙_}
 use mathlib.Core.List.{List}
 use borrow.Author.Needs.{needs}
@@ -10,7 +10,7 @@ use lib.Dec.{leb}
 use lib.ListN.{length, drop, drop-of-length-le}
 use lib.Seq.{drop-drop}
 use Rattle.answer.proofs.Output.{lent-tail}
-use Rattle.utf8.specs.Text.{lossy, size}
+use Rattle.utf8.specs.Text.{lossy, stepSize}
 use Rattle.utf8.specs.Inner.{seen, Advances, textSize}
 use Rattle.utf8.proofs.Advance.{room-on, room-off, room-none, rest-there, rest-some}
 use Rattle.utf8.proofs.has_room.Statement.{statement}
@@ -73,7 +73,7 @@ loop-again c = let e = c .before .before .before in
     let x = seen (e .stride .result) in (
       k .loop .inv .0
           ∙ room-on (drop (k .loop .at) s) x (k .loop .left) (on e) (omega (arith, c .before .if1 .left, c .before .before .text-len .ensures))
-          ∙ rw (c .step-len .ensures, c .before .before .text-len .ensures) (ap (λ (t : List ℕ). leb (length (lossy t)) (k .loop .left - textSize x)) (drop-drop (size x) (k .loop .at) s)),
+          ∙ rw (c .step-len .ensures, c .before .before .text-len .ensures) (ap (λ (t : List ℕ). leb (length (lossy t)) (k .loop .left - textSize x)) (drop-drop (stepSize x) (k .loop .at) s)),
       further c .0,
     )
 

@@ -3,16 +3,18 @@
 -- Assumes nothing.
 use mathlib.Core.Path.{_≡_, refl, sym, ap, _∙_}
 use mathlib.Core.Bool.{true, false}
+use mathlib.Core.Logic.{⊎-elim}
+use borrow.Author.Tests.{leb-true, leb-false}
+use lib.Dec.{leb}
 use mathlib.Core.List.{List}
 use Prim.Native.Nat.{ℕ, _+_, _-_, _≤_, _<_}
-use borrow.Author.Needs.{needs}
 use native.Mathlib.Omega.{arith}
-use lib.ListN.{length, drop, getD, drop-of-length-le}
+use lib.ListN.{drop, getD, drop-of-length-le}
 use Rattle.utf8.specs.declared.Row as r
-use Rattle.utf8.specs.Text.{Row, rows, inside}
-use Rattle.utf8.specs.Inner.{unused, led, rowFor, asRange, asRow}
+use Rattle.utf8.specs.Text.{Row, rows, inRange, unused, led, rowFor}
+use Rattle.utf8.specs.Inner.{asRange, asRow}
 use Rattle.utf8.proofs.Table.{inCode, noRow, codeRows, row-at}
-use Rattle.utf8.proofs.Stepping.{rowFor-none, rowFor-past, rowFor-here}
+use Rattle.utf8.proofs.Stepping.{inRange-in, inRange-below, inRange-above, rowFor-none, rowFor-past, rowFor-here}
 use Rattle.utf8.proofs.lead_row.Statement.{statement}
 use Rattle.utf8.proofs.lead_row.Tie as tie
 
@@ -21,10 +23,10 @@ rowAt i = getD codeRows i (inCode noRow)
 
 -- one row: the byte is not in its range, or is
 module _ (b i : ℕ) (h : i < 9) where
-  past : inside (asRange (rowAt i .lead)) b ≡ false → rowFor (drop i rows) b ≡ rowFor (drop (i + 1) rows) b
+  past : inRange (asRange (rowAt i .lead)) b ≡ false → rowFor (drop i rows) b ≡ rowFor (drop (i + 1) rows) b
   past e = ap (λ (l : List Row). rowFor l b) (row-at i h) ∙ rowFor-past _ _ _ _ b e
 
-  here : inside (asRange (rowAt i .lead)) b ≡ true → rowFor (drop i rows) b ≡ led (asRow (rowAt i))
+  here : inRange (asRange (rowAt i .lead)) b ≡ true → rowFor (drop i rows) b ≡ led (asRow (rowAt i))
   here e = ap (λ (l : List Row). rowFor l b) (row-at i h) ∙ rowFor-here _ _ _ _ b e
 
 no-row : (b i : ℕ) → 9 ≤ i → rowFor (drop i rows) b ≡ unused
@@ -37,10 +39,19 @@ Inv-loop lead i₀ i = rowFor rows lead ≡ rowFor (drop i rows) lead
 abbrev μ-loop : tie.MeasureT-loop
 μ-loop lead i₀ i = 9 - i
 
--- the row that is read is the definition's: this is where the code's table is held to it
-tested : (c : tie.After-in-range Inv-loop μ-loop) → c .in-range .result ≡ inside (asRange (rowAt (c .before .before .before .loop .i) .lead)) (c .before .before .before .before .args .lead)
+-- The row that is read is the definition's: this is where the code's table is held to it.
+low : (c : tie.Then1 Inv-loop μ-loop) → rowAt (c .before .before .before .before .loop .i) .lead .low ≤ c .before .before .before .before .before .args .lead
 unfolding rows
-tested c = c .in-range .ensures
+low c = c .if1 .taken
+
+high : (c : tie.Then2 Inv-loop μ-loop) → leb (c .before .before .before .before .before .before .before .args .lead) (rowAt (c .before .before .before .before .before .before .loop .i) .lead .high) ≡ true
+unfolding rows
+high c = c .if2 .taken
+
+-- it is passed where the byte is below its range or above it
+outside : (c : tie.Joined1 Inv-loop μ-loop) → inRange (asRange (rowAt (c .before .before .before .before .loop .i) .lead)) (c .before .before .before .before .before .args .lead) ≡ false
+unfolding rows
+outside c = ⊎-elim (λ w. inRange-above _ _ _ (w .0 .taken) (leb-false _ _ (w .2 .left))) (λ w. inRange-below _ _ _ (w .left)) (c .if1 .came)
 
 loop-holds : tie.Need-loop-holds Inv-loop μ-loop
 loop-holds c = refl
@@ -51,14 +62,14 @@ mul-r c = omega arith
 array-copy-out-r : tie.Need-array-copy-out-r Inv-loop μ-loop
 array-copy-out-r c = omega arith
 
-in-range-requires : tie.Need-in-range-requires Inv-loop μ-loop
-in-range-requires c κs = search needs
-
 returns : tie.Need-returns Inv-loop μ-loop
 unfolding rows
 returns c =
-    let k = c .before .before .before .before in
-    sym (k .loop .inv ∙ here (k .before .args .lead) (k .loop .i) (c .before .before .before .loop-test .taken) (sym (tested (c .before)) ∙ c .if1 .taken))
+    let k = c .before .before .before .before .before .before in
+    sym
+    (k .loop .inv
+    ∙ here (k .before .args .lead) (k .loop .i) (c .before .before .before .before .before .loop-test .taken)
+    (inRange-in _ _ _ (low (c .before .before)) (leb-true _ _ (high c))))
 
 add-i : tie.Need-add-i Inv-loop μ-loop
 add-i c = omega arith
@@ -68,7 +79,7 @@ loop-less c = omega arith
 
 loop-again : tie.Need-loop-again Inv-loop μ-loop
 loop-again c = let k = c .before .before .before .before in
-    k .loop .inv ∙ past (k .before .args .lead) (k .loop .i) (c .before .before .before .loop-test .taken) (sym (tested (c .before)) ∙ c .if1 .left)
+    k .loop .inv ∙ past (k .before .args .lead) (k .loop .i) (c .before .before .before .loop-test .taken) (outside c)
 
 returns-2 : tie.Need-returns-2 Inv-loop μ-loop
 returns-2 c = let k = c .before in
@@ -83,7 +94,6 @@ lead-row-spec =
     loop-holds
     mul-r
     array-copy-out-r
-    in-range-requires
     returns
     add-i
     loop-less

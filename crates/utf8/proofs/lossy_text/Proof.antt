@@ -1,7 +1,7 @@
 -- `utf8::lossy_text` meets its contract: with no room nothing is written, and else the whole text is.
 -- Assumes nothing.
 use Prim.Native.Nat.{_≤_, _<_}
-use mathlib.Core.Path.{_≡_, sym, _∙_}
+use mathlib.Core.Path.{sym, _∙_}
 use lib.ListN.{length}
 use borrow.Author.Tests.{leb-true, leb-false, not-true, not-false}
 use Rattle.answer.proofs.Output.{writes-none, writes-all}

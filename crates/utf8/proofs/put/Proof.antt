@@ -1,15 +1,14 @@
 -- `utf8::put` meets its contract: nothing for the end, the step's own bytes, or the three of the replacement character.
 -- Assumes nothing.
-use Prim.Native.Nat.{ℕ, suc, _+_, _-_, _≤_, _<_}
-use mathlib.Core.Path.{_≡_, refl, sym, ap, _∙_}
+use Prim.Native.Nat.{ℕ, _≤_}
+use mathlib.Core.Path.{_≡_, refl, sym}
 use mathlib.Core.List.{List, [], _∷_}
 use native.Mathlib.Omega.{arith}
-use lib.ListN.{length, take, set, length-set}
+use lib.ListN.{length, set, length-set}
 use lib.Seq.{length-take-le}
 use Rattle.answer.specs.Answer.{written, leaves}
 use Rattle.utf8.specs.declared.Step.the-variants as v
-use Rattle.utf8.specs.Text.{replacement, size, becomes}
-use Rattle.utf8.specs.Inner.{seen, textSize}
+use Rattle.utf8.specs.Text.{replacement}
 use borrow.Author.Needs.{needs}
 use Rattle.utf8.proofs.put.Statement.{statement}
 use Rattle.utf8.proofs.put.Tie as tie

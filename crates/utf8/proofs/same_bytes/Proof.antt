@@ -1,10 +1,10 @@
 -- `utf8::same_bytes` meets its contract. The loop's invariant: the whole is the same exactly where what is left is.
 -- Assumes nothing.
-use Prim.Native.Nat.{ℕ, suc, _+_, _-_, _≤_, _<_}
-use mathlib.Core.Path.{_≡_, refl, sym, ap, _∙_}
+use Prim.Native.Nat.{_-_}
+use mathlib.Core.Path.{_≡_, refl, sym, _∙_}
 use mathlib.Core.List.{[]}
 use native.Mathlib.Omega.{arith}
-use lib.ListN.{length, drop, getD, drop-of-length-le}
+use lib.ListN.{length, drop, drop-of-length-le}
 use Rattle.utf8.specs.Text.{same}
 use Rattle.utf8.proofs.Same.{same-next, same-stop, same-length, same-refl}
 use Rattle.utf8.proofs.same_bytes.Statement.{statement}

@@ -1,7 +1,7 @@
 -- `utf8::starts_as` meets its contract: the text is held to what the step becomes, in each of the three cases.
 -- Assumes nothing.
 use Prim.Native.Nat.{_≤_}
-use mathlib.Core.Path.{_≡_, sym}
+use mathlib.Core.Path.{sym}
 use lib.ListN.{length}
 use lib.Seq.{length-take-le}
 use borrow.Author.Needs.{needs}

@@ -2,16 +2,15 @@
 -- from there on, of which there are as many as the row still has, the next from `low` to `high`.
 -- Assumes nothing.
 use Prim.Native.Nat.{ℕ, suc, _+_, _-_, _≤_, _<_}
-use mathlib.Core.Path.{_≡_, refl, sym, ap, _∙_}
+use mathlib.Core.Path.{_≡_, sym, ap, _∙_}
 use mathlib.Core.Bool.{true, false}
 use mathlib.Core.List.{List, [], _∷_}
 use native.Mathlib.Omega.{arith}
-use native.Mathlib.Numerals.{add-one}
-use lib.ListN.{length, drop, getD}
+use lib.ListN.{length, drop}
 use lib.Seq.{drop-drop}
 use borrow.Author.Tests.{eq-eqb, ne-eqb}
 use Rattle.utf8.specs.Text.{_to_, follow, starts, front, char, mark, taken}
-use Rattle.utf8.proofs.Stepping.{inside-in, inside-below, inside-above, starts-end, starts-at, front-none, front-stop, front-on, follow-none, follow-on}
+use Rattle.utf8.proofs.Stepping.{inRange-in, inRange-below, inRange-above, starts-end, starts-at, front-none, front-stop, front-on, follow-none, follow-on}
 use Rattle.utf8.proofs.step_on.Statement.{statement}
 use Rattle.utf8.proofs.step_on.Tie as tie
 
@@ -63,14 +62,14 @@ returns-2 c = let k = c .before .before .before .before in
     let s = k .before .args .s .now in
     sym
     (stop s _ (k .before .args .bytes) (k .loop .at) (k .loop .low) (k .loop .high) (k .loop .inv .0) (c .before .before .before .loop-test .taken)
-    (starts-at _ s (k .loop .at) (c .before .before .if1 .left) ∙ inside-below _ _ _ (c .if2 .taken)))
+    (starts-at _ s (k .loop .at) (c .before .before .if1 .left) ∙ inRange-below _ _ _ (c .if2 .taken)))
 
 returns-3 : tie.Need-returns-3 Inv-loop μ-loop
 returns-3 c = let k = c .before .before .before .before .before in
     let s = k .before .args .s .now in
     sym
     (stop s _ (k .before .args .bytes) (k .loop .at) (k .loop .low) (k .loop .high) (k .loop .inv .0) (c .before .before .before .before .loop-test .taken)
-    (starts-at _ s (k .loop .at) (c .before .before .before .if1 .left) ∙ inside-above _ _ _ (c .before .if2 .left) (c .if3 .taken)))
+    (starts-at _ s (k .loop .at) (c .before .before .before .if1 .left) ∙ inRange-above _ _ _ (c .before .if2 .left) (c .if3 .taken)))
 
 add-at : tie.Need-add-at Inv-loop μ-loop
 add-at c = omega arith
@@ -82,7 +81,7 @@ loop-again : tie.Need-loop-again Inv-loop μ-loop
 loop-again c = let k = c .before .before .before .before .before in
     let s = k .before .args .s .now in (
       on s _ (k .before .args .bytes) (k .loop .at) (k .loop .low) (k .loop .high) (k .loop .inv .0) (c .before .before .before .before .loop-test .taken)
-          (starts-at _ s (k .loop .at) (c .before .before .before .if1 .left) ∙ inside-in _ _ _ (c .before .if2 .left) (c .if3 .left)),
+          (starts-at _ s (k .loop .at) (c .before .before .before .if1 .left) ∙ inRange-in _ _ _ (c .before .if2 .left) (c .if3 .left)),
       omega arith,
       omega arith,
       omega arith,

@@ -1,15 +1,15 @@
 -- `utf8::write_lossy` meets its contract. The loop's invariant: the lossy text is partly written, and what is left to write is the
 -- lossy text of what is left of the bytes. Each turn writes what the next step becomes.
 -- Assumes nothing.
-use Prim.Native.Nat.{ℕ, suc, _+_, _-_, _≤_, _<_}
-use mathlib.Core.Path.{_≡_, refl, sym, ap, _∙_}
-use mathlib.Core.List.{List, [], _++_}
+use Prim.Native.Nat.{_+_, _-_, _≤_}
+use mathlib.Core.Path.{sym, ap, _∙_}
+use mathlib.Core.List.{[], _++_}
 use borrow.Author.Needs.{needs}
 use native.Mathlib.Omega.{arith}
-use lib.ListN.{length, take, drop, length-drop, drop-of-length-le}
+use lib.ListN.{length, drop, length-drop, drop-of-length-le}
 use lib.Seq.{drop-drop}
 use Rattle.answer.proofs.Output.{Partly, partly-none, partly-length, partly-count, partly-all, lent-tail}
-use Rattle.utf8.specs.Text.{lossy, size, becomes}
+use Rattle.utf8.specs.Text.{lossy, stepSize, becomes}
 use Rattle.utf8.specs.Inner.{seen, Advances, textSize}
 use Rattle.utf8.proofs.Lossy.{lossy-none}
 use Rattle.utf8.proofs.Advance.{becomes-length, rest-there, rest-some}
@@ -31,7 +31,7 @@ next : (c : tie.After-stride Inv-loop μ-loop)
     → let k = c .before .before .before in
     let s = drop (k .loop .at) (k .before .before .before .args .bytes .now) in
     Partly (lossy (k .before .before .before .args .bytes .now)) (k .before .before .before .args .out .now) (k .loop .n)
-    (becomes (seen (c .stride .result)) s ++ lossy (drop (size (seen (c .stride .result))) s)) (k .loop .out)
+    (becomes (seen (c .stride .result)) s ++ lossy (drop (stepSize (seen (c .stride .result))) s)) (k .loop .out)
 next c = rw (on c .text) at (c .before .before .before .loop .inv .0)
 
 room : (c : tie.After-stride Inv-loop μ-loop) → c .before .before .before .loop .n + textSize (seen (c .stride .result)) ≤ length (c .before .before .before .loop .out)
@@ -39,12 +39,12 @@ room c =
     let k = c .before .before .before in
     let s = drop (k .loop .at) (k .before .before .before .args .bytes .now) in
     let x = seen (c .stride .result) in
-    rw (sym (becomes-length s x (on c .there))) (part-fits (becomes x s) (lossy (drop (size x) s)) (next c))
+    rw (sym (becomes-length s x (on c .there))) (part-fits (becomes x s) (lossy (drop (stepSize x) s)) (next c))
 
 -- the step's bytes are there
 further : (c : tie.After-stride Inv-loop μ-loop)
-    → (c .before .before .before .loop .at + size (seen (c .stride .result)) ≤ length (c .before .before .before .before .before .before .args .bytes .now))
-    × (1 ≤ size (seen (c .stride .result)))
+    → (c .before .before .before .loop .at + stepSize (seen (c .stride .result)) ≤ length (c .before .before .before .before .before .before .args .bytes .now))
+    × (1 ≤ stepSize (seen (c .stride .result)))
 further c =
     let k = c .before .before .before in
     let s = k .before .before .before .args .bytes .now in
@@ -116,8 +116,8 @@ loop-again c = let e = c .before .before .before .before .before .before .before
     let bytes = k .before .before .before .args .bytes .now in
     let s = drop (k .loop .at) bytes in
     let x = seen (e .stride .result) in (
-      rw (c .before .text-len .ensures, c .step-len .ensures, sym (drop-drop (size x) (k .loop .at) bytes), sym (becomes-length s x (on e .there)))
-          (partly-part (becomes x s) (lossy (drop (size x) s)) (next e) _ (rw (lent-tail (k .loop .at) bytes) at (c .before .before .before .before .put .ensures))),
+      rw (c .before .text-len .ensures, c .step-len .ensures, sym (drop-drop (stepSize x) (k .loop .at) bytes), sym (becomes-length s x (on e .there)))
+          (partly-part (becomes x s) (lossy (drop (stepSize x) s)) (next e) _ (rw (lent-tail (k .loop .at) bytes) at (c .before .before .before .before .put .ensures))),
       rw (c .step-len .ensures) (further e .0),
     )
 

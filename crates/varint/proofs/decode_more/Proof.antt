@@ -5,7 +5,6 @@
 use Prim.Native.Nat.{ℕ, suc, _+_, _-_, _*_, _%_, _≤_, _<_, _^_}
 use mathlib.Core.List.{List}
 use mathlib.Core.Path.{_≡_, refl, sym, ap, _∙_}
-use borrow.Author.Needs.{needs}
 use native.Mathlib.Omega.{arith}
 use native.Mathlib.Numerals.{add-one}
 use lib.ListN.{length, drop, getD, drop-of-length-le}
@@ -53,35 +52,28 @@ Inv-loop first input sum₀ used₀ shift₀ sum used shift =
 abbrev μ-loop : tie.MeasureT-loop
 μ-loop first input sum₀ used₀ shift₀ sum used shift = length input - used
 
-small : (c : tie.After-shared-slice-known2 Inv-loop μ-loop) → getD (c .before .before .before .before .before .args .input .now) (c .before .before .before .loop .used) 0 < 256
-small c = omega (arith, c .shared-slice-known2 .given (c .before .before .before .loop .used))
+small : (c : tie.After-shared-slice-known Inv-loop μ-loop) → getD (c .before .before .before .before .args .input .now) (c .before .before .before .loop .used) 0 < 256
+small c = omega (arith, c .shared-slice-known .given (c .before .before .before .loop .used))
 
 loop-holds : tie.Need-loop-holds Inv-loop μ-loop
 loop-holds c = (refl, refl, omega arith)
 
-refuse-requires : tie.Need-refuse-requires Inv-loop μ-loop
-refuse-requires c κs = search needs
-
 returns : tie.Need-returns Inv-loop μ-loop
-returns c = let s = c .before .before .before .before .args .input .now in
-    c .refuse .ensures ∙ sym (c .before .before .loop .inv .0 ∙ rw (drop-of-length-le s (c .before .if1 .taken)) (more-none _ _))
+returns c = let s = c .before .before .args .input .now in
+    sym (c .before .loop .inv .0 ∙ rw (drop-of-length-le s (c .if1 .taken)) (more-none _ _))
 
-add-refuse : tie.Need-add-refuse Inv-loop μ-loop
-add-refuse c = omega arith
-
-refuse-requires-2 : tie.Need-refuse-requires-2 Inv-loop μ-loop
-refuse-requires-2 c κs = search needs
+add-t13 : tie.Need-add-t13 Inv-loop μ-loop
+add-t13 c = omega arith
 
 returns-2 : tie.Need-returns-2 Inv-loop μ-loop
-returns-2 c = let k = c .before .before .before in
-    c .refuse2 .ensures
-    ∙ sym (k .loop .inv .0 ∙ eleventh _ _ _ _ (c .before .before .if1 .left) (k .loop .inv .1) (c .before .if2 .taken))
+returns-2 c = let k = c .before .before in
+    sym (k .loop .inv .0 ∙ eleventh _ _ _ _ (c .before .if1 .left) (k .loop .inv .1) (c .if2 .taken))
 
 shared-slice-read-byte : tie.Need-shared-slice-read-byte Inv-loop μ-loop
 shared-slice-read-byte c = omega arith
 
 cast-addend : tie.Need-cast-addend Inv-loop μ-loop
-cast-addend c = omega (arith, c .shared-slice-known2 .given (c .before .before .before .loop .used))
+cast-addend c = omega (arith, c .shared-slice-known .given (c .before .before .before .loop .used))
 
 shl-addend : tie.Need-shl-addend Inv-loop μ-loop
 shl-addend c = omega arith
@@ -89,19 +81,15 @@ shl-addend c = omega arith
 sub-if3 : tie.Need-sub-if3 Inv-loop μ-loop
 sub-if3 c = omega arith
 
-add-refuse-2 : tie.Need-add-refuse-2 Inv-loop μ-loop
-add-refuse-2 c = omega arith
-
-refuse-requires-3 : tie.Need-refuse-requires-3 Inv-loop μ-loop
-refuse-requires-3 c κs = search needs
+add-t18 : tie.Need-add-t18 Inv-loop μ-loop
+add-t18 c = omega arith
 
 returns-3 : tie.Need-returns-3 Inv-loop μ-loop
-returns-3 c = let k = c .before .before .before .before .before in
-    c .refuse3 .ensures
-    ∙ sym
+returns-3 c = let k = c .before .before .before .before in
+    sym
     (k .loop .inv .0
-    ∙ over _ _ _ _ (c .before .before .before .before .if1 .left) (k .loop .inv .1) (small (c .before .before)) (c .before .before .before .if2 .left)
-    (omega (arith, c .before .if3 .taken, k .loop .inv .2)))
+    ∙ over _ _ _ _ (c .before .before .before .if1 .left) (k .loop .inv .1) (small (c .before)) (c .before .before .if2 .left)
+    (omega (arith, c .if3 .taken, k .loop .inv .2)))
 
 add-sum : tie.Need-add-sum Inv-loop μ-loop
 add-sum c = omega arith
@@ -140,17 +128,14 @@ decode-more-spec =
     Inv-loop
     μ-loop
     loop-holds
-    refuse-requires
     returns
-    add-refuse
-    refuse-requires-2
+    add-t13
     returns-2
     shared-slice-read-byte
     cast-addend
     shl-addend
     sub-if3
-    add-refuse-2
-    refuse-requires-3
+    add-t18
     returns-3
     add-sum
     add-used

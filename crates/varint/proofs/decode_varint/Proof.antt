@@ -23,17 +23,14 @@ one s h l = ap number (drop-cons s 0 0 h) ∙ number-one (getD s 0 0) (drop 1 s)
 on : (s : List ℕ) → 0 < length s → 240 ≤ getD s 0 0 → number s ≡ more (getD s 0 0) 1 (drop 1 s)
 on s h l = ap number (drop-cons s 0 0 h) ∙ number-more (getD s 0 0) (drop 1 s) l
 
-refuse-requires : tie.Need-refuse-requires
-refuse-requires c κs = search needs
-
 returns : tie.Need-returns
-returns c = c .refuse .ensures ∙ sym (none _ (c .before .if1 .taken))
+returns c = sym (none _ (c .if1 .taken))
 
 shared-slice-read-first : tie.Need-shared-slice-read-first
 shared-slice-read-first c = search needs
 
-cast-t7 : tie.Need-cast-t7
-cast-t7 c = search needs
+cast-t8 : tie.Need-cast-t8
+cast-t8 c = search needs
 
 returns-2 : tie.Need-returns-2
 returns-2 c = sym (one _ (omega (arith, c .before .before .if1 .left)) (c .if2 .taken))
@@ -51,10 +48,9 @@ pub decode-varint-spec : {M : Type 1} → statement M
 decode-varint-spec =
     tie.close
     (tie.spec
-    refuse-requires
     returns
     shared-slice-read-first
-    cast-t7
+    cast-t8
     returns-2
     cast-decode-more
     decode-more-requires

@@ -2,7 +2,6 @@
 -- groups of `rest`. Each turn writes the first of them, and the store after the loop the last.
 -- Assumes nothing.
 use Prim.Native.Nat.{_+_, _-_, _/_, _%_, _<_, _^_}
-use mathlib.Core.Path.{_≡_}
 use mathlib.Core.List.{[], _∷_}
 use native.Mathlib.Omega.{arith}
 use lib.ListN.{length-set}

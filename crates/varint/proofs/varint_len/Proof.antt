@@ -2,7 +2,7 @@
 -- need make up the written form, less the one byte that `len` starts ahead by. Each turn takes one group off.
 -- Assumes nothing.
 use Prim.Native.Nat.{_+_, _<_, _^_}
-use mathlib.Core.Path.{_≡_, ap, _∙_}
+use mathlib.Core.Path.{_≡_, ap}
 use native.Mathlib.Omega.{arith}
 use lib.ListN.{length}
 use Rattle.varint.specs.Number.{groups, numberBytes}
