@@ -6,7 +6,7 @@ use Prim.Native.Nat.{ℕ, _+_, _≤_}
 use native.Mathlib.Omega.{arith}
 use lib.Dec.{eqb}
 use lib.ListN.{length}
-use borrow.Author.Tests.{le-leb, eq-eqb, ne-eqb, eqb-true, eqb-false}
+use borrow.Author.Tests.{le-leb, leb-true, eq-eqb, ne-eqb}
 use Rattle.answer.specs.Answer.{done, written}
 use Rattle.answer.specs.Order.{first}
 use Rattle.answer.proofs.Cases.{bool-cases}
@@ -39,6 +39,9 @@ module _ (buffer : List ℕ) (start len : ℕ) where
       let one = first-passed 16 (inside buffer start len) _ (λ z. omega arith) e in
       let two = first-passed 15 (isUtf8 (part buffer start len)) _ (λ z. omega arith) (one .1) in
       (one .0, two .0)
+
+  pub string-range : first (stringChecks buffer start len) ≡ 0 → start + len ≤ length buffer
+  string-range e = leb-true (start + len) (length buffer) (string-passed e .0)
 
 -- ---- values
 

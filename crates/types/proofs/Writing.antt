@@ -13,6 +13,7 @@ use Rattle.answer.specs.Answer.{refused, written}
 use Rattle.answer.specs.Order.{first}
 use Rattle.varint.specs.Number.{numberBytes}
 use Rattle.answer.proofs.Cases.{lt-or-le}
+use Rattle.varint.proofs.Writing.{length-most}
 use Rattle.types.specs.Value.{Shape, nothing, flag, integer, address, text, reserved, Width, whole64, shape, Record, value, points, inWidth, inFields}
 use Rattle.types.specs.Form.{part, inside, stringBytes, dataBytes, valueBytes, writableRecord, ranged, valueAnswer}
 use Rattle.types.proofs.Reading.{shape-is, shape-reserved, shape-listed, shape-integer, shape-text, in-fields, fields-in}
@@ -66,6 +67,28 @@ string-length bytes = ap length (string-bytes bytes) ∙ simp length-append
 
 pub part-length : (buffer : List ℕ) (start len : ℕ) → start + len ≤ length buffer → length (part buffer start len) ≡ len
 part-length buffer start len h = length-take-le len (drop start buffer) (simp length-drop (omega arith))
+
+-- a part has at most as many bytes as its length says, and as the buffer has
+pub part-at-most : (buffer : List ℕ) (start len : ℕ) → length (part buffer start len) ≤ len
+part-at-most buffer start len = simp length-take (omega arith)
+
+pub part-within-buffer : (buffer : List ℕ) (start len : ℕ) → length (part buffer start len) ≤ length buffer
+part-within-buffer buffer start len = simp (length-take, length-drop) (omega arith)
+
+-- a part that is lent, `&buffer[start..start + len]`
+pub part-lent : (buffer : List ℕ) (start len : ℕ) → take (start + len - start) (drop start buffer) ≡ part buffer start len
+part-lent buffer start len = ap (λ (n : ℕ). take n (drop start buffer)) same
+  where
+    same : start + len - start ≡ len
+    same = omega arith
+
+pub lent-length : (buffer : List ℕ) (start len : ℕ) → start + len ≤ length buffer → length (take (start + len - start) (drop start buffer)) ≡ len
+lent-length buffer start len h = ap length (part-lent buffer start len) ∙ part-length buffer start len h
+
+-- a string that lies inside is as long as its length says
+pub string-long : (buffer : List ℕ) (start len : ℕ) → start + len ≤ length buffer → length (stringBytes (part buffer start len)) ≡ length (numberBytes len) + len
+string-long buffer start len h =
+    string-length (part buffer start len) ∙ ap (λ (n : ℕ). length (numberBytes n) + n) (part-length buffer start len h)
 
 pub value-bytes : (buffer : List ℕ) (kind a b : ℕ) → valueBytes buffer (value kind a b) ≡ dataBytes (shape kind) kind a (part buffer a b)
 unfolding valueBytes
@@ -216,12 +239,16 @@ module _ (buffer : List ℕ) (k a b : ℕ) where
       (λ l g is. rw (bytes-at text is) (omega arith))
       (λ l is. absurd (fields-in reserved a b (sym (field-at k a b reserved is) ∙ f)))
 
--- a part that is lent, `&buffer[a..a + b]`
-pub part-lent : (buffer : List ℕ) (a b : ℕ) → take (a + b - a) (drop a buffer) ≡ part buffer a b
-part-lent buffer a b = ap (λ (n : ℕ). take n (drop a buffer)) same
-  where
-    same : a + b - a ≡ b
-    same = omega arith
+-- Law: a value's written form has at most eleven bytes beside those that it points at.
+pub value-bound : (buffer : List ℕ) (k a b : ℕ) → length (valueBytes buffer (value k a b)) ≤ 11 + length (part buffer a b)
+value-bound buffer k a b =
+    shape-cases k
+    (λ e is. rw (bytes-at buffer k a b _ is) (omega arith))
+    (λ e is. rw (bytes-at buffer k a b _ is) (omega arith))
+    (λ w l g is. rw (bytes-at buffer k a b _ is) (omega (arith, length-most a)))
+    (λ n l g is. rw (bytes-at buffer k a b _ is) (omega arith))
+    (λ l g is. rw (bytes-at buffer k a b _ is) (omega (arith, string-length (part buffer a b), length-most (length (part buffer a b)))))
+    (λ l is. rw (bytes-at buffer k a b _ is) (omega arith))
 
 module _ (buffer : List ℕ) (v : Record) where
   pub form-unwritable : writableRecord v ≡ false → valueAnswer buffer v ≡ refused 14 0
@@ -250,7 +277,7 @@ module _ (buffer : List ℕ) (k a b : ℕ) where
       form-whole buffer (value k a b) f (unpointed h)
       ∙ ap (λ (s : List ℕ). written s) (shape-integer k l h (λ w is. bytes-at buffer k a b (integer w) is))
 
-  -- a value that points has its bytes where they lie inside, and else none
+  -- a value that points has its bytes where they lie inside, as they are lent, and else none
   module _ (sh : Shape) (is : shape k ≡ sh) (p : points sh ≡ true) (f : inFields sh a b ≡ true) where
     fields : inFields (shape k) a b ≡ true
     fields = field-at k a b sh is ∙ f
@@ -258,14 +285,34 @@ module _ (buffer : List ℕ) (k a b : ℕ) where
     range : ranged buffer (value k a b) ≡ inside buffer a b
     range = rw (ap points is ∙ p)
 
-    pub form-pointed : inside buffer a b ≡ true → valueAnswer buffer (value k a b) ≡ written (dataBytes sh k a (part buffer a b))
-    form-pointed i = form-whole buffer (value k a b) fields (range ∙ i) ∙ ap (λ (s : List ℕ). written s) (bytes-at buffer k a b sh is)
+    pointed : inside buffer a b ≡ true → valueAnswer buffer (value k a b) ≡ written (dataBytes sh k a (take (a + b - a) (drop a buffer)))
+    pointed i =
+        form-whole buffer (value k a b) fields (range ∙ i)
+        ∙ ap (λ (s : List ℕ). written s) (bytes-at buffer k a b sh is)
+        ∙ ap (λ (s : List ℕ). written (dataBytes sh k a s)) (sym (part-lent buffer a b))
 
-    pub form-beyond : inside buffer a b ≡ false → valueAnswer buffer (value k a b) ≡ refused 16 0
-    form-beyond i = form-outside buffer (value k a b) fields (range ∙ i)
+    beyond : inside buffer a b ≡ false → valueAnswer buffer (value k a b) ≡ refused 16 0
+    beyond i = form-outside buffer (value k a b) fields (range ∙ i)
 
-  pub form-length : (n : ℕ) → shape k ≡ address n → (b ≡ n → ⊥) → valueAnswer buffer (value k a b) ≡ refused 14 0
-  form-length n is other = form-unwritable buffer (value k a b) (field-at k a b (address n) is ∙ ne-eqb b n other)
+  -- an address, by the length of its kind
+  module _ (n : ℕ) (is : shape k ≡ address n) where
+    pub form-length : (b ≡ n → ⊥) → valueAnswer buffer (value k a b) ≡ refused 14 0
+    form-length other = form-unwritable buffer (value k a b) (field-at k a b (address n) is ∙ ne-eqb b n other)
+
+    pub form-address : b ≡ n → inside buffer a n ≡ true → valueAnswer buffer (value k a b) ≡ written (k ∷ take (a + n - a) (drop a buffer))
+    form-address e i =
+        pointed (address n) is refl (in-fields (address n) a b e) (rw e i) ∙ ap (λ (m : ℕ). written (k ∷ take (a + m - a) (drop a buffer))) e
+
+    pub form-address-outside : b ≡ n → inside buffer a n ≡ false → valueAnswer buffer (value k a b) ≡ refused 16 0
+    form-address-outside e i = beyond (address n) is refl (in-fields (address n) a b e) (rw e i)
+
+  -- a string or a binary
+  module _ (low : 8 ≤ k) (high : k < 10) (f : b < 2 ^ 64) where
+    pub form-text : inside buffer a b ≡ true → valueAnswer buffer (value k a b) ≡ written (k ∷ stringBytes (take (a + b - a) (drop a buffer)))
+    form-text i = pointed text (shape-text k low high) refl (in-fields text a b f) i
+
+    pub form-text-outside : inside buffer a b ≡ false → valueAnswer buffer (value k a b) ≡ refused 16 0
+    form-text-outside i = beyond text (shape-text k low high) refl (in-fields text a b f) i
 
   pub form-reserved : 10 ≤ k → valueAnswer buffer (value k a b) ≡ refused 14 0
   form-reserved h = form-unwritable buffer (value k a b) (field-at k a b reserved (shape-reserved k h))
