@@ -10,7 +10,8 @@ use Rattle.answer.proofs.Output.{lent-tail}
 use Rattle.varint.specs.Number.{number}
 use Rattle.varint.proofs.Reading.{accepted}
 use Rattle.types.specs.Value.{Span, span, string, Width, integer, address, text, shape, Record, value, moved, narrowed, content}
-use Rattle.types.proofs.Reading.{number-place, string-place, string-accepted, shape-integer, integer-refused, integer-whole, address-short, address-whole, text-refused, text-whole, behind-refused, behind-plain, behind-start}
+use Rattle.types.proofs.Reading.{number-place, string-place, string-accepted, integer-refused, integer-whole, address-short, address-whole, text-refused, text-whole, behind-refused, behind-plain, behind-start}
+use Rattle.types.proofs.Shapes.{shape-integer}
 
 -- what the type byte and these bytes come to, whatever the flags are
 abbrev pub Comes : ℕ → List ℕ → Answer Record → Type 0

@@ -1,6 +1,6 @@
 -- Laws about the checks: how they unroll, and that a value which passes them has its written form.
-use mathlib.Core.Path.{_≡_, refl, sym, ap, _∙_}
-use mathlib.Core.Bool.{Bool, true, false, not, _||_}
+use mathlib.Core.Path.{_≡_, ap}
+use mathlib.Core.Bool.{true, false, not, _||_}
 use mathlib.Core.List.{List}
 use Prim.Native.Nat.{ℕ, _+_, _≤_}
 use native.Mathlib.Omega.{arith}
@@ -15,7 +15,8 @@ use Rattle.utf8.specs.Text.{isUtf8}
 use Rattle.types.specs.Value.{Record, value, shape, points, typed}
 use Rattle.types.specs.Form.{part, inside, valueBytes, writableRecord, ranged, valueAnswer}
 use Rattle.types.specs.Check.{stringChecks, partChecks, valueChecks}
-use Rattle.types.proofs.Reading.{shape-is, in-fields, typed-accepted}
+use Rattle.types.proofs.Reading.{typed-accepted}
+use Rattle.types.proofs.Shapes.{shape-is, in-fields}
 use Rattle.types.proofs.Writing.{form-whole}
 
 -- ---- strings

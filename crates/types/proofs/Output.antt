@@ -9,7 +9,7 @@ use lib.ListN.{length, take, drop, getD, set}
 use borrow.Rule.Slice.PartMut.{putMid}
 use borrow.Author.Tests.{le-leb, lt-leb}
 use Rattle.answer.specs.declared.Written.{Written}
-use Rattle.answer.specs.Answer.{Answer, done, refused, written, within, tells, leaves}
+use Rattle.answer.specs.Answer.{Answer, done, refused, written, within, tells}
 use Rattle.answer.specs.Writes.{counted, Writes}
 use Rattle.answer.proofs.Cases.{lt-or-le}
 use Rattle.answer.proofs.Output.{Partly, partly-none, partly-count, partly-all, leaves-length, leaves-byte}

@@ -1,60 +1,22 @@
 -- Laws about the written form of strings and values: how it unrolls and how long it is, and what the tests before it say.
 use mathlib.Core.Path.{_≡_, refl, sym, ap, _∙_}
-use mathlib.Core.Bool.{Bool, true, false, cond, and-true, and-false}
+use mathlib.Core.Bool.{true, false}
 use mathlib.Core.Logic.{⊎-elim}
 use mathlib.Core.List.{List, [], _∷_, _++_}
 use Prim.Native.Nat.{ℕ, _+_, _-_, _*_, _^_, _≤_, _<_}
 use native.Mathlib.Omega.{arith}
-use lib.Dec.{ltb, leb, eqb}
+use lib.Dec.{leb}
 use lib.ListN.{length, take, drop, length-append, length-take, length-drop}
 use lib.Seq.{length-take-le}
-use borrow.Author.Tests.{lt-ltb, le-ltb, le-leb, lt-leb, ne-eqb, leb-true}
+use borrow.Author.Tests.{le-leb, lt-leb, ne-eqb, leb-true}
 use Rattle.answer.specs.Answer.{refused, written}
 use Rattle.answer.specs.Order.{first}
 use Rattle.varint.specs.Number.{numberBytes}
 use Rattle.answer.proofs.Cases.{lt-or-le}
 use Rattle.varint.proofs.Writing.{length-most}
-use Rattle.types.specs.Value.{Shape, nothing, flag, integer, address, text, reserved, Width, whole64, shape, Record, value, points, inWidth, inFields}
+use Rattle.types.specs.Value.{Shape, nothing, flag, integer, address, text, reserved, shape, Record, value, points, inFields}
 use Rattle.types.specs.Form.{part, inside, stringBytes, dataBytes, valueBytes, writableRecord, ranged, valueAnswer}
-use Rattle.types.proofs.Reading.{shape-is, shape-reserved, shape-listed, shape-integer, shape-text, in-fields, fields-in}
-
--- a law about a kind goes by the table's lines
-pub shape-cases : {G : Type 0} (k : ℕ)
-    → (k ≡ 0 → shape k ≡ nothing → G)
-    → (k ≡ 1 → shape k ≡ flag → G)
-    → ((w : Width) → 2 ≤ k → k < 6 → shape k ≡ integer w → G)
-    → ((n : ℕ) → 6 ≤ k → k < 8 → shape k ≡ address n → G)
-    → (8 ≤ k → k < 10 → shape k ≡ text → G)
-    → (10 ≤ k → shape k ≡ reserved → G)
-    → G
-shape-cases k null bool int addr txt none =
-    ⊎-elim
-    (λ a. null (omega arith) (at 0 (omega arith) ∙ shape-is .0))
-    (λ a. ⊎-elim (λ b. bool (omega arith) (at 1 (omega arith) ∙ shape-is .1))
-    (λ b. ⊎-elim (λ c. shape-integer k b c (λ w e. int w b c e))
-    (λ c. ⊎-elim (λ d. addr 4 c (omega arith) (at 6 (omega arith) ∙ shape-is .6))
-    (λ d. ⊎-elim (λ e. addr 16 c e (at 7 (omega arith) ∙ shape-is .7))
-    (λ e. ⊎-elim (λ f. txt e f (shape-text k e f)) (λ f. none f (shape-reserved k f)) (lt-or-le k 10))
-    (lt-or-le k 8))
-    (lt-or-le k 7))
-    (lt-or-le k 6))
-    (lt-or-le k 2))
-    (lt-or-le k 1)
-  where
-    at : (n : ℕ) → k ≡ n → shape k ≡ shape n
-    at n e = ap shape e
-
--- a writable value's kind is at most 9
-pub writable-kind : (k a b : ℕ) → inFields (shape k) a b ≡ true → k ≤ 9
-writable-kind k a b h = shape-listed k (λ r. fields-in reserved a b (sym (ap (λ (x : Shape). inFields x a b) r) ∙ h))
-
-pub shape-plain : {G : Type 0} (k : ℕ) → k < 2 → (k ≡ 0 → shape k ≡ nothing → G) → (k ≡ 1 → shape k ≡ flag → G) → G
-shape-plain k h f g =
-    ⊎-elim (λ l. let e : k ≡ 0 = omega arith in f e (ap shape e ∙ shape-is .0)) (λ l. let e : k ≡ 1 = omega arith in g e (ap shape e ∙ shape-is .1)) (lt-or-le k 1)
-
-pub shape-address : {G : Type 0} (k : ℕ) → 6 ≤ k → k < 8 → ((n : ℕ) → shape k ≡ address n → G) → G
-shape-address k l h f =
-    ⊎-elim (λ m. let e : k ≡ 6 = omega arith in f 4 (ap shape e ∙ shape-is .6)) (λ m. let e : k ≡ 7 = omega arith in f 16 (ap shape e ∙ shape-is .7)) (lt-or-le k 7)
+use Rattle.types.proofs.Shapes.{shape-reserved, shape-plain, shape-integer, shape-address, shape-text, shape-cases, points-no, in-fields, fields-in, field-at}
 
 -- ---- lengths
 
@@ -117,69 +79,7 @@ rest-fits n beside whole room e h =
     ⊎-elim (λ l. lt-leb n (room - beside) l ∙ sym (lt-leb whole room (omega arith))) (λ l. le-leb n (room - beside) l ∙ sym (le-leb whole room (omega arith)))
     (lt-or-le (room - beside) n)
 
--- ---- the tests
-
--- the test of a first number, beside an unused one that is 0
-abbrev pub firstField : Shape → ℕ → Bool
-firstField nothing a = eqb a 0
-firstField flag a = ltb a 2
-firstField (integer w) a = inWidth w a
-firstField (address n) a = eqb 0 n
-firstField text a = ltb 0 (2 ^ 64)
-firstField reserved a = false
-
-pub first-field : (sh : Shape) (a : ℕ) → inFields sh a 0 ≡ firstField sh a
-first-field nothing a = and-true (eqb a 0)
-first-field flag a = and-true (ltb a 2)
-first-field (integer w) a = and-true (inWidth w a)
-first-field (address n) a = refl
-first-field text a = refl
-first-field reserved a = refl
-
--- where the second number is unused it is 0
-module _ (k a b : ℕ) where
-  pub field-at : (sh : Shape) → shape k ≡ sh → inFields (shape k) a b ≡ inFields sh a b
-  field-at sh is = ap (λ (x : Shape). inFields x a b) is
-
-  pub unused : k < 6 → (b ≡ 0 → ⊥) → inFields (shape k) a b ≡ false
-  unused h no0 =
-      shape-cases k
-      (λ e is. field-at nothing is ∙ rw (ne-eqb b 0 no0) (and-false (eqb a 0)))
-      (λ e is. field-at flag is ∙ rw (ne-eqb b 0 no0) (and-false (ltb a 2)))
-      (λ w l g is. field-at (integer w) is ∙ rw (ne-eqb b 0 no0) (and-false (inWidth w a)))
-      (λ n l g is. absurd (omega arith))
-      (λ l g is. absurd (omega arith))
-      (λ l is. absurd (omega arith))
-
-  pub whole-field : 4 ≤ k → k < 6 → b ≡ 0 → a < 2 ^ 64 → inFields (shape k) a b ≡ true
-  whole-field l h z f = ⊎-elim (λ m. row (omega arith) (shape-is .4)) (λ m. row (omega arith) (shape-is .5)) (lt-or-le k 5)
-    where
-      row : {j : ℕ} → k ≡ j → shape j ≡ integer whole64 → inFields (shape k) a b ≡ true
-      row e is = field-at (integer whole64) (ap shape e ∙ is) ∙ in-fields (integer whole64) a b (f, z)
-
-  pub address-field : (j n : ℕ) → k ≡ j → shape j ≡ address n → inFields (shape k) a b ≡ eqb b n
-  address-field j n e is = field-at (address n) (ap shape e ∙ is)
-
-  pub text-field : 8 ≤ k → b < 2 ^ 64 → inFields (shape k) a b ≡ ltb k 10
-  text-field l f =
-      ⊎-elim
-      (λ h. field-at text (shape-text k l h) ∙ lt-ltb b (2 ^ 64) f ∙ sym (lt-ltb k 10 h))
-      (λ h. field-at reserved (shape-reserved k h) ∙ sym (le-ltb k 10 h))
-      (lt-or-le k 10)
-
--- whether a kind points, by its number
-pub points-no : (k : ℕ) → k < 6 → points (shape k) ≡ false
-points-no k h =
-    shape-cases k (λ e is. ap points is) (λ e is. ap points is) (λ w l g is. ap points is)
-    (λ n l g is. absurd (omega arith)) (λ l g is. absurd (omega arith)) (λ l is. absurd (omega arith))
-
-pub points-yes : (k : ℕ) → 6 ≤ k → k < 10 → points (shape k) ≡ true
-points-yes k l h =
-    shape-cases k (λ e is. absurd (omega arith)) (λ e is. absurd (omega arith)) (λ w m g is. absurd (omega arith))
-    (λ n m g is. ap points is) (λ m g is. ap points is) (λ m is. absurd (omega arith))
-
-pub points-reserved : (k : ℕ) → 10 ≤ k → points (shape k) ≡ false
-points-reserved k h = ap points (shape-reserved k h)
+-- ---- ranges
 
 -- the test of a range without a sum that could wrap
 pub inside-not : (buffer : List ℕ) (start len : ℕ) → length buffer < start → inside buffer start len ≡ false

@@ -2,7 +2,7 @@
 -- Assumes nothing.
 use borrow.Author.Needs.{needs}
 use mathlib.Core.Path.{_∙_}
-use Rattle.types.proofs.Writing.{points-no, points-yes, points-reserved}
+use Rattle.types.proofs.Shapes.{points-no, points-yes, points-reserved}
 use Rattle.types.proofs.check.in_range.Statement.{statement}
 use Rattle.types.proofs.check.in_range.Tie as tie
 

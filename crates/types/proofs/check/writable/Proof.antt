@@ -4,8 +4,7 @@ use borrow.Author.Needs.{needs}
 use mathlib.Core.Path.{sym, ap, _∙_}
 use native.Mathlib.Omega.{arith}
 use Rattle.types.specs.Value.{shape, inFields}
-use Rattle.types.proofs.Reading.{shape-is}
-use Rattle.types.proofs.Writing.{unused, address-field, text-field}
+use Rattle.types.proofs.Shapes.{shape-is, unused, address-field, text-field}
 use Rattle.types.proofs.check.writable.Statement.{statement}
 use Rattle.types.proofs.check.writable.Tie as tie
 

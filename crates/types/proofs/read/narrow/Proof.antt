@@ -7,14 +7,14 @@ use mathlib.Core.Logic.{⊎-elim}
 use native.Mathlib.Omega.{arith}
 use Rattle.answer.proofs.Cases.{lt-or-le}
 use Rattle.types.specs.Value.{Width, signed32, unsigned32, whole64, integer, shape, narrowed}
-use Rattle.types.proofs.Reading.{shape-is}
+use Rattle.types.proofs.Shapes.{shape-is, row}
 use Rattle.types.proofs.read.narrow.Statement.{statement}
 use Rattle.types.proofs.read.narrow.Tie as tie
 
 -- where the table has one width for a kind, it is what the contract speaks of
 bits : (k kind : ℕ) (v : Width) (n : ℕ) → kind ≡ k → shape k ≡ integer v → (w : Width) → shape kind ≡ integer w → narrowed v n ≡ narrowed w n
-bits k kind v n is row w e =
-    let one : integer v ≡ integer w = sym row ∙ ap shape (sym is) ∙ e in
+bits k kind v n is line w e =
+    let one : integer v ≡ integer w = sym (row k is line) ∙ e in
     let p : v ≡ w = cc in
     ap (λ (x : Width). narrowed x n) p
 

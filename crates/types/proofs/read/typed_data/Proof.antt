@@ -8,7 +8,8 @@ use native.Mathlib.Omega.{arith}
 use lib.ListN.{length, drop}
 use Rattle.answer.specs.Answer.{done, refused}
 use Rattle.types.specs.Value.{nothing, flag, reserved, shape, value, typed}
-use Rattle.types.proofs.Reading.{first, typed-empty, typed-front, shape-is, shape-text, shape-reserved, behind-refused, behind-plain}
+use Rattle.types.proofs.Reading.{first, typed-empty, typed-front, behind-refused, behind-plain}
+use Rattle.types.proofs.Shapes.{shape-is, shape-text, shape-reserved}
 use Rattle.types.proofs.read.typed_data.Statement.{statement}
 use Rattle.types.proofs.read.typed_data.Tie as tie
 

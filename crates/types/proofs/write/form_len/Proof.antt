@@ -8,7 +8,8 @@ use native.Mathlib.Omega.{arith}
 use lib.ListN.{length}
 use Rattle.varint.specs.Number.{numberBytes}
 use Rattle.varint.proofs.Writing.{length-bounds}
-use Rattle.types.proofs.Writing.{writable-kind, length-plain, length-integer, length-address, length-text}
+use Rattle.types.proofs.Writing.{length-plain, length-integer, length-address, length-text}
+use Rattle.types.proofs.Shapes.{writable-kind}
 use Rattle.types.proofs.write.form_len.Statement.{statement}
 use Rattle.types.proofs.write.form_len.Tie as tie
 

@@ -2,7 +2,7 @@
 -- Assumes nothing.
 use borrow.Author.Needs.{needs}
 use native.Mathlib.Omega.{arith}
-use lib.ListN.{length, length-append}
+use lib.ListN.{length}
 use Rattle.varint.specs.Number.{numberBytes}
 use Rattle.types.proofs.Writing.{string-bytes, string-length}
 use Rattle.types.proofs.Output.{puts-wrote, Begun, begun-start, begun-room, begun-both, begun-most}

@@ -1,7 +1,7 @@
 -- `types::write::write_string` meets its contract: there is no room, or `put_string` writes all.
 -- Assumes nothing.
 use borrow.Author.Needs.{needs}
-use mathlib.Core.Path.{_≡_, sym, _∙_}
+use mathlib.Core.Path.{sym, _∙_}
 use Prim.Native.Nat.{_≤_}
 use lib.ListN.{length}
 use borrow.Author.Tests.{not-true, not-false, leb-true, leb-false}
