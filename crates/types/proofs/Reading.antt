@@ -20,6 +20,10 @@ use Rattle.types.specs.Value.{Span, span, string, Shape, nothing, flag, 
 abbrev pub Stands : {A : Type 0} → Answer A → Type 0
 Stands a = (place : ℕ) → a ≡ refused 3 place → ⊥
 
+-- a refusal is its number and its place
+refused-same : {A : Type 0} {n place m p : ℕ} → _≡_ {A = Answer A} (refused n place) (refused m p) → (n ≡ m) × (place ≡ p)
+refused-same e = ((cc), (cc))
+
 -- ---- where a number is refused
 
 more-place : (s : List ℕ) (sum k n place : ℕ) → more sum k s ≡ refused n place → place ≤ k + length s
@@ -92,9 +96,9 @@ module _ (s : List ℕ) where
 pub string-place : (s : List ℕ) (n place : ℕ) → string s ≡ refused n place → place ≤ length s
 string-place s n place e =
     string-cases s
-    (λ m p r. let one : refused m p ≡ refused n place = sym (string-refused s m p r) ∙ e in let q : p ≡ place = cc in omega (arith, number-place s m p r))
+    (λ m p r. let q = refused-same (sym (string-refused s m p r) ∙ e) in omega (arith, number-place s m p r))
     (λ m u d h. not-both (string-whole s m u d h) e)
-    (λ m u d h. let one : refused 3 u ≡ refused n place = sym (string-short s m u d h) ∙ e in let q : u ≡ place = cc in omega (arith, accepted s m u d))
+    (λ m u d h. let q = refused-same (sym (string-short s m u d h) ∙ e) in omega (arith, accepted s m u d))
 
 -- Law: with bytes appended, every answer but 3 stays as it was: an accepted string and a 7.
 pub string-kept : (s t : List ℕ) (a : Answer Span) → string s ≡ a → Stands a → string (s ++ t) ≡ a
@@ -250,10 +254,6 @@ typed-accepted (x ∷ s) kind a b used e = go (content (shape (x % 16)) (x % 16)
         let p = value-same (sym (typed-some x s ∙ ap (behind moved 1) f) ∙ e) in
         rw (sym (p .3), sym (p .2), sym (p .0)) (found-behind s k a d c u (rw (sym (o .0)) at o) (p .1))
     go (refused n place) f = not-both e (typed-some x s ∙ ap (behind moved 1) f)
-
--- a refusal is its number and its place
-refused-same : {A : Type 0} {n place m p : ℕ} → _≡_ {A = Answer A} (refused n place) (refused m p) → (n ≡ m) × (place ≡ p)
-refused-same e = ((cc), (cc))
 
 content-place : (sh : Shape) (kind flags : ℕ) (s : List ℕ) (n place : ℕ) → content sh kind flags s ≡ refused n place → place ≤ length s
 content-place nothing kind flags s n place e = not-both refl e

@@ -17,7 +17,7 @@ use Rattle.types.proofs.Reading.{string-whole, typed-some, integer-whol
 use Rattle.types.proofs.Shapes.{signed-below, InWidth, Fields, fields-in, shape-cases, writable-kind, field-at}
 use Rattle.types.proofs.Writing.{string-bytes, string-length, part-whole, bytes-at}
 
--- A value in the paper's sense: its kind, its number where it has one, and the bytes that it points at, wherever they stand.
+-- What a value means: its kind, its number where it has one, and the bytes that it points at, wherever they stand.
 pub data Meaning : Type 0 where
   means : ℕ → ℕ → List ℕ → Meaning
 
@@ -178,7 +178,7 @@ read-back buffer t (value k a b) h r =
     fields : (sh : Shape) → shape k ≡ sh → Fields sh a b
     fields sh is = fields-in sh a b (sym (field-at k a b sh is) ∙ h)
 
--- Law: two writable values whose written forms are equal, or start the same bytes, are equal in the paper's sense.
+-- Law: two writable values whose written forms are equal, or start the same bytes, mean the same.
 pub values-apart : (buffer other t u : List ℕ) (v w : Record)
     → writableRecord v ≡ true → ranged buffer v ≡ true → writableRecord w ≡ true → ranged other w ≡ true
     → valueBytes buffer v ++ t ≡ valueBytes other w ++ u

@@ -1,4 +1,5 @@
--- Laws about the written form of strings and values: how it unrolls and how long it is, and what the tests before it say.
+-- Laws about the written form of strings and values: how long it is, when a range lies inside, the bytes of each kind, and what writing
+-- comes to.
 use mathlib.Core.Path.{_≡_, refl, sym, ap, _∙_}
 use mathlib.Core.Bool.{true, false}
 use mathlib.Core.Logic.{⊎-elim}
@@ -86,11 +87,7 @@ pub inside-not : (buffer : List ℕ) (start len : ℕ) → length buffer < start
 inside-not buffer start len h = lt-leb (start + len) (length buffer) (omega arith)
 
 pub inside-rest : (buffer : List ℕ) (start len : ℕ) → start ≤ length buffer → leb len (length buffer - start) ≡ inside buffer start len
-inside-rest buffer start len h =
-    ⊎-elim
-    (λ l. lt-leb len (length buffer - start) l ∙ sym (lt-leb (start + len) (length buffer) (omega arith)))
-    (λ l. le-leb len (length buffer - start) l ∙ sym (le-leb (start + len) (length buffer) (omega arith)))
-    (lt-or-le (length buffer - start) len)
+inside-rest buffer start len h = rest-fits len start (start + len) (length buffer) refl h
 
 -- a value that points and is in range points inside
 pub ranged-inside : (buffer : List ℕ) (kind a b : ℕ) → points (shape kind) ≡ true → ranged buffer (value kind a b) ≡ true → a + b ≤ length buffer
