@@ -129,19 +129,19 @@ pub typed-some : (b : ℕ) (s : List ℕ) → typed (b ∷ s) ≡ behind moved 1
 unfolding typed
 typed-some b s = refl
 
--- the same in the code's terms, by the first byte
-abbrev pub first : List ℕ → ℕ
-first s = getD s 0 0
+-- the same in the code's terms, by the type byte
+abbrev pub typeByte : List ℕ → ℕ
+typeByte s = getD s 0 0
 
 pub typed-empty : (s : List ℕ) → length s ≡ 0 → typed s ≡ refused 3 0
 typed-empty s h = ap typed (drop-of-length-le s {i = 0} (omega arith)) ∙ typed-none
 
-pub typed-front : (s : List ℕ) (kind : ℕ) → 0 < length s → first s % 16 ≡ kind
-    → typed s ≡ behind moved 1 (content (shape kind) kind (first s / 16) (drop 1 s))
+pub typed-front : (s : List ℕ) (kind : ℕ) → 0 < length s → typeByte s % 16 ≡ kind
+    → typed s ≡ behind moved 1 (content (shape kind) kind (typeByte s / 16) (drop 1 s))
 typed-front s kind h e =
     ap typed (drop-cons s 0 0 h)
-    ∙ typed-some (first s) (drop 1 s)
-    ∙ ap (λ (k : ℕ). behind moved 1 (content (shape k) k (first s / 16) (drop 1 s))) e
+    ∙ typed-some (typeByte s) (drop 1 s)
+    ∙ ap (λ (k : ℕ). behind moved 1 (content (shape k) k (typeByte s / 16) (drop 1 s))) e
 
 -- the DATA of each kind that has some
 module _ (kind flags : ℕ) (s : List ℕ) where

@@ -1,18 +1,17 @@
 -- What only private contracts cite. No public promise rests on anything in this file.
 use Rattle.types.specs.declared.Value.{Value}
-use Rattle.types.specs.declared.Typed.{Typed}
 use mathlib.Core.Path.{_≡_}
 use mathlib.Core.List.{List}
 use Prim.Native.Nat.{ℕ}
 use lib.ListN.{length, drop}
 use Rattle.answer.specs.Answer.{Answer, refused, behind, within, leaves, tells}
-use Rattle.types.specs.Value.{shape, moved, content}
+use Rattle.types.specs.Value.{shape, Record, moved, content}
 use Rattle.types.specs.Form.{valueAnswer, lengthOf}
-use Rattle.types.specs.Promise.{recordOf, typedRead}
+use Rattle.types.specs.Promise.{recordOf}
 
--- A reader of the DATA of one kind: it is lent the type byte too, of which the kind is known and the flags do not matter.
-abbrev pub ReadsKind : ℕ → List ℕ → Typed → Type 0
-ReadsKind kind input r = (flags : ℕ) → typedRead r ≡ behind moved 1 (content (shape kind) kind flags (drop 1 input))
+-- What the reader of one kind is to answer: it is lent the type byte too, of which the kind is known and the flags do not matter.
+abbrev pub ReadsKind : ℕ → List ℕ → Answer Record → Type 0
+ReadsKind kind input a = (flags : ℕ) → a ≡ behind moved 1 (content (shape kind) kind flags (drop 1 input))
 
 -- A writer inside, of what is to give the answer a: it counts the bytes, 0 where it refuses, and those lent to it, old before, are
 -- new afterwards.

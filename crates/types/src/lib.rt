@@ -41,7 +41,7 @@ pub enum Typed {
     Refused(Refusal),
 }
 
-// The low 32 bits, the highest of them repeated above.
+// The low 32 bits, the highest of them repeated above: what a reader keeps of an i32, and what its number has to be where one is written.
 pub(crate) fn sign_extend(n: u64) -> u64
     ensures { λ r. ⌜ r ≡ signExtended n ⌝ }
 {

@@ -10,7 +10,7 @@ ghost use mathlib.Core.Path.{_≡_};
 ghost use Prim.Native.Nat.{_≤_, _<_};
 ghost use lib.ListN.{length};
 ghost use Rattle.types.specs.Value.{Width, integer, address, text, shape, narrowed};
-ghost use Rattle.types.specs.Promise.{ReadString, TypedData};
+ghost use Rattle.types.specs.Promise.{typedRead, ReadString, TypedData};
 ghost use Rattle.types.specs.Inner.{ReadsKind};
 
 // Reads the string at the front of `input`: a length number and that many bytes.
@@ -85,7 +85,7 @@ pub fn typed_data(input: &[u8]) -> Typed
 fn read_integer(kind: u64, input: &[u8]) -> Typed
     requires { ⌜ 0 < length (now input) ⌝ }
     requires { ⌜ (2 ≤ kind) × (kind < 6) ⌝ }
-    ensures { λ r. ⌜ ReadsKind kind (now (input .entry)) r ⌝ }
+    ensures { λ r. ⌜ ReadsKind kind (now (input .entry)) (typedRead r) ⌝ }
 {
     match varint::decode_varint(&input[1..]) {
         Number::Refused(r) => {
@@ -124,7 +124,7 @@ fn narrow(kind: u64, n: u64) -> u64
 fn read_address(kind: u64, len: usize, input: &[u8]) -> Typed
     requires { ⌜ 0 < length (now input) ⌝ }
     requires { ⌜ shape kind ≡ address len ⌝ }
-    ensures { λ r. ⌜ ReadsKind kind (now (input .entry)) r ⌝ }
+    ensures { λ r. ⌜ ReadsKind kind (now (input .entry)) (typedRead r) ⌝ }
 {
     if input.len() - 1 < len {
         return Typed::Refused(Refusal {
@@ -147,7 +147,7 @@ fn read_address(kind: u64, len: usize, input: &[u8]) -> Typed
 fn read_bytes(kind: u64, input: &[u8]) -> Typed
     requires { ⌜ 0 < length (now input) ⌝ }
     requires { ⌜ shape kind ≡ text ⌝ }
-    ensures { λ r. ⌜ ReadsKind kind (now (input .entry)) r ⌝ }
+    ensures { λ r. ⌜ ReadsKind kind (now (input .entry)) (typedRead r) ⌝ }
 {
     match read_string(&input[1..]) {
         Text::Refused(r) => {
