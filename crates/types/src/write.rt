@@ -114,13 +114,10 @@ fn put_value(value: Value, buffer: &[u8], out: &mut [u8]) -> usize
     ensures { λ r. ⌜ PutsValue value (now (buffer .entry)) r (now (out .entry)) (now (out .exit)) ⌝ }
 {
     let kind = value.kind;
+    if kind < 2 {
+        return put_plain(value, out);
+    }
     if kind < 6 {
-        if !writable(value) {
-            return 0;
-        }
-        if kind < 2 {
-            return put_plain(value, out);
-        }
         return put_integer(value, out);
     }
     if kind == 6 {
@@ -138,9 +135,11 @@ fn put_value(value: Value, buffer: &[u8], out: &mut [u8]) -> usize
 // The same of null and bool, which are one byte.
 fn put_plain(value: Value, out: &mut [u8]) -> usize
     requires { ⌜ value .kind < 2 ⌝ }
-    requires { ⌜ writableRecord (recordOf value) ≡ true ⌝ }
     ensures { λ r. ⌜ ((buffer : List ℕ) → PutsValue value buffer r (now (out .entry)) (now (out .exit))) ⌝ }
 {
+    if !writable(value) {
+        return 0;
+    }
     if out.len() == 0 {
         return 0;
     }
@@ -151,9 +150,11 @@ fn put_plain(value: Value, out: &mut [u8]) -> usize
 // The same of an integer.
 fn put_integer(value: Value, out: &mut [u8]) -> usize
     requires { ⌜ (2 ≤ value .kind) × (value .kind < 6) ⌝ }
-    requires { ⌜ writableRecord (recordOf value) ≡ true ⌝ }
     ensures { λ r. ⌜ ((buffer : List ℕ) → PutsValue value buffer r (now (out .entry)) (now (out .exit))) ⌝ }
 {
+    if !writable(value) {
+        return 0;
+    }
     if !number_fits(value.a, out.len()) {
         return 0;
     }
