@@ -136,7 +136,8 @@ module _ (buffer : List ℕ) (k a b : ℕ) where
       (λ l g is. rw (bytes-at text is) (omega arith))
       (λ l is. absurd (fields-in reserved a b (sym (field-at k a b reserved is) ∙ f)))
 
--- Law: a value's written form has at most eleven bytes beside those that it points at.
+-- Law: a value's written form has at most eleven bytes beside those that it points at. By the table's lines: a type byte, and a number of
+-- at most ten.
 pub value-bound : (buffer : List ℕ) (k a b : ℕ) → length (valueBytes buffer (value k a b)) ≤ 11 + length (part buffer a b)
 value-bound buffer k a b =
     shape-cases k
