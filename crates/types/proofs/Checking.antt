@@ -1,12 +1,12 @@
 -- Laws about the checks: how they unroll, and that a value which passes them has its written form.
-use mathlib.Core.Path.{_≡_, refl, sym, ap, _∙_}
-use mathlib.Core.Bool.{Bool, true, false, not, _||_}
+use mathlib.Core.Path.{_≡_, ap}
+use mathlib.Core.Bool.{true, false, not, _||_}
 use mathlib.Core.List.{List}
 use Prim.Native.Nat.{ℕ, _+_, _≤_}
 use native.Mathlib.Omega.{arith}
 use lib.Dec.{eqb}
 use lib.ListN.{length}
-use borrow.Author.Tests.{le-leb, eq-eqb, ne-eqb, eqb-true, eqb-false}
+use borrow.Author.Tests.{le-leb, leb-true, eq-eqb, ne-eqb}
 use Rattle.answer.specs.Answer.{done, written}
 use Rattle.answer.specs.Order.{first}
 use Rattle.answer.proofs.Cases.{bool-cases}
@@ -15,7 +15,8 @@ use Rattle.utf8.specs.Text.{isUtf8}
 use Rattle.types.specs.Value.{Record, value, shape, points, typed}
 use Rattle.types.specs.Form.{part, inside, valueBytes, writableRecord, ranged, valueAnswer}
 use Rattle.types.specs.Check.{stringChecks, partChecks, valueChecks}
-use Rattle.types.proofs.Reading.{shape-is, in-fields, typed-accepted}
+use Rattle.types.proofs.Reading.{typed-accepted}
+use Rattle.types.proofs.Shapes.{shape-is, in-fields}
 use Rattle.types.proofs.Writing.{form-whole}
 
 -- ---- strings
@@ -39,6 +40,9 @@ module _ (buffer : List ℕ) (start len : ℕ) where
       let one = first-passed 16 (inside buffer start len) _ (λ z. omega arith) e in
       let two = first-passed 15 (isUtf8 (part buffer start len)) _ (λ z. omega arith) (one .1) in
       (one .0, two .0)
+
+  pub string-range : first (stringChecks buffer start len) ≡ 0 → start + len ≤ length buffer
+  string-range e = leb-true (start + len) (length buffer) (string-passed e .0)
 
 -- ---- values
 

@@ -1,16 +1,19 @@
--- Laws about what the writing of a value leaves: nothing where it has no form or no room, four bytes, and bytes behind a type byte.
+-- Laws about the writers inside: what each leaves where a value has no form or no room, where another writer wrote, after a copy, and in
+-- two parts one behind the other.
 use mathlib.Core.Path.{_≡_, refl, ap, _∙_}
-use mathlib.Core.List.{List, [], _∷_}
+use mathlib.Core.List.{List, [], _∷_, _++_}
 use mathlib.Core.Logic.{⊎-elim}
 use Prim.Native.Nat.{ℕ, _+_, _-_, _≤_, _<_}
 use native.Mathlib.Omega.{arith}
 use lib.ListN.{length, take, drop, getD, set}
 use borrow.Rule.Slice.PartMut.{putMid}
 use borrow.Author.Tests.{le-leb, lt-leb}
-use Rattle.answer.specs.Answer.{Answer, done, refused, written, within, tells, leaves}
+use Rattle.answer.specs.declared.Written.{Written}
+use Rattle.answer.specs.Answer.{Answer, done, refused, written, within, tells}
+use Rattle.answer.specs.Writes.{counted, Writes}
 use Rattle.answer.proofs.Cases.{lt-or-le}
-use Rattle.answer.proofs.Output.{Partly, partly-none, partly-all, leaves-length, leaves-byte}
-use Rattle.answer.proofs.Parts.{both-start, both-room, both-count, both-leaves, copy-place, copy-next, copy-all}
+use Rattle.answer.proofs.Output.{Partly, partly-none, partly-count, partly-all, leaves-length, leaves-byte}
+use Rattle.answer.proofs.Parts.{room-counted, room-leaves, both-start, both-room, both-count, both-leaves, copy-place, copy-next, copy-all}
 use Rattle.types.specs.Form.{lengthOf}
 use Rattle.types.specs.Inner.{Puts}
 
@@ -23,9 +26,13 @@ module _ {a : Answer (List ℕ)} (bytes old : List ℕ) (is : a ≡ written byte
   pub puts-short : length old < length bytes → Puts (within (length old) a) 0 old old
   puts-short h = rw is (simp (lt-leb (length bytes) (length old) h) (record { counts = refl; holds = refl }))
 
-  pub puts-whole : (new : List ℕ) (n : ℕ) → length bytes ≤ length old → n ≡ length bytes → new ≡ leaves (written bytes) old
-      → Puts (within (length old) a) n old new
-  puts-whole new n h count e = rw is (simp (le-leb (length bytes) (length old) h) (record { counts = count; holds = e }))
+  pub puts-whole : {new : List ℕ} {n : ℕ} → length bytes ≤ length old → Puts (written bytes) n old new → Puts (within (length old) a) n old new
+  puts-whole h p = rw is (simp (le-leb (length bytes) (length old) h) p)
+
+-- what another writer wrote, where there is room
+pub puts-wrote : (bytes : List ℕ) {old new : List ℕ} {r : Written} {n : ℕ}
+    → Writes (within (length old) (written bytes)) r old new → length bytes ≤ length old → n ≡ counted r → Puts (written bytes) n old new
+puts-wrote bytes p room e = record { counts = e ∙ room-counted bytes p room; holds = room-leaves bytes p room }
 
 -- a count that is not 0 is told as it is
 pub told : (a : Answer (List ℕ)) (n : ℕ) → n ≡ lengthOf a → (n ≡ 0 → ⊥) → done tt n ≡ tells a
@@ -40,6 +47,10 @@ told-short {a} bytes room is some none =
     (λ h. rw is (simp (lt-leb (length bytes) room h)))
     (λ h. let z : length bytes ≡ 0 = simp (le-leb (length bytes) room h) at (rw is at none) in absurd (omega arith))
     (lt-or-le room (length bytes))
+
+-- a copy that has come to its end
+pub puts-copy : {bytes old out : List ℕ} {at : ℕ} → Partly bytes old at (drop at bytes) out → length bytes ≤ at → Puts (written bytes) at old out
+puts-copy p h = let q = copy-all p h in record { counts = partly-count q; holds = partly-all q }
 
 -- four bytes, one after the other
 module _ (bytes old : List ℕ) (four : length bytes ≡ 4) (room : length bytes ≤ length old) where
@@ -64,38 +75,36 @@ module _ (bytes old : List ℕ) (four : length bytes ≡ 4) (room : length bytes
   pub four-fourth : 3 < length (set (set (set old 0 (getD bytes 0 0)) 1 (getD bytes 1 0)) 2 (getD bytes 2 0))
   four-fourth = copy-place three (omega (arith, four))
 
-  pub four-all : set (set (set (set old 0 (getD bytes 0 0)) 1 (getD bytes 1 0)) 2 (getD bytes 2 0)) 3 (getD bytes 3 0) ≡ leaves (written bytes) old
-  four-all = partly-all (copy-all (copy-next three (omega (arith, four))) (omega (arith, four)))
+  pub four-all : Puts (written bytes) 4 old (set (set (set (set old 0 (getD bytes 0 0)) 1 (getD bytes 1 0)) 2 (getD bytes 2 0)) 3 (getD bytes 3 0))
+  four-all = puts-copy (copy-next three (omega (arith, four))) (omega (arith, four))
 
--- A front of one byte, as a store leaves it: old has room for b and for what goes behind it.
-pub record Tagged (b : ℕ) (rest old : List ℕ) : Type 0 where
-  pub room : length (b ∷ rest) ≤ length old
+-- Of two parts the first is written, n bytes, which made out of old, and there is room for both.
+pub record Begun (front rest old : List ℕ) (n : ℕ) (out : List ℕ) : Type 0 where
+  pub first : Puts (written front) n old out
+  pub room : length (front ++ rest) ≤ length old
 
-module _ {b : ℕ} {rest old : List ℕ} (t : Tagged b rest old) where
-  pub tagged-place : 1 ≤ length old
-  tagged-place = omega (arith, t .room)
+-- the first is a byte, as a store leaves it
+pub begun-byte : (b : ℕ) (rest old : List ℕ) → length (b ∷ rest) ≤ length old → Begun (b ∷ []) rest old 1 (set old 0 b)
+begun-byte b rest old room = record { first = record { counts = refl; holds = leaves-byte b old (omega arith) }; room = room }
 
-  stored : set old 0 b ≡ leaves (written (b ∷ [])) old
-  stored = leaves-byte b old tagged-place
+-- the second goes behind it, by whoever is lent `&mut out[n..]`
+module _ {front rest old out : List ℕ} {n : ℕ} (b : Begun front rest old n out) where
+  pub begun-start : n ≤ length out
+  begun-start = both-start front rest old out n (b .first .counts) (b .first .holds) (b .room)
 
-  pub tagged-start : 1 ≤ length (set old 0 b)
-  tagged-start = both-start (b ∷ []) rest old (set old 0 b) 1 refl stored (t .room)
+  pub begun-room : length rest ≤ length (take (length out - n) (drop n out))
+  begun-room = both-room front rest old out n (b .first .counts) (b .first .holds) (b .room)
 
-  pub tagged-room : length rest ≤ length (take (length (set old 0 b) - 1) (drop 1 (set old 0 b)))
-  tagged-room = both-room (b ∷ []) rest old (set old 0 b) 1 refl stored (t .room)
+  module _ {k : ℕ} {tail : List ℕ} (p : Puts (written rest) k (take (length out - n) (drop n out)) tail) where
+    pub begun-both : Puts (written (front ++ rest)) (n + k) old (putMid n (length out - n) out tail)
+    begun-both =
+        record {
+          counts = both-count front rest old out n (b .first .counts) (b .first .holds) (b .room) k (p .counts);
+          holds = both-leaves front rest old out n (b .first .counts) (b .first .holds) (b .room) tail (p .holds);
+        }
 
-  pub tagged-count : (k : ℕ) → k ≡ length rest → 1 + k ≡ length (b ∷ rest)
-  tagged-count k e = both-count (b ∷ []) rest old (set old 0 b) 1 refl stored (t .room) k e
+    pub begun-most : n + k ≤ length old
+    begun-most = omega (arith, begun-both .counts, b .room)
 
-  tagged-leaves : (tail : List ℕ) → tail ≡ leaves (written rest) (take (length (set old 0 b) - 1) (drop 1 (set old 0 b)))
-      → putMid 1 (length (set old 0 b) - 1) (set old 0 b) tail ≡ leaves (written (b ∷ rest)) old
-  tagged-leaves tail e = both-leaves (b ∷ []) rest old (set old 0 b) 1 refl stored (t .room) tail e
-
-  pub tagged-length : (tail : List ℕ) → tail ≡ leaves (written rest) (take (length (set old 0 b) - 1) (drop 1 (set old 0 b)))
-      → length (putMid 1 (length (set old 0 b) - 1) (set old 0 b) tail) ≡ length old
-  tagged-length tail e = ap length (tagged-leaves tail e) ∙ leaves-length (b ∷ rest) old (t .room)
-
-  pub tagged-puts : {a : Answer (List ℕ)} → a ≡ written (b ∷ rest) → (k : ℕ) (tail : List ℕ) → k ≡ length rest
-      → tail ≡ leaves (written rest) (take (length (set old 0 b) - 1) (drop 1 (set old 0 b)))
-      → Puts (within (length old) a) (1 + k) old (putMid 1 (length (set old 0 b) - 1) (set old 0 b) tail)
-  tagged-puts is k tail n e = puts-whole (b ∷ rest) old is _ (1 + k) (t .room) (tagged-count k n) (tagged-leaves tail e)
+    pub begun-length : length (putMid n (length out - n) out tail) ≡ length old
+    begun-length = ap length (begun-both .holds) ∙ leaves-length (front ++ rest) old (b .room)

@@ -1,29 +1,28 @@
 -- Laws about reading a string and a value: how each unrolls, what an accepted one says of the bytes, and that bytes
 -- appended change neither it nor any refusal but 3.
 use mathlib.Core.Path.{_≡_, refl, sym, ap, _∙_}
-use mathlib.Core.Bool.{Bool, true, false, cond, _&&_, true≢false}
+use mathlib.Core.Bool.{true, false, cond, true≢false}
 use mathlib.Core.Logic.{⊎-elim}
 use mathlib.Core.List.{List, [], _∷_, _++_}
 use Prim.Native.Nat.{ℕ, suc, _+_, _-_, _/_, _%_, _^_, _≤_, _<_}
 use native.Mathlib.Omega.{arith}
-use lib.Dec.{ltb, eqb}
 use lib.Seq.{drop-cons}
-use lib.ListN.{length, take, drop, getD, length-append, drop-of-length-le, List·getD-eq-default}
-use borrow.Author.Tests.{lt-ltb, le-ltb, le-leb, lt-leb, eq-eqb, eqb-true, ltb-true}
+use lib.ListN.{length, drop, getD, length-append, drop-of-length-le}
+use borrow.Author.Tests.{le-leb, lt-leb}
 use Rattle.answer.specs.Answer.{Answer, done, refused, next, behind}
 use Rattle.varint.specs.Number.{worth, more, number}
 use Rattle.answer.proofs.Cases.{lt-or-le, answer-cases, not-both}
-use Rattle.answer.proofs.Output.{lent-tail}
 use Rattle.varint.proofs.Reading.{more-none, more-eleventh, more-over, more-last, more-on, number-none, number-one, number-more, accepted, kept as number-kept, accepted-kept}
-use Rattle.types.specs.Value.{Span, span, string, Shape, nothing, flag, integer, address, text, reserved, Width, signed32, unsigned32, whole64, shapes, shape, Record, value, points, moved, signExtended, narrowed, spanned, content, typed, inWidth, inFields}
+use Rattle.types.proofs.Shapes.{shape-listed, InWidth, signed-again, Fields}
+use Rattle.types.specs.Value.{Span, span, string, Shape, nothing, flag, integer, address, text, reserved, Width, signed32, unsigned32, whole64, shape, Record, value, points, moved, narrowed, spanned, content, typed}
 
 -- any answer but 3, which bytes appended may change
 abbrev pub Stands : {A : Type 0} → Answer A → Type 0
 Stands a = (place : ℕ) → a ≡ refused 3 place → ⊥
 
--- What a reader that was lent the rest, `&s[n..]`, says of it.
-pub read-tail : {A : Type 0} (f : List ℕ → A) (n : ℕ) (s : List ℕ) {a : A} → a ≡ f (take (length s - n) (drop n s)) → f (drop n s) ≡ a
-read-tail f n s e = sym (e ∙ ap f (lent-tail n s))
+-- a refusal is its number and its place
+refused-same : {A : Type 0} {n place m p : ℕ} → _≡_ {A = Answer A} (refused n place) (refused m p) → (n ≡ m) × (place ≡ p)
+refused-same e = ((cc), (cc))
 
 -- ---- where a number is refused
 
@@ -97,9 +96,9 @@ module _ (s : List ℕ) where
 pub string-place : (s : List ℕ) (n place : ℕ) → string s ≡ refused n place → place ≤ length s
 string-place s n place e =
     string-cases s
-    (λ m p r. let one : refused m p ≡ refused n place = sym (string-refused s m p r) ∙ e in let q : p ≡ place = cc in omega (arith, number-place s m p r))
+    (λ m p r. let q = refused-same (sym (string-refused s m p r) ∙ e) in omega (arith, number-place s m p r))
     (λ m u d h. not-both (string-whole s m u d h) e)
-    (λ m u d h. let one : refused 3 u ≡ refused n place = sym (string-short s m u d h) ∙ e in let q : u ≡ place = cc in omega (arith, accepted s m u d))
+    (λ m u d h. let q = refused-same (sym (string-short s m u d h) ∙ e) in omega (arith, accepted s m u d))
 
 -- Law: with bytes appended, every answer but 3 stays as it was: an accepted string and a 7.
 pub string-kept : (s t : List ℕ) (a : Answer Span) → string s ≡ a → Stands a → string (s ++ t) ≡ a
@@ -111,108 +110,7 @@ string-kept s t a e no3 =
     (λ n u d h. string-whole (s ++ t) n u (accepted-kept s t n u d) (simp length-append (omega arith)) ∙ sym (string-whole s n u d h) ∙ e)
     (λ n u d h. absurd (no3 u (sym e ∙ string-short s n u d h)))
 
--- ---- the table
-
--- each kind's line
-pub shape-is : (shape 0 ≡ nothing) × (shape 1 ≡ flag) × (shape 2 ≡ integer signed32) × (shape 3 ≡ integer unsigned32) × (shape 4 ≡ integer whole64)
-    × (shape 5 ≡ integer whole64) × (shape 6 ≡ address 4) × (shape 7 ≡ address 16) × (shape 8 ≡ text) × (shape 9 ≡ text)
-unfolding shape
-shape-is = (refl, refl, refl, refl, refl, refl, refl, refl, refl, refl)
-
--- kinds from 10 on have none
-pub shape-reserved : (k : ℕ) → 10 ≤ k → shape k ≡ reserved
-unfolding shape
-shape-reserved k h = List·getD-eq-default shapes reserved h
-
--- so a kind that has one is at most 9
-pub shape-listed : (k : ℕ) → (shape k ≡ reserved → ⊥) → k ≤ 9
-shape-listed k h = ⊎-elim (λ l. omega arith) (λ l. absurd (h (shape-reserved k l))) (lt-or-le k 10)
-
--- 2 to 5 are integers, 8 and 9 have a length number
-pub shape-integer : {G : Type 0} (k : ℕ) → 2 ≤ k → k < 6 → ((w : Width) → shape k ≡ integer w → G) → G
-shape-integer k h l f =
-    ⊎-elim (λ m. f signed32 (is 2 (omega arith) ∙ shape-is .2))
-    (λ m. ⊎-elim (λ o. f unsigned32 (is 3 (omega arith) ∙ shape-is .3))
-    (λ o. ⊎-elim (λ p. f whole64 (is 4 (omega arith) ∙ shape-is .4)) (λ p. f whole64 (is 5 (omega arith) ∙ shape-is .5)) (lt-or-le k 5))
-    (lt-or-le k 4))
-    (lt-or-le k 3)
-  where
-    is : (n : ℕ) → k ≡ n → shape k ≡ shape n
-    is n e = ap shape e
-
-pub shape-text : (k : ℕ) → 8 ≤ k → k < 10 → shape k ≡ text
-shape-text k h l = ⊎-elim (λ m. is 8 (omega arith) ∙ shape-is .8) (λ m. is 9 (omega arith) ∙ shape-is .9) (lt-or-le k 9)
-  where
-    is : (n : ℕ) → k ≡ n → shape k ≡ shape n
-    is n e = ap shape e
-
--- ---- 32 bits
-
-module _ (n : ℕ) where
-  pub signed-plus : n % 2 ^ 32 < 2 ^ 31 → signExtended n ≡ n % 2 ^ 32
-  unfolding signExtended
-  signed-plus h = simp (lt-ltb (n % 2 ^ 32) (2 ^ 31) h)
-
-  pub signed-minus : 2 ^ 31 ≤ n % 2 ^ 32 → signExtended n ≡ n % 2 ^ 32 + (2 ^ 64 - 2 ^ 32)
-  unfolding signExtended
-  signed-minus h = simp (le-ltb (n % 2 ^ 32) (2 ^ 31) h)
-
-pub signed-below : (n : ℕ) → signExtended n < 2 ^ 64
-signed-below n = ⊎-elim (λ h. omega (arith, signed-plus n h)) (λ h. omega (arith, signed-minus n h)) (lt-or-le (n % 2 ^ 32) (2 ^ 31))
-
--- a number that was extended is its own extension
-pub signed-again : (n : ℕ) → signExtended n ≡ signExtended (signExtended n)
-signed-again n =
-    ⊎-elim
-    (λ h. let e = signed-plus n h in omega (arith, signed-plus (signExtended n) (omega arith)))
-    (λ h. let e = signed-minus n h in omega (arith, signed-minus (signExtended n) (omega arith)))
-    (lt-or-le (n % 2 ^ 32) (2 ^ 31))
-
--- ---- fields
-
-abbrev pub InWidth : Width → ℕ → Type 0
-InWidth signed32 a = a ≡ signExtended a
-InWidth unsigned32 a = a < 2 ^ 32
-InWidth whole64 a = a < 2 ^ 64
-
--- what `inFields` tests
-abbrev pub Fields : Shape → ℕ → ℕ → Type 0
-Fields nothing a b = (a ≡ 0) × (b ≡ 0)
-Fields flag a b = (a < 2) × (b ≡ 0)
-Fields (integer w) a b = InWidth w a × (b ≡ 0)
-Fields (address n) a b = b ≡ n
-Fields text a b = b < 2 ^ 64
-Fields reserved a b = ⊥
-
-both-true : (p q : Bool) → p && q ≡ true → (p ≡ true) × (q ≡ true)
-both-true true q e = (refl, e)
-both-true false q e = absurd (true≢false (sym e))
-
-pub in-width : (w : Width) (a : ℕ) → InWidth w a → inWidth w a ≡ true
-in-width signed32 a h = eq-eqb a (signExtended a) h
-in-width unsigned32 a h = lt-ltb a (2 ^ 32) h
-in-width whole64 a h = lt-ltb a (2 ^ 64) h
-
-pub width-in : (w : Width) (a : ℕ) → inWidth w a ≡ true → InWidth w a
-width-in signed32 a h = eqb-true a (signExtended a) h
-width-in unsigned32 a h = ltb-true a (2 ^ 32) h
-width-in whole64 a h = ltb-true a (2 ^ 64) h
-
-pub in-fields : (sh : Shape) (a b : ℕ) → Fields sh a b → inFields sh a b ≡ true
-in-fields nothing a b h = simp (eq-eqb a 0 (h .0), eq-eqb b 0 (h .1))
-in-fields flag a b h = simp (lt-ltb a 2 (h .0), eq-eqb b 0 (h .1))
-in-fields (integer w) a b h = simp (in-width w a (h .0), eq-eqb b 0 (h .1))
-in-fields (address n) a b h = eq-eqb b n h
-in-fields text a b h = lt-ltb b (2 ^ 64) h
-in-fields reserved a b h = absurd h
-
-pub fields-in : (sh : Shape) (a b : ℕ) → inFields sh a b ≡ true → Fields sh a b
-fields-in nothing a b h = let t = both-true (eqb a 0) (eqb b 0) h in (eqb-true a 0 (t .0), eqb-true b 0 (t .1))
-fields-in flag a b h = let t = both-true (ltb a 2) (eqb b 0) h in (ltb-true a 2 (t .0), eqb-true b 0 (t .1))
-fields-in (integer w) a b h = let t = both-true (inWidth w a) (eqb b 0) h in (width-in w a (t .0), eqb-true b 0 (t .1))
-fields-in (address n) a b h = eqb-true b n h
-fields-in text a b h = ltb-true b (2 ^ 64) h
-fields-in reserved a b h = true≢false (sym h)
+-- ---- values
 
 -- a start is in its field wherever it points
 fields-moved : (sh : Shape) (n a b : ℕ) → Fields sh a b → Fields sh (cond (points sh) (n + a) a) b
@@ -223,8 +121,6 @@ fields-moved (address m) n a b h = h
 fields-moved text n a b h = h
 fields-moved reserved n a b h = h
 
--- ---- values
-
 pub typed-none : typed [] ≡ refused 3 0
 unfolding typed
 typed-none = refl
@@ -233,19 +129,19 @@ pub typed-some : (b : ℕ) (s : List ℕ) → typed (b ∷ s) ≡ behind moved 1
 unfolding typed
 typed-some b s = refl
 
--- the same in the code's terms, by the first byte
-abbrev pub first : List ℕ → ℕ
-first s = getD s 0 0
+-- the same in the code's terms, by the type byte
+abbrev pub typeByte : List ℕ → ℕ
+typeByte s = getD s 0 0
 
 pub typed-empty : (s : List ℕ) → length s ≡ 0 → typed s ≡ refused 3 0
 typed-empty s h = ap typed (drop-of-length-le s {i = 0} (omega arith)) ∙ typed-none
 
-pub typed-front : (s : List ℕ) (kind : ℕ) → 0 < length s → first s % 16 ≡ kind
-    → typed s ≡ behind moved 1 (content (shape kind) kind (first s / 16) (drop 1 s))
+pub typed-front : (s : List ℕ) (kind : ℕ) → 0 < length s → typeByte s % 16 ≡ kind
+    → typed s ≡ behind moved 1 (content (shape kind) kind (typeByte s / 16) (drop 1 s))
 typed-front s kind h e =
     ap typed (drop-cons s 0 0 h)
-    ∙ typed-some (first s) (drop 1 s)
-    ∙ ap (λ (k : ℕ). behind moved 1 (content (shape k) k (first s / 16) (drop 1 s))) e
+    ∙ typed-some (typeByte s) (drop 1 s)
+    ∙ ap (λ (k : ℕ). behind moved 1 (content (shape k) k (typeByte s / 16) (drop 1 s))) e
 
 -- the DATA of each kind that has some
 module _ (kind flags : ℕ) (s : List ℕ) where
@@ -358,10 +254,6 @@ typed-accepted (x ∷ s) kind a b used e = go (content (shape (x % 16)) (x % 16)
         let p = value-same (sym (typed-some x s ∙ ap (behind moved 1) f) ∙ e) in
         rw (sym (p .3), sym (p .2), sym (p .0)) (found-behind s k a d c u (rw (sym (o .0)) at o) (p .1))
     go (refused n place) f = not-both e (typed-some x s ∙ ap (behind moved 1) f)
-
--- a refusal is its number and its place
-refused-same : {A : Type 0} {n place m p : ℕ} → _≡_ {A = Answer A} (refused n place) (refused m p) → (n ≡ m) × (place ≡ p)
-refused-same e = ((cc), (cc))
 
 content-place : (sh : Shape) (kind flags : ℕ) (s : List ℕ) (n place : ℕ) → content sh kind flags s ≡ refused n place → place ≤ length s
 content-place nothing kind flags s n place e = not-both refl e

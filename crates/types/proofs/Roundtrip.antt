@@ -13,10 +13,11 @@ use Rattle.varint.specs.Number.{numberBytes}
 use Rattle.varint.proofs.Reading.{reads-back}
 use Rattle.types.specs.Value.{span, string, Shape, nothing, flag, integer, address, text, reserved, Width, signed32, unsigned32, whole64, shape, Record, value, points, moved, narrowed, content, typed}
 use Rattle.types.specs.Form.{part, stringBytes, valueBytes, writableRecord, ranged}
-use Rattle.types.proofs.Reading.{string-whole, typed-some, integer-whole, address-whole, text-whole, behind-plain, behind-start, signed-below, InWidth, Fields, fields-in}
-use Rattle.types.proofs.Writing.{shape-cases, writable-kind, string-bytes, string-length, part-whole, field-at, bytes-at}
+use Rattle.types.proofs.Reading.{string-whole, typed-some, integer-whole, address-whole, text-whole, behind-plain, behind-start}
+use Rattle.types.proofs.Shapes.{signed-below, InWidth, Fields, fields-in, shape-cases, writable-kind, field-at}
+use Rattle.types.proofs.Writing.{string-bytes, string-length, part-whole, bytes-at}
 
--- A value in the paper's sense: its kind, its number where it has one, and the bytes that it points at, wherever they stand.
+-- What a value means: its kind, its number where it has one, and the bytes that it points at, wherever they stand.
 pub data Meaning : Type 0 where
   means : ℕ → ℕ → List ℕ → Meaning
 
@@ -177,7 +178,7 @@ read-back buffer t (value k a b) h r =
     fields : (sh : Shape) → shape k ≡ sh → Fields sh a b
     fields sh is = fields-in sh a b (sym (field-at k a b sh is) ∙ h)
 
--- Law: two writable values whose written forms are equal, or start the same bytes, are equal in the paper's sense.
+-- Law: two writable values whose written forms are equal, or start the same bytes, mean the same.
 pub values-apart : (buffer other t u : List ℕ) (v w : Record)
     → writableRecord v ≡ true → ranged buffer v ≡ true → writableRecord w ≡ true → ranged other w ≡ true
     → valueBytes buffer v ++ t ≡ valueBytes other w ++ u

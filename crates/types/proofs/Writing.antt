@@ -1,59 +1,23 @@
--- Laws about the written form of strings and values: how it unrolls and how long it is, and what the tests before it say.
+-- Laws about the written form of strings and values: how long it is, when a range lies inside, the bytes of each kind, and what writing
+-- comes to.
 use mathlib.Core.Path.{_≡_, refl, sym, ap, _∙_}
-use mathlib.Core.Bool.{Bool, true, false, cond, and-true, and-false}
+use mathlib.Core.Bool.{true, false}
 use mathlib.Core.Logic.{⊎-elim}
 use mathlib.Core.List.{List, [], _∷_, _++_}
 use Prim.Native.Nat.{ℕ, _+_, _-_, _*_, _^_, _≤_, _<_}
 use native.Mathlib.Omega.{arith}
-use lib.Dec.{ltb, leb, eqb}
+use lib.Dec.{leb}
 use lib.ListN.{length, take, drop, length-append, length-take, length-drop}
 use lib.Seq.{length-take-le}
-use borrow.Author.Tests.{lt-ltb, le-ltb, le-leb, lt-leb, ne-eqb, leb-true}
+use borrow.Author.Tests.{le-leb, lt-leb, ne-eqb, leb-true}
 use Rattle.answer.specs.Answer.{refused, written}
 use Rattle.answer.specs.Order.{first}
 use Rattle.varint.specs.Number.{numberBytes}
 use Rattle.answer.proofs.Cases.{lt-or-le}
-use Rattle.types.specs.Value.{Shape, nothing, flag, integer, address, text, reserved, Width, whole64, shape, Record, value, points, inWidth, inFields}
+use Rattle.varint.proofs.Writing.{length-most}
+use Rattle.types.specs.Value.{Shape, nothing, flag, integer, address, text, reserved, shape, Record, value, points, inFields}
 use Rattle.types.specs.Form.{part, inside, stringBytes, dataBytes, valueBytes, writableRecord, ranged, valueAnswer}
-use Rattle.types.proofs.Reading.{shape-is, shape-reserved, shape-listed, shape-integer, shape-text, in-fields, fields-in}
-
--- a law about a kind goes by the table's lines
-pub shape-cases : {G : Type 0} (k : ℕ)
-    → (k ≡ 0 → shape k ≡ nothing → G)
-    → (k ≡ 1 → shape k ≡ flag → G)
-    → ((w : Width) → 2 ≤ k → k < 6 → shape k ≡ integer w → G)
-    → ((n : ℕ) → 6 ≤ k → k < 8 → shape k ≡ address n → G)
-    → (8 ≤ k → k < 10 → shape k ≡ text → G)
-    → (10 ≤ k → shape k ≡ reserved → G)
-    → G
-shape-cases k null bool int addr txt none =
-    ⊎-elim
-    (λ a. null (omega arith) (at 0 (omega arith) ∙ shape-is .0))
-    (λ a. ⊎-elim (λ b. bool (omega arith) (at 1 (omega arith) ∙ shape-is .1))
-    (λ b. ⊎-elim (λ c. shape-integer k b c (λ w e. int w b c e))
-    (λ c. ⊎-elim (λ d. addr 4 c (omega arith) (at 6 (omega arith) ∙ shape-is .6))
-    (λ d. ⊎-elim (λ e. addr 16 c e (at 7 (omega arith) ∙ shape-is .7))
-    (λ e. ⊎-elim (λ f. txt e f (shape-text k e f)) (λ f. none f (shape-reserved k f)) (lt-or-le k 10))
-    (lt-or-le k 8))
-    (lt-or-le k 7))
-    (lt-or-le k 6))
-    (lt-or-le k 2))
-    (lt-or-le k 1)
-  where
-    at : (n : ℕ) → k ≡ n → shape k ≡ shape n
-    at n e = ap shape e
-
--- a writable value's kind is at most 9
-pub writable-kind : (k a b : ℕ) → inFields (shape k) a b ≡ true → k ≤ 9
-writable-kind k a b h = shape-listed k (λ r. fields-in reserved a b (sym (ap (λ (x : Shape). inFields x a b) r) ∙ h))
-
-pub shape-plain : {G : Type 0} (k : ℕ) → k < 2 → (k ≡ 0 → shape k ≡ nothing → G) → (k ≡ 1 → shape k ≡ flag → G) → G
-shape-plain k h f g =
-    ⊎-elim (λ l. let e : k ≡ 0 = omega arith in f e (ap shape e ∙ shape-is .0)) (λ l. let e : k ≡ 1 = omega arith in g e (ap shape e ∙ shape-is .1)) (lt-or-le k 1)
-
-pub shape-address : {G : Type 0} (k : ℕ) → 6 ≤ k → k < 8 → ((n : ℕ) → shape k ≡ address n → G) → G
-shape-address k l h f =
-    ⊎-elim (λ m. let e : k ≡ 6 = omega arith in f 4 (ap shape e ∙ shape-is .6)) (λ m. let e : k ≡ 7 = omega arith in f 16 (ap shape e ∙ shape-is .7)) (lt-or-le k 7)
+use Rattle.types.proofs.Shapes.{shape-reserved, shape-plain, shape-integer, shape-address, shape-text, shape-cases, points-no, in-fields, fields-in, field-at}
 
 -- ---- lengths
 
@@ -66,6 +30,28 @@ string-length bytes = ap length (string-bytes bytes) ∙ simp length-append
 
 pub part-length : (buffer : List ℕ) (start len : ℕ) → start + len ≤ length buffer → length (part buffer start len) ≡ len
 part-length buffer start len h = length-take-le len (drop start buffer) (simp length-drop (omega arith))
+
+-- a part has at most as many bytes as its length says, and as the buffer has
+pub part-at-most : (buffer : List ℕ) (start len : ℕ) → length (part buffer start len) ≤ len
+part-at-most buffer start len = simp length-take (omega arith)
+
+pub part-within-buffer : (buffer : List ℕ) (start len : ℕ) → length (part buffer start len) ≤ length buffer
+part-within-buffer buffer start len = simp (length-take, length-drop) (omega arith)
+
+-- a part that is lent, `&buffer[start..start + len]`
+pub part-lent : (buffer : List ℕ) (start len : ℕ) → take (start + len - start) (drop start buffer) ≡ part buffer start len
+part-lent buffer start len = ap (λ (n : ℕ). take n (drop start buffer)) same
+  where
+    same : start + len - start ≡ len
+    same = omega arith
+
+pub lent-length : (buffer : List ℕ) (start len : ℕ) → start + len ≤ length buffer → length (take (start + len - start) (drop start buffer)) ≡ len
+lent-length buffer start len h = ap length (part-lent buffer start len) ∙ part-length buffer start len h
+
+-- a string that lies inside is as long as its length says
+pub string-long : (buffer : List ℕ) (start len : ℕ) → start + len ≤ length buffer → length (stringBytes (part buffer start len)) ≡ length (numberBytes len) + len
+string-long buffer start len h =
+    string-length (part buffer start len) ∙ ap (λ (n : ℕ). length (numberBytes n) + n) (part-length buffer start len h)
 
 pub value-bytes : (buffer : List ℕ) (kind a b : ℕ) → valueBytes buffer (value kind a b) ≡ dataBytes (shape kind) kind a (part buffer a b)
 unfolding valueBytes
@@ -94,80 +80,14 @@ rest-fits n beside whole room e h =
     ⊎-elim (λ l. lt-leb n (room - beside) l ∙ sym (lt-leb whole room (omega arith))) (λ l. le-leb n (room - beside) l ∙ sym (le-leb whole room (omega arith)))
     (lt-or-le (room - beside) n)
 
--- ---- the tests
-
--- the test of a first number, beside an unused one that is 0
-abbrev pub firstField : Shape → ℕ → Bool
-firstField nothing a = eqb a 0
-firstField flag a = ltb a 2
-firstField (integer w) a = inWidth w a
-firstField (address n) a = eqb 0 n
-firstField text a = ltb 0 (2 ^ 64)
-firstField reserved a = false
-
-pub first-field : (sh : Shape) (a : ℕ) → inFields sh a 0 ≡ firstField sh a
-first-field nothing a = and-true (eqb a 0)
-first-field flag a = and-true (ltb a 2)
-first-field (integer w) a = and-true (inWidth w a)
-first-field (address n) a = refl
-first-field text a = refl
-first-field reserved a = refl
-
--- where the second number is unused it is 0
-module _ (k a b : ℕ) where
-  pub field-at : (sh : Shape) → shape k ≡ sh → inFields (shape k) a b ≡ inFields sh a b
-  field-at sh is = ap (λ (x : Shape). inFields x a b) is
-
-  pub unused : k < 6 → (b ≡ 0 → ⊥) → inFields (shape k) a b ≡ false
-  unused h no0 =
-      shape-cases k
-      (λ e is. field-at nothing is ∙ rw (ne-eqb b 0 no0) (and-false (eqb a 0)))
-      (λ e is. field-at flag is ∙ rw (ne-eqb b 0 no0) (and-false (ltb a 2)))
-      (λ w l g is. field-at (integer w) is ∙ rw (ne-eqb b 0 no0) (and-false (inWidth w a)))
-      (λ n l g is. absurd (omega arith))
-      (λ l g is. absurd (omega arith))
-      (λ l is. absurd (omega arith))
-
-  pub whole-field : 4 ≤ k → k < 6 → b ≡ 0 → a < 2 ^ 64 → inFields (shape k) a b ≡ true
-  whole-field l h z f = ⊎-elim (λ m. row (omega arith) (shape-is .4)) (λ m. row (omega arith) (shape-is .5)) (lt-or-le k 5)
-    where
-      row : {j : ℕ} → k ≡ j → shape j ≡ integer whole64 → inFields (shape k) a b ≡ true
-      row e is = field-at (integer whole64) (ap shape e ∙ is) ∙ in-fields (integer whole64) a b (f, z)
-
-  pub address-field : (j n : ℕ) → k ≡ j → shape j ≡ address n → inFields (shape k) a b ≡ eqb b n
-  address-field j n e is = field-at (address n) (ap shape e ∙ is)
-
-  pub text-field : 8 ≤ k → b < 2 ^ 64 → inFields (shape k) a b ≡ ltb k 10
-  text-field l f =
-      ⊎-elim
-      (λ h. field-at text (shape-text k l h) ∙ lt-ltb b (2 ^ 64) f ∙ sym (lt-ltb k 10 h))
-      (λ h. field-at reserved (shape-reserved k h) ∙ sym (le-ltb k 10 h))
-      (lt-or-le k 10)
-
--- whether a kind points, by its number
-pub points-no : (k : ℕ) → k < 6 → points (shape k) ≡ false
-points-no k h =
-    shape-cases k (λ e is. ap points is) (λ e is. ap points is) (λ w l g is. ap points is)
-    (λ n l g is. absurd (omega arith)) (λ l g is. absurd (omega arith)) (λ l is. absurd (omega arith))
-
-pub points-yes : (k : ℕ) → 6 ≤ k → k < 10 → points (shape k) ≡ true
-points-yes k l h =
-    shape-cases k (λ e is. absurd (omega arith)) (λ e is. absurd (omega arith)) (λ w m g is. absurd (omega arith))
-    (λ n m g is. ap points is) (λ m g is. ap points is) (λ m is. absurd (omega arith))
-
-pub points-reserved : (k : ℕ) → 10 ≤ k → points (shape k) ≡ false
-points-reserved k h = ap points (shape-reserved k h)
+-- ---- ranges
 
 -- the test of a range without a sum that could wrap
 pub inside-not : (buffer : List ℕ) (start len : ℕ) → length buffer < start → inside buffer start len ≡ false
 inside-not buffer start len h = lt-leb (start + len) (length buffer) (omega arith)
 
 pub inside-rest : (buffer : List ℕ) (start len : ℕ) → start ≤ length buffer → leb len (length buffer - start) ≡ inside buffer start len
-inside-rest buffer start len h =
-    ⊎-elim
-    (λ l. lt-leb len (length buffer - start) l ∙ sym (lt-leb (start + len) (length buffer) (omega arith)))
-    (λ l. le-leb len (length buffer - start) l ∙ sym (le-leb (start + len) (length buffer) (omega arith)))
-    (lt-or-le (length buffer - start) len)
+inside-rest buffer start len h = rest-fits len start (start + len) (length buffer) refl h
 
 -- a value that points and is in range points inside
 pub ranged-inside : (buffer : List ℕ) (kind a b : ℕ) → points (shape kind) ≡ true → ranged buffer (value kind a b) ≡ true → a + b ≤ length buffer
@@ -216,12 +136,17 @@ module _ (buffer : List ℕ) (k a b : ℕ) where
       (λ l g is. rw (bytes-at text is) (omega arith))
       (λ l is. absurd (fields-in reserved a b (sym (field-at k a b reserved is) ∙ f)))
 
--- a part that is lent, `&buffer[a..a + b]`
-pub part-lent : (buffer : List ℕ) (a b : ℕ) → take (a + b - a) (drop a buffer) ≡ part buffer a b
-part-lent buffer a b = ap (λ (n : ℕ). take n (drop a buffer)) same
-  where
-    same : a + b - a ≡ b
-    same = omega arith
+-- Law: a value's written form has at most eleven bytes beside those that it points at. By the table's lines: a type byte, and a number of
+-- at most ten.
+pub value-bound : (buffer : List ℕ) (k a b : ℕ) → length (valueBytes buffer (value k a b)) ≤ 11 + length (part buffer a b)
+value-bound buffer k a b =
+    shape-cases k
+    (λ e is. rw (bytes-at buffer k a b _ is) (omega arith))
+    (λ e is. rw (bytes-at buffer k a b _ is) (omega arith))
+    (λ w l g is. rw (bytes-at buffer k a b _ is) (omega (arith, length-most a)))
+    (λ n l g is. rw (bytes-at buffer k a b _ is) (omega arith))
+    (λ l g is. rw (bytes-at buffer k a b _ is) (omega (arith, string-length (part buffer a b), length-most (length (part buffer a b)))))
+    (λ l is. rw (bytes-at buffer k a b _ is) (omega arith))
 
 module _ (buffer : List ℕ) (v : Record) where
   pub form-unwritable : writableRecord v ≡ false → valueAnswer buffer v ≡ refused 14 0
@@ -250,7 +175,7 @@ module _ (buffer : List ℕ) (k a b : ℕ) where
       form-whole buffer (value k a b) f (unpointed h)
       ∙ ap (λ (s : List ℕ). written s) (shape-integer k l h (λ w is. bytes-at buffer k a b (integer w) is))
 
-  -- a value that points has its bytes where they lie inside, and else none
+  -- a value that points has its bytes where they lie inside, as they are lent, and else none
   module _ (sh : Shape) (is : shape k ≡ sh) (p : points sh ≡ true) (f : inFields sh a b ≡ true) where
     fields : inFields (shape k) a b ≡ true
     fields = field-at k a b sh is ∙ f
@@ -258,14 +183,34 @@ module _ (buffer : List ℕ) (k a b : ℕ) where
     range : ranged buffer (value k a b) ≡ inside buffer a b
     range = rw (ap points is ∙ p)
 
-    pub form-pointed : inside buffer a b ≡ true → valueAnswer buffer (value k a b) ≡ written (dataBytes sh k a (part buffer a b))
-    form-pointed i = form-whole buffer (value k a b) fields (range ∙ i) ∙ ap (λ (s : List ℕ). written s) (bytes-at buffer k a b sh is)
+    pointed : inside buffer a b ≡ true → valueAnswer buffer (value k a b) ≡ written (dataBytes sh k a (take (a + b - a) (drop a buffer)))
+    pointed i =
+        form-whole buffer (value k a b) fields (range ∙ i)
+        ∙ ap (λ (s : List ℕ). written s) (bytes-at buffer k a b sh is)
+        ∙ ap (λ (s : List ℕ). written (dataBytes sh k a s)) (sym (part-lent buffer a b))
 
-    pub form-beyond : inside buffer a b ≡ false → valueAnswer buffer (value k a b) ≡ refused 16 0
-    form-beyond i = form-outside buffer (value k a b) fields (range ∙ i)
+    beyond : inside buffer a b ≡ false → valueAnswer buffer (value k a b) ≡ refused 16 0
+    beyond i = form-outside buffer (value k a b) fields (range ∙ i)
 
-  pub form-length : (n : ℕ) → shape k ≡ address n → (b ≡ n → ⊥) → valueAnswer buffer (value k a b) ≡ refused 14 0
-  form-length n is other = form-unwritable buffer (value k a b) (field-at k a b (address n) is ∙ ne-eqb b n other)
+  -- an address, by the length of its kind
+  module _ (n : ℕ) (is : shape k ≡ address n) where
+    pub form-length : (b ≡ n → ⊥) → valueAnswer buffer (value k a b) ≡ refused 14 0
+    form-length other = form-unwritable buffer (value k a b) (field-at k a b (address n) is ∙ ne-eqb b n other)
+
+    pub form-address : b ≡ n → inside buffer a n ≡ true → valueAnswer buffer (value k a b) ≡ written (k ∷ take (a + n - a) (drop a buffer))
+    form-address e i =
+        pointed (address n) is refl (in-fields (address n) a b e) (rw e i) ∙ ap (λ (m : ℕ). written (k ∷ take (a + m - a) (drop a buffer))) e
+
+    pub form-address-outside : b ≡ n → inside buffer a n ≡ false → valueAnswer buffer (value k a b) ≡ refused 16 0
+    form-address-outside e i = beyond (address n) is refl (in-fields (address n) a b e) (rw e i)
+
+  -- a string or a binary
+  module _ (low : 8 ≤ k) (high : k < 10) (f : b < 2 ^ 64) where
+    pub form-text : inside buffer a b ≡ true → valueAnswer buffer (value k a b) ≡ written (k ∷ stringBytes (take (a + b - a) (drop a buffer)))
+    form-text i = pointed text (shape-text k low high) refl (in-fields text a b f) i
+
+    pub form-text-outside : inside buffer a b ≡ false → valueAnswer buffer (value k a b) ≡ refused 16 0
+    form-text-outside i = beyond text (shape-text k low high) refl (in-fields text a b f) i
 
   pub form-reserved : 10 ≤ k → valueAnswer buffer (value k a b) ≡ refused 14 0
   form-reserved h = form-unwritable buffer (value k a b) (field-at k a b reserved (shape-reserved k h))

@@ -1,5 +1,5 @@
--- What a value's record is written as, and when it is not: SPOE.txt, section 3.1, and document 01's order of refusals. A record
--- that points has its bytes in a buffer, by start and length.
+-- What a value's record is written as (SPOE.txt, section 3.1), and what it is refused with instead (docs/RULES.md). A record that points
+-- has its bytes in a buffer, by start and length.
 use mathlib.Core.Bool.{Bool, true, cond}
 use mathlib.Core.List.{List, [], _∷_, _++_}
 use Prim.Native.Nat.{ℕ, _+_, _*_}

@@ -72,7 +72,7 @@ shape kind = getD shapes kind reserved
 
 -- ---- values
 
--- a value as document 01's records have it: its kind and two numbers
+-- a value as the records of docs/RULES.md have it: its kind and two numbers
 pub data Record : Type 0 where
   value : ℕ → ℕ → ℕ → Record
 
@@ -117,8 +117,8 @@ typed (b ∷ s) = behind moved 1 (content (shape (b % 16)) (b % 16) (b / 16) s)
 
 -- ---- fields
 
--- Document 01's 14: whether a kind's two numbers lie in their fields. An unused number is 0, an i32's number is its sign
--- extension to 64 bits, an address has its length, and no integer or length passes 64 bits. A start has no field of its own: one
+-- Whether a kind's two numbers lie in their fields: where not, it is 14 (docs/RULES.md). An unused number is 0, an i32's number is its
+-- sign extension to 64 bits, an address has its length, and no integer or length passes 64 bits. A start has no field of its own: one
 -- that is too large points outside, which is 16.
 abbrev pub inWidth : Width → ℕ → Bool
 inWidth signed32 a = eqb a (signExtended a)

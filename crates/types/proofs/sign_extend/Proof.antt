@@ -2,7 +2,7 @@
 -- Assumes nothing.
 use borrow.Author.Needs.{needs}
 use mathlib.Core.Path.{sym}
-use Rattle.types.proofs.Reading.{signed-plus, signed-minus}
+use Rattle.types.proofs.Shapes.{signed-plus, signed-minus}
 use Rattle.types.proofs.sign_extend.Statement.{statement}
 use Rattle.types.proofs.sign_extend.Tie as tie
 

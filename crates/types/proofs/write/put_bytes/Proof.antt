@@ -1,0 +1,56 @@
+-- `types::write::put_bytes` meets its contract. The loop's invariant: the bytes are partly written, and what is left to write are those
+-- from `at` on.
+-- Assumes nothing.
+use Prim.Native.Nat.{_-_}
+use native.Mathlib.Omega.{arith}
+use lib.ListN.{length, drop}
+use Rattle.answer.proofs.Output.{Partly, partly-none, partly-length}
+use Rattle.answer.proofs.Parts.{copy-place, copy-next}
+use Rattle.types.proofs.Output.{puts-copy}
+use Rattle.types.proofs.write.put_bytes.Statement.{statement}
+use Rattle.types.proofs.write.put_bytes.Tie as tie
+
+abbrev Inv-loop : tie.InvT-loop
+Inv-loop bytes out₀ at₀ out at = Partly bytes out₀ at (drop at bytes) out
+
+abbrev μ-loop : tie.MeasureT-loop
+μ-loop bytes out₀ at₀ out at = length bytes - at
+
+loop-holds : tie.Need-loop-holds Inv-loop μ-loop
+loop-holds c = partly-none _ _ (c .pre)
+
+shared-slice-read-out : tie.Need-shared-slice-read-out Inv-loop μ-loop
+shared-slice-read-out c = omega arith
+
+slice-write-out : tie.Need-slice-write-out Inv-loop μ-loop
+slice-write-out c = copy-place (c .before .before .loop .inv) (c .before .loop-test .taken)
+
+add-at : tie.Need-add-at Inv-loop μ-loop
+add-at c = omega arith
+
+loop-less : tie.Need-loop-less Inv-loop μ-loop
+loop-less c = omega arith
+
+loop-again : tie.Need-loop-again Inv-loop μ-loop
+loop-again c = copy-next (c .before .before .loop .inv) (c .before .loop-test .taken)
+
+same-length : tie.Need-same-length Inv-loop μ-loop
+same-length c = partly-length (c .before .loop .inv)
+
+returns : tie.Need-returns Inv-loop μ-loop
+returns c = puts-copy (c .before .loop .inv) (c .loop-test .left)
+
+pub put-bytes-spec : {M : Type 1} → statement M
+put-bytes-spec =
+    tie.close
+    (tie.spec
+    Inv-loop
+    μ-loop
+    loop-holds
+    shared-slice-read-out
+    slice-write-out
+    add-at
+    loop-less
+    loop-again
+    same-length
+    returns)

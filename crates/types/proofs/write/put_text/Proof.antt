@@ -1,0 +1,140 @@
+-- `types::write::put_text` meets its contract: the bytes lie outside, there is no room, or the type byte is stored and the string is what
+-- `put_string` leaves in the tail behind it.
+-- Assumes nothing.
+use borrow.Author.Needs.{needs}
+use Prim.Native.Nat.{_+_, _-_, _≤_}
+use mathlib.Core.Path.{_≡_, sym, _∙_}
+use mathlib.Core.Bool.{true}
+use mathlib.Core.List.{[], _∷_}
+use native.Mathlib.Omega.{arith}
+use lib.ListN.{length, take, drop, set}
+use borrow.Author.Tests.{not-true, not-false, leb-true, leb-false}
+use Rattle.answer.specs.Answer.{written}
+use Rattle.varint.specs.Number.{numberBytes}
+use Rattle.types.specs.Form.{inside, stringBytes, valueAnswer}
+use Rattle.types.specs.Promise.{recordOf}
+use Rattle.types.proofs.Writing.{part-lent, string-long, form-text, form-text-outside}
+use Rattle.types.proofs.Output.{puts-refusal, puts-short, puts-whole, Begun, begun-byte, begun-start, begun-room, begun-both, begun-most, begun-length}
+use Rattle.types.proofs.write.put_text.Statement.{statement}
+use Rattle.types.proofs.write.put_text.Tie as tie
+
+-- past the first test the bytes lie inside
+within-buffer : (c : tie.Else1) → let a = c .before .before .before .before .args in inside (a .buffer .now) (a .value .a) (a .value .b) ≡ true
+within-buffer c = sym (c .before .part-inside .ensures) ∙ not-false _ (c .if1 .left)
+
+ends : (c : tie.Else1) → let a = c .before .before .before .before .args in a .value .a + a .value .b ≤ length (a .buffer .now)
+ends c = leb-true _ _ (within-buffer c)
+
+long : (c : tie.Else1)
+    → let a = c .before .before .before .before .args in
+    let v = a .value in
+    length (stringBytes (take (v .a + v .b - v .a) (drop (v .a) (a .buffer .now)))) ≡ length (numberBytes (v .b)) + v .b
+long c = let a = c .before .before .before .before .args in
+    rw part-lent (string-long (a .buffer .now) (a .value .a) (a .value .b) (ends c))
+
+bytes : (c : tie.Else1)
+    → let a = c .before .before .before .before .args in
+    let v = a .value in
+    valueAnswer (a .buffer .now) (recordOf v) ≡ written (v .kind ∷ stringBytes (take (v .a + v .b - v .a) (drop (v .a) (a .buffer .now))))
+bytes c = let a = c .before .before .before .before in
+    let v = a .args .value in
+    form-text (a .args .buffer .now) (v .kind) (v .a) (v .b) (a .pre .0) (a .pre .1) (omega (arith, a .good)) (within-buffer c)
+
+-- past the others there is room for the type byte and the string
+begun : (c : tie.Else3)
+    → let a = c .before .before .before .before .before .before .before .args in
+    let v = a .value in
+    Begun (v .kind ∷ []) (stringBytes (take (v .a + v .b - v .a) (drop (v .a) (a .buffer .now)))) (a .out .now) 1 (set (a .out .now) 0 (v .kind))
+begun c = let a = c .before .before .before .before .before .before .before .args in
+    let h = leb-true (1 + length (numberBytes (a .value .b))) (length (a .out .now) - a .value .b) (sym (c .before .number-fits .ensures) ∙ not-false _ (c .if3 .left)) in
+    begun-byte _ _ _ (omega (arith, h, c .before .before .if2 .left, long (c .before .before .before)))
+
+part-inside-requires : tie.Need-part-inside-requires
+part-inside-requires c κs = search needs
+
+returns : tie.Need-returns
+returns c = let p = c .before in
+    let a = p .before .before .before in
+    let v = a .args .value in
+    puts-refusal (length (a .args .out .now)) 16 (a .args .out .now)
+    (form-text-outside (a .args .buffer .now) (v .kind) (v .a) (v .b) (a .pre .0) (a .pre .1) (omega (arith, a .good)) (sym (p .part-inside .ensures) ∙ not-true _ (c .if1 .taken)))
+
+returns-2 : tie.Need-returns-2
+returns-2 c = puts-short _ _ (bytes (c .before)) (omega (arith, c .if2 .taken, long (c .before)))
+
+sub-number-fits : tie.Need-sub-number-fits
+sub-number-fits c = search needs
+
+number-fits-requires : tie.Need-number-fits-requires
+number-fits-requires c κs = search needs
+
+returns-3 : tie.Need-returns-3
+returns-3 c = let n = c .before in
+    let e = n .before .before in
+    let a = e .before .before .before .before .args in
+    let h = leb-false (1 + length (numberBytes (a .value .b))) (length (a .out .now) - a .value .b) (sym (n .number-fits .ensures) ∙ not-true _ (c .if3 .taken)) in
+    puts-short _ _ (bytes e) (omega (arith, h, long e))
+
+cast-out : tie.Need-cast-out
+cast-out c = search needs
+
+slice-write-out : tie.Need-slice-write-out
+slice-write-out c = omega (arith, begun (c .before) .room)
+
+add-to : tie.Need-add-to
+add-to c = let e = c .before .before .before .before in omega (arith, ends e, e .before .before .before .before .good)
+
+sub-put-string : tie.Need-sub-put-string
+sub-put-string c = search needs
+
+part-put-string-start : tie.Need-part-put-string-start
+part-put-string-start c = search needs
+
+part-put-string-end : tie.Need-part-put-string-end
+part-put-string-end c = ends (c .before .before .before .before)
+
+sub-put-string-2 : tie.Need-sub-put-string-2
+sub-put-string-2 c = begun-start (begun (c .before .before))
+
+part-put-string-start-2 : tie.Need-part-put-string-start-2
+part-put-string-start-2 c = begun-start (begun (c .before .before))
+
+part-put-string-end-2 : tie.Need-part-put-string-end-2
+part-put-string-end-2 c = search needs
+
+put-string-requires : tie.Need-put-string-requires
+put-string-requires c κs = begun-room (begun (c .before .before .before))
+
+add-result : tie.Need-add-result
+add-result c = omega (arith, begun-most (begun (c .before .before .before .before .before .before)) (c .before .before .put-string .ensures))
+
+same-length : tie.Need-same-length
+same-length c = begun-length (begun (c .before .before .before .before .before .before)) (c .before .before .put-string .ensures)
+
+returns-4 : tie.Need-returns-4
+returns-4 c = let e = c .before .before .before .before .before .before in
+    puts-whole _ _ (bytes (e .before .before .before)) (begun e .room) (begun-both (begun e) (c .before .before .put-string .ensures))
+
+pub put-text-spec : {M : Type 1} → statement M
+put-text-spec =
+    tie.close
+    (tie.spec
+    part-inside-requires
+    returns
+    returns-2
+    sub-number-fits
+    number-fits-requires
+    returns-3
+    cast-out
+    slice-write-out
+    add-to
+    sub-put-string
+    part-put-string-start
+    part-put-string-end
+    sub-put-string-2
+    part-put-string-start-2
+    part-put-string-end-2
+    put-string-requires
+    add-result
+    same-length
+    returns-4)

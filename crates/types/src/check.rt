@@ -1,0 +1,113 @@
+// What a string or a value is refused with before it is written: its numbers, its range, its text.
+use crate::Value;
+use answer::NOT_TEXT;
+use answer::NOT_WRITABLE;
+use answer::OUTSIDE;
+ghost use mathlib.Core.Path.{_≡_};
+ghost use Prim.Native.Nat.{_<_};
+ghost use Rattle.types.specs.Value.{shape, inFields};
+ghost use Rattle.types.specs.Form.{inside, ranged};
+ghost use Rattle.types.specs.Promise.{recordOf, Writable, CheckString, CheckPart, CheckValue};
+
+// Whether a value's numbers lie in their fields: where not, it is 14.
+pub fn writable(value: Value) -> bool
+    ensures { λ r. ⌜ Writable value r ⌝ }
+{
+    let kind = value.kind;
+    if kind < 6 {
+        if value.b != 0 {
+            return false;
+        }
+        return in_field(kind, value.a);
+    }
+    if kind == 6 {
+        return value.b == 4;
+    }
+    if kind == 7 {
+        return value.b == 16;
+    }
+    kind < 10
+}
+
+// Whether the number of a kind that points at no bytes lies in its field.
+fn in_field(kind: u64, a: u64) -> bool
+    requires { ⌜ kind < 6 ⌝ }
+    ensures { λ r. ⌜ r ≡ inFields (shape kind) a 0 ⌝ }
+{
+    if kind == 0 {
+        return a == 0;
+    }
+    if kind == 1 {
+        return a < 2;
+    }
+    if kind == 2 {
+        return a == crate::sign_extend(a);
+    }
+    if kind == 3 {
+        return a < 0x1_0000_0000;
+    }
+    true
+}
+
+// Whether a value points inside the buffer, or at no bytes: where not, it is 16.
+pub(crate) fn in_range(value: Value, buffer: &[u8]) -> bool
+    ensures { λ r. ⌜ r ≡ ranged (now (buffer .entry)) (recordOf value) ⌝ }
+{
+    let kind = value.kind;
+    if kind < 6 {
+        return true;
+    }
+    if kind < 10 {
+        return part_inside(value.a, value.b, buffer);
+    }
+    true
+}
+
+// Whether len bytes from start on lie in the buffer.
+pub(crate) fn part_inside(start: u64, len: u64, buffer: &[u8]) -> bool
+    ensures { λ r. ⌜ r ≡ inside (now (buffer .entry)) start len ⌝ }
+{
+    let room = buffer.len() as u64;
+    if room < start {
+        return false;
+    }
+    len <= room - start
+}
+
+// What a string that a record points at is refused with: 16 outside the buffer, 15 where it is not UTF-8; else 0.
+pub fn check_string(start: u64, len: u64, buffer: &[u8]) -> u64
+    ensures { λ r. ⌜ CheckString start len (now (buffer .entry)) r ⌝ }
+{
+    if !part_inside(start, len, buffer) {
+        return OUTSIDE;
+    }
+    let from = start as usize;
+    let to = from + len as usize;
+    if !utf8::is_utf8(&buffer[from..to]) {
+        return NOT_TEXT;
+    }
+    0
+}
+
+// What a value is refused with past 14: its range, and the text of a string.
+pub fn check_part(value: Value, buffer: &[u8]) -> u64
+    ensures { λ r. ⌜ CheckPart value (now (buffer .entry)) r ⌝ }
+{
+    if value.kind == 8 {
+        return check_string(value.a, value.b, buffer);
+    }
+    if !in_range(value, buffer) {
+        return OUTSIDE;
+    }
+    0
+}
+
+// What a value is refused with: 14, 16 or 15, the first of these that holds; else 0.
+pub fn check_value(value: Value, buffer: &[u8]) -> u64
+    ensures { λ r. ⌜ CheckValue value (now (buffer .entry)) r ⌝ }
+{
+    if !writable(value) {
+        return NOT_WRITABLE;
+    }
+    check_part(value, buffer)
+}

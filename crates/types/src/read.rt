@@ -1,0 +1,173 @@
+// Strings and values, read from the front of some bytes.
+use crate::Text;
+use crate::Typed;
+use crate::Value;
+use answer::NO_TYPE;
+use answer::Refusal;
+use answer::TOO_SOON;
+use varint::Number;
+ghost use mathlib.Core.Path.{_≡_};
+ghost use Prim.Native.Nat.{_≤_, _<_};
+ghost use lib.ListN.{length};
+ghost use Rattle.types.specs.Value.{Width, integer, address, text, shape, narrowed};
+ghost use Rattle.types.specs.Promise.{typedRead, ReadString, TypedData};
+ghost use Rattle.types.specs.Inner.{ReadsKind};
+
+// Reads the string at the front of `input`: a length number and that many bytes.
+pub fn read_string(input: &[u8]) -> Text
+    ensures { λ r. ⌜ ReadString (now (input .entry)) r ⌝ }
+{
+    match varint::decode_varint(input) {
+        Number::Refused(r) => {
+            return Text::Refused(r);
+        },
+        Number::Done { value, used } => {
+            if ((input.len() - used) as u64) < value {
+                return Text::Refused(Refusal {
+                    number: TOO_SOON,
+                    place: used,
+                });
+            }
+            let len = value as usize;
+            return Text::Done {
+                start: used,
+                len,
+                used: used + len,
+            };
+        },
+    }
+}
+
+// Reads the value at the front of `input`.
+pub fn typed_data(input: &[u8]) -> Typed
+    ensures { λ r. ⌜ TypedData (now (input .entry)) r ⌝ }
+{
+    if input.len() == 0 {
+        return Typed::Refused(Refusal {
+            number: TOO_SOON,
+            place: 0,
+        });
+    }
+    let first = input[0];
+    let kind = (first % 16) as u64;
+    if kind == 0 {
+        return Typed::Done {
+            value: Value { kind, a: 0, b: 0 },
+            used: 1,
+        };
+    }
+    if kind == 1 {
+        let a = (first / 16 % 2) as u64;
+        return Typed::Done {
+            value: Value { kind, a, b: 0 },
+            used: 1,
+        };
+    }
+    if kind < 6 {
+        return read_integer(kind, input);
+    }
+    if kind == 6 {
+        return read_address(6, 4, input);
+    }
+    if kind == 7 {
+        return read_address(7, 16, input);
+    }
+    if kind < 10 {
+        return read_bytes(kind, input);
+    }
+    Typed::Refused(Refusal {
+        number: NO_TYPE,
+        place: 1,
+    })
+}
+
+// Reads the number behind the type byte, of a kind that is an integer.
+fn read_integer(kind: u64, input: &[u8]) -> Typed
+    requires { ⌜ 0 < length (now input) ⌝ }
+    requires { ⌜ (2 ≤ kind) × (kind < 6) ⌝ }
+    ensures { λ r. ⌜ ReadsKind kind (now (input .entry)) (typedRead r) ⌝ }
+{
+    match varint::decode_varint(&input[1..]) {
+        Number::Refused(r) => {
+            let place = 1 + r.place;
+            return Typed::Refused(Refusal {
+                number: r.number,
+                place,
+            });
+        },
+        Number::Done { value, used } => {
+            let a = narrow(kind, value);
+            let taken = 1 + used;
+            return Typed::Done {
+                value: Value { kind, a, b: 0 },
+                used: taken,
+            };
+        },
+    }
+}
+
+// The bits that an integer of this kind keeps of its number.
+fn narrow(kind: u64, n: u64) -> u64
+    requires { ⌜ (2 ≤ kind) × (kind < 6) ⌝ }
+    ensures { λ r. ⌜ ((w : Width) → shape kind ≡ integer w → r ≡ narrowed w n) ⌝ }
+{
+    if kind == 2 {
+        return crate::sign_extend(n);
+    }
+    if kind == 3 {
+        return n % 0x1_0000_0000;
+    }
+    n
+}
+
+// Finds the address of len bytes behind the type byte.
+fn read_address(kind: u64, len: usize, input: &[u8]) -> Typed
+    requires { ⌜ 0 < length (now input) ⌝ }
+    requires { ⌜ shape kind ≡ address len ⌝ }
+    ensures { λ r. ⌜ ReadsKind kind (now (input .entry)) (typedRead r) ⌝ }
+{
+    if input.len() - 1 < len {
+        return Typed::Refused(Refusal {
+            number: TOO_SOON,
+            place: 1,
+        });
+    }
+    let taken = 1 + len;
+    Typed::Done {
+        value: Value {
+            kind,
+            a: 1,
+            b: len as u64,
+        },
+        used: taken,
+    }
+}
+
+// Finds the bytes of a string or a binary behind the type byte.
+fn read_bytes(kind: u64, input: &[u8]) -> Typed
+    requires { ⌜ 0 < length (now input) ⌝ }
+    requires { ⌜ shape kind ≡ text ⌝ }
+    ensures { λ r. ⌜ ReadsKind kind (now (input .entry)) (typedRead r) ⌝ }
+{
+    match read_string(&input[1..]) {
+        Text::Refused(r) => {
+            let place = 1 + r.place;
+            return Typed::Refused(Refusal {
+                number: r.number,
+                place,
+            });
+        },
+        Text::Done { start, len, used } => {
+            let a = (1 + start) as u64;
+            let taken = 1 + used;
+            return Typed::Done {
+                value: Value {
+                    kind,
+                    a,
+                    b: len as u64,
+                },
+                used: taken,
+            };
+        },
+    }
+}

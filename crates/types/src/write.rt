@@ -1,0 +1,258 @@
+// Strings and values, measured and written at the front of some bytes.
+use crate::Value;
+use crate::check::in_range;
+use crate::check::part_inside;
+use crate::check::writable;
+use answer::NO_ROOM;
+use answer::NOT_WRITABLE;
+use answer::OUTSIDE;
+use answer::Refusal;
+use answer::Written;
+ghost use mathlib.Core.Path.{_≡_};
+ghost use mathlib.Core.Bool.{true};
+ghost use mathlib.Core.List.{List};
+ghost use Prim.Native.Nat.{ℕ, _+_, _≤_, _<_, _^_};
+ghost use lib.Dec.{leb};
+ghost use lib.ListN.{length};
+ghost use Rattle.answer.specs.Answer.{written};
+ghost use Rattle.varint.specs.Number.{numberBytes};
+ghost use Rattle.types.specs.Value.{address, shape};
+ghost use Rattle.types.specs.Form.{stringBytes, dataBytes, writableRecord};
+ghost use Rattle.types.specs.Promise.{recordOf, ValueLen, WriteString, WriteValue};
+ghost use Rattle.types.specs.Inner.{Puts, PutsValue, WhyNot};
+
+// How many bytes the written form of a value has; 0 where it has none.
+pub fn value_len(value: Value, buffer: &[u8]) -> usize
+    ensures { λ r. ⌜ ValueLen value (now (buffer .entry)) r ⌝ }
+{
+    if !writable(value) {
+        return 0;
+    }
+    if !in_range(value, buffer) {
+        return 0;
+    }
+    form_len(value)
+}
+
+// The same of a value that has one.
+fn form_len(value: Value) -> usize
+    requires { ⌜ writableRecord (recordOf value) ≡ true ⌝ }
+    requires { ⌜ value .b < 2 ^ 63 ⌝ }
+    ensures { λ r. ⌜ ((bytes : List ℕ) → length bytes ≡ value .b → r ≡ length (dataBytes (shape (value .kind)) (value .kind) (value .a) bytes)) ⌝ }
+{
+    let kind = value.kind;
+    if kind < 2 {
+        return 1;
+    }
+    if kind < 6 {
+        return 1 + varint::varint_len(value.a);
+    }
+    let len = value.b as usize;
+    if kind < 8 {
+        return 1 + len;
+    }
+    1 + varint::varint_len(value.b) + len
+}
+
+// Writes a string at the front of `out`: its length number and its bytes.
+pub fn write_string(text: &[u8], out: &mut [u8]) -> Written
+    ensures { λ r. ⌜ WriteString (now (text .entry)) r (now (out .entry)) (now (out .exit)) ⌝ }
+{
+    if !string_fits(text, out.len()) {
+        return Written::Refused(Refusal {
+            number: NO_ROOM,
+            place: 0,
+        });
+    }
+    Written::Done(put_string(text, out))
+}
+
+// Whether the written form of a string has at most `room` bytes. Ten beside its own are always enough, and spare the measuring.
+fn string_fits(text: &[u8], room: usize) -> bool
+    ensures { λ r. ⌜ r ≡ leb (length (stringBytes (now (text .entry)))) room ⌝ }
+{
+    let len = text.len();
+    if room < len {
+        return false;
+    }
+    if 10 <= room - len {
+        return true;
+    }
+    varint::varint_len(len as u64) <= room - len
+}
+
+// Writes a value at the front of `out`. It refuses what has no written form; whether a string is UTF-8 is not its to ask.
+pub fn write_value(value: Value, buffer: &[u8], out: &mut [u8]) -> Written
+    ensures { λ r. ⌜ WriteValue value (now (buffer .entry)) r (now (out .entry)) (now (out .exit)) ⌝ }
+{
+    let n = put_value(value, buffer, out);
+    if n == 0 {
+        return Written::Refused(Refusal {
+            number: why_not(value, buffer),
+            place: 0,
+        });
+    }
+    Written::Done(n)
+}
+
+// What a value that was not written is refused with: where it has a written form, there was no room.
+fn why_not(value: Value, buffer: &[u8]) -> u64
+    ensures { λ r. ⌜ WhyNot value (now (buffer .entry)) r ⌝ }
+{
+    if !writable(value) {
+        return NOT_WRITABLE;
+    }
+    if !in_range(value, buffer) {
+        return OUTSIDE;
+    }
+    NO_ROOM
+}
+
+// Writes a value and says how many bytes it wrote: 0 where it is refused, since no written form is empty. One number stays in a
+// register, which an enum's cases from many branches do not. Each class of kinds tests its own fields: one test for all of them in front
+// was measured slower.
+fn put_value(value: Value, buffer: &[u8], out: &mut [u8]) -> usize
+    ensures { λ r. ⌜ PutsValue value (now (buffer .entry)) r (now (out .entry)) (now (out .exit)) ⌝ }
+{
+    let kind = value.kind;
+    if kind < 2 {
+        return put_plain(value, out);
+    }
+    if kind < 6 {
+        return put_integer(value, out);
+    }
+    if kind == 6 {
+        return put_address(value, 4, buffer, out);
+    }
+    if kind == 7 {
+        return put_address(value, 16, buffer, out);
+    }
+    if kind < 10 {
+        return put_text(value, buffer, out);
+    }
+    0
+}
+
+// The same of null and bool, which are one byte.
+fn put_plain(value: Value, out: &mut [u8]) -> usize
+    requires { ⌜ value .kind < 2 ⌝ }
+    ensures { λ r. ⌜ ((buffer : List ℕ) → PutsValue value buffer r (now (out .entry)) (now (out .exit))) ⌝ }
+{
+    if !writable(value) {
+        return 0;
+    }
+    if out.len() == 0 {
+        return 0;
+    }
+    out[0] = (value.kind + 16 * value.a) as u8;
+    1
+}
+
+// The same of an integer.
+fn put_integer(value: Value, out: &mut [u8]) -> usize
+    requires { ⌜ (2 ≤ value .kind) × (value .kind < 6) ⌝ }
+    ensures { λ r. ⌜ ((buffer : List ℕ) → PutsValue value buffer r (now (out .entry)) (now (out .exit))) ⌝ }
+{
+    if !writable(value) {
+        return 0;
+    }
+    if !number_fits(value.a, out.len()) {
+        return 0;
+    }
+    out[0] = value.kind as u8;
+    1 + answer::wrote(varint::encode_varint(value.a, &mut out[1..]))
+}
+
+// The same of an address of len bytes, which each caller says outright, so that the copy has a fixed length.
+fn put_address(value: Value, len: usize, buffer: &[u8], out: &mut [u8]) -> usize
+    requires { ⌜ shape (value .kind) ≡ address len ⌝ }
+    requires { ⌜ (value .kind < 8) × (len ≤ 16) ⌝ }
+    ensures { λ r. ⌜ PutsValue value (now (buffer .entry)) r (now (out .entry)) (now (out .exit)) ⌝ }
+{
+    if value.b != len as u64 {
+        return 0;
+    }
+    if !part_inside(value.a, len as u64, buffer) {
+        return 0;
+    }
+    if out.len() <= len {
+        return 0;
+    }
+    out[0] = value.kind as u8;
+    let from = value.a as usize;
+    let to = from + len;
+    1 + put_few(&buffer[from..to], &mut out[1..])
+}
+
+// The same of a string or a binary.
+fn put_text(value: Value, buffer: &[u8], out: &mut [u8]) -> usize
+    requires { ⌜ (8 ≤ value .kind) × (value .kind < 10) ⌝ }
+    ensures { λ r. ⌜ PutsValue value (now (buffer .entry)) r (now (out .entry)) (now (out .exit)) ⌝ }
+{
+    let b = value.b;
+    if !part_inside(value.a, b, buffer) {
+        return 0;
+    }
+    let len = b as usize;
+    if out.len() < len {
+        return 0;
+    }
+    if !number_fits(b, out.len() - len) {
+        return 0;
+    }
+    out[0] = value.kind as u8;
+    let from = value.a as usize;
+    let to = from + len;
+    1 + put_string(&buffer[from..to], &mut out[1..])
+}
+
+// Whether a type byte and the written form of n have at most `room` bytes. Eleven are always enough, and spare the measuring.
+fn number_fits(n: u64, room: usize) -> bool
+    ensures { λ r. ⌜ r ≡ leb (1 + length (numberBytes n)) room ⌝ }
+{
+    if 11 <= room {
+        return true;
+    }
+    1 + varint::varint_len(n) <= room
+}
+
+// Writes a string where there is room.
+fn put_string(text: &[u8], out: &mut [u8]) -> usize
+    requires { ⌜ length (stringBytes (now text)) ≤ length (now out) ⌝ }
+    ensures { λ r. ⌜ Puts (written (stringBytes (now (text .entry)))) r (now (out .entry)) (now (out .exit)) ⌝ }
+{
+    let n = answer::wrote(varint::encode_varint(text.len() as u64, out));
+    n + put_bytes(text, &mut out[n..])
+}
+
+// Copies bytes where there is room.
+fn put_bytes(bytes: &[u8], out: &mut [u8]) -> usize
+    requires { ⌜ length (now bytes) ≤ length (now out) ⌝ }
+    ensures { λ r. ⌜ Puts (written (now (bytes .entry))) r (now (out .entry)) (now (out .exit)) ⌝ }
+{
+    let mut at = 0;
+    while at < bytes.len() {
+        out[at] = bytes[at];
+        at += 1;
+    }
+    at
+}
+
+// The same of few bytes: four are read before one is written, so that they are one word.
+fn put_few(bytes: &[u8], out: &mut [u8]) -> usize
+    requires { ⌜ length (now bytes) ≤ length (now out) ⌝ }
+    ensures { λ r. ⌜ Puts (written (now (bytes .entry))) r (now (out .entry)) (now (out .exit)) ⌝ }
+{
+    if bytes.len() != 4 {
+        return put_bytes(bytes, out);
+    }
+    let first = bytes[0];
+    let second = bytes[1];
+    let third = bytes[2];
+    let fourth = bytes[3];
+    out[0] = first;
+    out[1] = second;
+    out[2] = third;
+    out[3] = fourth;
+    4
+}
