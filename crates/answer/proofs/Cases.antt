@@ -1,6 +1,6 @@
 -- How laws take a test or an answer apart.
 use mathlib.Core.Path.{_≡_, refl}
-use mathlib.Core.Bool.{Bool, true, false}
+use mathlib.Core.Bool.{Bool, true, false, _&&_}
 use mathlib.Core.Logic.{_⊎_, inl, inr, ⊎-elim}
 use Prim.Native.Nat.{ℕ, zero, suc, _≤_, _<_, zero-le, suc-le-suc}
 use native.Mathlib.Omega.{arith}
@@ -20,6 +20,11 @@ bool-cases false f g = g refl
 -- and not both
 pub true-false : {G : Type 0} {p : Bool} → p ≡ true → p ≡ false → G
 true-false e f = let z : _≡_ {A = ℕ} 0 1 = cc in absurd (omega arith)
+
+-- where both tests hold, each does
+pub both-true : (p q : Bool) → p && q ≡ true → (p ≡ true) × (q ≡ true)
+both-true true q e = (refl, e)
+both-true false q e = true-false e refl
 
 -- an answer is a success or a refusal
 pub answer-cases : {A G : Type 0} (x : Answer A) → ((a : A) (used : ℕ) → x ≡ done a used → G) → ((number place : ℕ) → x ≡ refused number place → G) → G

@@ -8,10 +8,10 @@ use lib.ListN.{length, take, drop, length-drop}
 use Rattle.answer.specs.Answer.{Answer, done, refused}
 use Rattle.answer.proofs.Output.{lent-tail}
 use Rattle.varint.specs.Number.{number}
-use Rattle.varint.proofs.Reading.{accepted}
+use Rattle.varint.proofs.Reading.{accepted, number-place}
 use Rattle.types.specs.Value.{Span, span, string, Width, integer, address, text, shape, value, narrowed}
 use Rattle.types.specs.Inner.{ReadsKind}
-use Rattle.types.proofs.Reading.{number-place, string-place, string-accepted, integer-refused, integer-whole, address-short, address-whole, text-refused, text-whole, behind-refused, behind-plain, behind-start}
+use Rattle.types.proofs.Reading.{string-place, string-accepted, integer-refused, integer-whole, address-short, address-whole, text-refused, text-whole, behind-refused, behind-plain, behind-start}
 use Rattle.types.proofs.Shapes.{shape-integer}
 
 -- a place or a count behind the type byte

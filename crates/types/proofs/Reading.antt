@@ -12,7 +12,7 @@ use borrow.Author.Tests.{le-leb, lt-leb}
 use Rattle.answer.specs.Answer.{Answer, done, refused, next, behind}
 use Rattle.varint.specs.Number.{worth, more, number}
 use Rattle.answer.proofs.Cases.{lt-or-le, answer-cases, not-both}
-use Rattle.varint.proofs.Reading.{more-none, more-eleventh, more-over, more-last, more-on, number-none, number-one, number-more, accepted, kept as number-kept, accepted-kept}
+use Rattle.varint.proofs.Reading.{accepted, number-place, number-kept, accepted-kept}
 use Rattle.types.proofs.Shapes.{shape-listed, InWidth, signed-again, Fields}
 use Rattle.types.specs.Value.{Span, span, string, Shape, nothing, flag, integer, address, text, reserved, Width, signed32, unsigned32, whole64, shape, Record, value, points, moved, narrowed, spanned, content, typed}
 
@@ -23,33 +23,6 @@ Stands a = (place : ℕ) → a ≡ refused 3 place → ⊥
 -- a refusal is its number and its place
 refused-same : {A : Type 0} {n place m p : ℕ} → _≡_ {A = Answer A} (refused n place) (refused m p) → (n ≡ m) × (place ≡ p)
 refused-same e = ((cc), (cc))
-
--- ---- where a number is refused
-
-more-place : (s : List ℕ) (sum k n place : ℕ) → more sum k s ≡ refused n place → place ≤ k + length s
-more-place [] sum k n place e =
-    let one : refused 3 k ≡ refused n place = sym (more-none sum k) ∙ e in
-    let p : k ≡ place = cc in
-    omega arith
-more-place (b ∷ s) sum k n place e =
-    ⊎-elim
-    (λ h. ⊎-elim
-    (λ o. ⊎-elim (λ l. not-both (more-last sum k b h o l s) e) (λ l. let i = more-place s (sum + worth k b) (suc k) n place (sym (more-on sum k b h o l s) ∙ e) in omega arith) (lt-or-le b 128))
-    (λ o. at (sym (more-over sum k b h o s) ∙ e))
-    (lt-or-le (sum + worth k b) (2 ^ 64)))
-    (λ h. at (sym (more-eleventh sum k b h s) ∙ e))
-    (lt-or-le k 10)
-  where
-    at : _≡_ {A = Answer ℕ} (refused 7 (suc k)) (refused n place) → place ≤ k + suc (length s)
-    at one = let p : suc k ≡ place = cc in omega arith
-
--- Law: a number is refused at a place within the bytes, their end included.
-pub number-place : (s : List ℕ) (n place : ℕ) → number s ≡ refused n place → place ≤ length s
-number-place [] n place e = let one : refused 3 0 ≡ refused n place = sym number-none ∙ e in let p : 0 ≡ place = cc in omega arith
-number-place (b ∷ s) n place e =
-    ⊎-elim (λ l. not-both (number-one b s l) e)
-    (λ l. let i = more-place s b 1 n place (sym (number-more b s l) ∙ e) in omega arith)
-    (lt-or-le b 240)
 
 -- ---- strings
 

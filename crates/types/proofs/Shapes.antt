@@ -7,7 +7,7 @@ use native.Mathlib.Omega.{arith}
 use lib.Dec.{ltb, eqb}
 use lib.ListN.{List·getD-eq-default}
 use borrow.Author.Tests.{lt-ltb, le-ltb, eq-eqb, ne-eqb, eqb-true, ltb-true}
-use Rattle.answer.proofs.Cases.{lt-or-le}
+use Rattle.answer.proofs.Cases.{lt-or-le, both-true}
 use Rattle.types.specs.Value.{Shape, nothing, flag, integer, address, text, reserved, Width, signed32, unsigned32, whole64, shapes, shape, points, signExtended, inWidth, inFields}
 
 -- ---- the table
@@ -119,10 +119,6 @@ Fields (integer w) a b = InWidth w a × (b ≡ 0)
 Fields (address n) a b = b ≡ n
 Fields text a b = b < 2 ^ 64
 Fields reserved a b = ⊥
-
-both-true : (p q : Bool) → p && q ≡ true → (p ≡ true) × (q ≡ true)
-both-true true q e = (refl, e)
-both-true false q e = absurd (true≢false (sym e))
 
 pub in-width : (w : Width) (a : ℕ) → InWidth w a → inWidth w a ≡ true
 in-width signed32 a h = eq-eqb a (signExtended a) h

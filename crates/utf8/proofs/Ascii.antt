@@ -12,7 +12,8 @@ use borrow.Author.Tests.{ltb-true, lt-ltb}
 use Rattle.utf8.specs.Text.{isUtf8}
 use Rattle.utf8.specs.Inner.{ascii, AsciiTo}
 use Rattle.answer.proofs.Output.{lent-tail}
-use Rattle.utf8.proofs.Stepping.{both-true, step-ascii}
+use Rattle.answer.proofs.Cases.{both-true}
+use Rattle.utf8.proofs.Stepping.{step-ascii}
 use Rattle.utf8.proofs.Lossy.{isUtf8-none, isUtf8-char}
 
 pub ascii-well : (s : List ℕ) → ascii s ≡ true → isUtf8 s ≡ true

@@ -11,8 +11,8 @@ use native.Mathlib.Numerals.{add-one}
 use lib.Seq.{drop-cons, take-at, length-take-le}
 use borrow.Author.Tests.{eq-eqb, ne-eqb, eqb-true}
 use Rattle.utf8.specs.Text.{Step, ends, char, mark, step, stepSize, becomes, isUtf8, lossy, same, sameText}
-use Rattle.answer.proofs.Cases.{bool-cases, true-false}
-use Rattle.utf8.proofs.Stepping.{both-true, step-bounds}
+use Rattle.answer.proofs.Cases.{bool-cases, true-false, both-true}
+use Rattle.utf8.proofs.Stepping.{step-bounds}
 use Rattle.utf8.proofs.Lossy.{empty, lossy-on, lossy-none, lossy-char, lossy-mark, lossy-same, lossy-step-char, lossy-step-mark, char-bounds}
 
 -- ---- the same bytes

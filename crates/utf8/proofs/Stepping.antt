@@ -9,13 +9,8 @@ use lib.Dec.{leb}
 use lib.ListN.{length, take, drop, getD, drop-of-length-le}
 use lib.Seq.{drop-cons}
 use borrow.Author.Tests.{le-leb, lt-leb, eq-eqb, ne-eqb, leb-true}
-use Rattle.answer.proofs.Cases.{bool-cases, true-false}
+use Rattle.answer.proofs.Cases.{bool-cases, true-false, both-true}
 use Rattle.utf8.specs.Text.{Range, _to_, Row, row, rows, follow, places, inRange, starts, front, Step, ends, char, mark, taken, Led, unused, led, rowFor, stepFor, step, replacement}
-
--- two tests that both hold
-pub both-true : (p q : Bool) → p && q ≡ true → (p ≡ true) × (q ≡ true)
-both-true true q e = (refl, e)
-both-true false q e = true-false e refl
 
 -- ---- a byte and its range
 

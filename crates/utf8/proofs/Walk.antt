@@ -9,11 +9,10 @@ use lib.Seq.{drop-cons}
 use lib.ListN.{length, take, drop, getD, length-drop, take-append-drop, drop-of-length-le}
 use mathlib.Core.Logic.{⊎-elim}
 use borrow.Author.Tests.{eq-eqb, ne-eqb}
-use Rattle.answer.proofs.Cases.{lt-or-le}
+use Rattle.answer.proofs.Cases.{lt-or-le, both-true}
 use Rattle.utf8.specs.declared.Both.the-variants as v
 use Rattle.utf8.specs.Text.{step, stepSize, lossy, same, sameText}
 use Rattle.utf8.specs.Inner.{Walks, ascii}
-use Rattle.utf8.proofs.Stepping.{both-true}
 use Rattle.utf8.proofs.Ascii.{ascii-well}
 use Rattle.utf8.proofs.Lossy.{lossy-none, lossy-front}
 use Rattle.utf8.proofs.Advance.{step-advances, lossy-some}

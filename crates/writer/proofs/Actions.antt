@@ -17,7 +17,8 @@ use Rattle.frame.specs.declared.Action.{Action}
 use Rattle.frame.specs.Records.{actionAt}
 use Rattle.writer.specs.Pair.{keyOf, pairBytes, pairChecks}
 use Rattle.writer.specs.Action.{noValue, actionWritable, actionBytes, actionChecks, actionRefusal}
-use Rattle.writer.proofs.Pairs.{string-long, formed-passed}
+use Rattle.types.proofs.Writing.{string-long}
+use Rattle.writer.proofs.Pairs.{formed-passed}
 
 module _ (x : Action) where
   pub scope-out : 4 < x .scope → actionWritable x ≡ false

@@ -3,7 +3,9 @@
 pub mod Capped
 pub mod Pairs
 pub mod Actions
+pub mod Messages
 pub mod Checking
 pub mod Begun
 pub mod Answers
-pub mod Messages
+pub mod Laws
+pub mod Unique

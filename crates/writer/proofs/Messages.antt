@@ -26,7 +26,8 @@ use Rattle.writer.specs.Pair.{pairBytes, pairRefusal}
 use Rattle.writer.specs.Message.{nameBytes, messageBytes, messageChecks, runStart, messageRefusal}
 use Rattle.writer.specs.Frame.{pairsBytes, messagesBytes}
 use Rattle.writer.specs.Inner.{FormedRun, Ready, AllReady}
-use Rattle.writer.proofs.Pairs.{string-range, string-long}
+use Rattle.types.proofs.Writing.{string-long}
+use Rattle.types.proofs.Checking.{string-range}
 
 -- ---- a message's checks, line by line
 
@@ -195,13 +196,14 @@ parts-length buffer pairs [] = refl
 parts-length buffer pairs (m ∷ ms) =
     let args = argumentsOf pairs m in
     let more = gathered (argumentsOf pairs) ms in
-    omega
-    (arith,
-    length-append (messageBytes buffer pairs m) (joined (messageBytes buffer pairs) ms),
-    ap length (message-bytes buffer pairs m) ∙ length-append (nameBytes buffer m) (joined (pairBytes buffer) args),
-    length-append (nameBytes buffer m) (joined (nameBytes buffer) ms),
-    ap length (joined-both (pairBytes buffer) args more) ∙ length-append (joined (pairBytes buffer) args) (joined (pairBytes buffer) more),
-    parts-length buffer pairs ms)
+    omega (
+      arith,
+      length-append (messageBytes buffer pairs m) (joined (messageBytes buffer pairs) ms),
+      ap length (message-bytes buffer pairs m) ∙ length-append (nameBytes buffer m) (joined (pairBytes buffer) args),
+      length-append (nameBytes buffer m) (joined (nameBytes buffer) ms),
+      ap length (joined-both (pairBytes buffer) args more) ∙ length-append (joined (pairBytes buffer) args) (joined (pairBytes buffer) more),
+      parts-length buffer pairs ms,
+    )
 
 -- Law: so the payload has the bytes of all names and of all pairs.
 pub payload-length : (buffer : List ℕ) (total : ℕ) (messages : List ℕ) (count : ℕ) → Sound (messageRefusal buffer total messages count) count → (pairs : List ℕ)

@@ -5,8 +5,7 @@ use mathlib.Core.Bool.{Bool, true, false, not}
 use mathlib.Core.List.{List, [], _∷_, _++_}
 use Prim.Native.Nat.{ℕ, _+_, _-_, _*_, _≤_, _<_}
 use native.Mathlib.Omega.{arith}
-use lib.ListN.{length, take, drop, length-append, length-take, length-drop}
-use borrow.Author.Tests.{leb-true}
+use lib.ListN.{length, take, drop, length-append}
 use Rattle.answer.specs.declared.Written.{Written}
 use Rattle.answer.specs.Answer.{written, within, leaves}
 use Rattle.answer.specs.Writes.{Wrote, Writes}
@@ -17,43 +16,17 @@ use Rattle.answer.proofs.Cases.{lt-or-le, bool-cases}
 use Rattle.answer.proofs.Order.{Numbered, first-fails, first-holds, first-passed, first-both, first-then, first-front, first-none}
 use Rattle.answer.proofs.Parts.{room-counted, room-leaves}
 use Rattle.varint.specs.Number.{numberBytes}
-use Rattle.varint.proofs.Writing.{length-most}
 use Rattle.types.specs.Value.{Record, value}
 use Rattle.types.specs.Form.{part, inside, stringBytes, valueBytes, writableRecord, ranged, valueAnswer, lengthOf}
 use Rattle.types.specs.Check.{stringChecks, partChecks}
 use Rattle.types.specs.declared.Value.{Value}
 use Rattle.types.specs.Promise.{recordOf, WriteString, WriteValue}
-use Rattle.types.proofs.Writing.{shape-cases, bytes-at, string-length, part-length, part-lent, form-whole}
-use Rattle.types.proofs.Checking.{string-passed, part-passed}
+use Rattle.types.proofs.Writing.{part-lent, string-long, form-whole}
+use Rattle.types.proofs.Checking.{string-passed, string-range, part-passed}
 use Rattle.frame.specs.declared.Pair.{Pair}
 use Rattle.frame.specs.Records.{pairWidth, pairAt}
 use Rattle.writer.specs.Pair.{keyOf, pairBytes, pairChecks, pairRefusal, sameKey, newKey, kvRefusal}
 use Rattle.writer.specs.Inner.{Formed, FormedRun}
-
--- ---- strings and values
-
--- a string that passes lies inside its buffer
-pub string-range : (buffer : List ℕ) (start len : ℕ) → first (stringChecks buffer start len) ≡ 0 → start + len ≤ length buffer
-string-range buffer start len e = leb-true (start + len) (length buffer) (string-passed buffer start len e .0)
-
--- and then its written form is as long as its length says
-pub string-long : (buffer : List ℕ) (start len : ℕ) → start + len ≤ length buffer → length (stringBytes (part buffer start len)) ≡ length (numberBytes len) + len
-string-long buffer start len h =
-    string-length (part buffer start len) ∙ ap (λ (n : ℕ). length (numberBytes n) + n) (part-length buffer start len h)
-
--- a value's written form has at most eleven bytes beside those that it points at
-pub value-most : (buffer : List ℕ) (v : Record) → length (valueBytes buffer v) ≤ 11 + length buffer
-value-most buffer (value k a b) =
-    shape-cases k
-    (λ e is. rw (bytes-at buffer k a b _ is) (omega arith))
-    (λ e is. rw (bytes-at buffer k a b _ is) (omega arith))
-    (λ w l g is. rw (bytes-at buffer k a b _ is) (omega (arith, length-most a)))
-    (λ n l g is. rw (bytes-at buffer k a b _ is) (omega (arith, most)))
-    (λ l g is. rw (bytes-at buffer k a b _ is) (omega (arith, most, string-length (part buffer a b), length-most (length (part buffer a b)))))
-    (λ l is. rw (bytes-at buffer k a b _ is) (omega arith))
-  where
-    most : length (part buffer a b) ≤ length buffer
-    most = simp (length-take, length-drop) (omega arith)
 
 -- a value that passes has its written form's length
 pub value-long : (buffer : List ℕ) (v : Record) → writableRecord v ≡ true → ranged buffer v ≡ true → lengthOf (valueAnswer buffer v) ≡ length (valueBytes buffer v)

@@ -1,8 +1,4 @@
 // ACK frames: actions on variables.
-use answer::NOT_WRITABLE;
-use answer::OUTSIDE;
-use answer::Refusal;
-use answer::Written;
 use crate::Checked;
 use crate::begin_frame;
 use crate::cap;
@@ -10,6 +6,10 @@ use crate::fin_alone;
 use crate::pair::check_pair;
 use crate::pair::pair_len;
 use crate::pair::put_pair;
+use answer::NOT_WRITABLE;
+use answer::OUTSIDE;
+use answer::Refusal;
+use answer::Written;
 use frame::ACTION_WIDTH;
 use frame::Action;
 use frame::Head;

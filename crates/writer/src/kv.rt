@@ -1,9 +1,4 @@
 // KV frames: HELLO and DISCONNECT, of either side.
-use answer::MET_TWICE;
-use answer::NOT_WRITABLE;
-use answer::OUTSIDE;
-use answer::Refusal;
-use answer::Written;
 use crate::Checked;
 use crate::begin_frame;
 use crate::cap;
@@ -12,6 +7,11 @@ use crate::pair::check_pair;
 use crate::pair::pair_at;
 use crate::pair::pair_len;
 use crate::pair::put_pairs;
+use answer::MET_TWICE;
+use answer::NOT_WRITABLE;
+use answer::OUTSIDE;
+use answer::Refusal;
+use answer::Written;
 use frame::Head;
 use frame::PAIR_WIDTH;
 use frame::Pair;

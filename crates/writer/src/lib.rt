@@ -8,14 +8,13 @@ mod notify;
 mod pair;
 
 pub use action::write_actions;
-pub use kv::write_kv;
-pub use notify::write_notify;
-
 use answer::NO_ROOM;
 use answer::OVER_LIMIT;
 use answer::Refusal;
 use answer::Written;
 use frame::Head;
+pub use kv::write_kv;
+pub use notify::write_notify;
 ghost use mathlib.Core.Path.{_≡_};
 ghost use mathlib.Core.Bool.{not, _&&_};
 ghost use lib.ListN.{length};

@@ -1,11 +1,6 @@
 // NOTIFY frames (SPOE.txt, section 3.2.6): what a bench sends that plays HAProxy.
 //
 // The messages are checked first, then the pairs that are their arguments, and then all is written.
-use answer::NOT_WRITABLE;
-use answer::OUTSIDE;
-use answer::Refusal;
-use answer::TOO_MANY;
-use answer::Written;
 use crate::Checked;
 use crate::begin_frame;
 use crate::cap;
@@ -14,6 +9,11 @@ use crate::pair::check_pair;
 use crate::pair::pair_at;
 use crate::pair::pair_len;
 use crate::pair::put_pairs;
+use answer::NOT_WRITABLE;
+use answer::OUTSIDE;
+use answer::Refusal;
+use answer::TOO_MANY;
+use answer::Written;
 use frame::Head;
 use frame::MESSAGE_WIDTH;
 use frame::Message;
@@ -104,7 +104,10 @@ fn check_messages(messages: &[u64], count: usize, total: u64, buffer: &[u8], mos
                 len: 0,
             };
         }
-        let name = cap(varint::varint_len(message.len) as u64 + message.len + 1, most);
+        let name = cap(
+            varint::varint_len(message.len) as u64 + message.len + 1,
+            most,
+        );
         len = cap(len + name, most);
         run_first = message.first;
         run_count = message.count;

@@ -1,6 +1,6 @@
 // Pairs: checked, measured and written, one by one and in runs.
-use answer::NOT_WRITABLE;
 use crate::cap;
+use answer::NOT_WRITABLE;
 use frame::PAIR_WIDTH;
 use frame::Pair;
 use types::Value;

@@ -6,9 +6,8 @@ use Prim.Native.Nat.{_-_}
 use borrow.Author.Needs.{needs}
 use native.Mathlib.Omega.{arith}
 use lib.ListN.{length}
-use Rattle.answer.proofs.Cases.{true-false}
+use Rattle.answer.proofs.Cases.{true-false, both-true}
 use Rattle.answer.proofs.Output.{lent-tail}
-use Rattle.utf8.proofs.Stepping.{both-true}
 use Rattle.utf8.proofs.Ascii.{ascii-to-end, ascii-few}
 use Rattle.utf8.proofs.ascii_rest.Statement.{statement}
 use Rattle.utf8.proofs.ascii_rest.Tie as tie

@@ -165,7 +165,7 @@ returns-2 c =
     rw (unset-bytes (a .buffer .now) (a .action) (t .if1 .left)) (
       both-count front rest (a .out .now) _ 3 refl (k .put-three2 .ensures) (unset-room t) _ (name-count c),
       both-leaves front rest (a .out .now) _ 3 refl (k .put-three2 .ensures) (unset-room t) _
-      (string-leaves (a .buffer .now) (a .action .pair .start) (a .action .pair .len) (w .write-string .ensures) (c .wrote .ensures) (name-room w)),
+          (string-leaves (a .buffer .now) (a .action .pair .start) (a .action .pair .len) (w .write-string .ensures) (c .wrote .ensures) (name-room w)),
     )
 
 pub put-action-spec : {M : Type 1} → statement M

@@ -38,8 +38,7 @@ same-key-requires : tie.Need-same-key-requires Inv-loop μ-loop
 same-key-requires c κs =
     let t = c .before in
     let k = t .before .before in
-    let s = k .before .before .before in
-    (
+    let s = k .before .before .before in (
       rw (k .pair-at .ensures) (inside s (s .args .i) (omega arith)),
       rw (c .pair-at2 .ensures) (inside s (t .before .loop .j) (omega (arith, t .loop-test .taken))),
     )

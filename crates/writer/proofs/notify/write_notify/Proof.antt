@@ -182,11 +182,11 @@ notify-frame-requires c κs =
       (
         all-ready (a .buffer .now) (a .messages .now) (a .pairs .now) (a .message-count) (a .pair-count) (pairs-held (f .before)) (sound-messages e) (none-before (pairNumber s) (a .pair-count) (no-pair e)),
         k .cap .ensures
-        ∙ ap (λ (x : ℕ). capped (a .limit) (x + e .before .before .before .check-arguments .result .len)) (names e)
-        ∙ capped-left (a .limit) n (e .before .before .before .check-arguments .result .len)
-        ∙ ap (λ (x : ℕ). capped (a .limit) (n + x)) (given e)
-        ∙ capped-right (a .limit) n m
-        ∙ ap (capped (a .limit)) (sym (payload-length (a .buffer .now) (a .pair-count) (a .messages .now) (a .message-count) (sound-messages e) (a .pairs .now) (fourth f))),
+            ∙ ap (λ (x : ℕ). capped (a .limit) (x + e .before .before .before .check-arguments .result .len)) (names e)
+            ∙ capped-left (a .limit) n (e .before .before .before .check-arguments .result .len)
+            ∙ ap (λ (x : ℕ). capped (a .limit) (n + x)) (given e)
+            ∙ capped-right (a .limit) n m
+            ∙ ap (capped (a .limit)) (sym (payload-length (a .buffer .now) (a .pair-count) (a .messages .now) (a .message-count) (sound-messages e) (a .pairs .now) (fourth f))),
       ),
     )
 

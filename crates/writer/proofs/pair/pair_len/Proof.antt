@@ -10,7 +10,8 @@ use Rattle.types.specs.Form.{valueBytes}
 use Rattle.types.specs.Promise.{recordOf}
 use Rattle.writer.specs.Inner.{capped}
 use Rattle.writer.proofs.Capped.{capped-left, capped-most}
-use Rattle.writer.proofs.Pairs.{value-most, value-long, pair-long}
+use Rattle.types.proofs.Writing.{value-bound, part-within-buffer}
+use Rattle.writer.proofs.Pairs.{value-long, pair-long}
 use Rattle.writer.proofs.pair.pair_len.Statement.{statement}
 use Rattle.writer.proofs.pair.pair_len.Tie as tie
 
@@ -37,7 +38,7 @@ add-cap-2 : tie.Need-add-cap-2
 add-cap-2 c =
     let s = c .before .before .before .before .before in
     let a = s .args in
-    omega (arith, value-is c, c .before .cap .ensures, capped-most (a .most) (c .before .before .before .varint-len .result + a .pair .len), s .good, s .fits, value-most (a .buffer .now) (recordOf (a .pair .value)))
+    omega (arith, value-is c, c .before .cap .ensures, capped-most (a .most) (c .before .before .before .varint-len .result + a .pair .len), s .good, s .fits, value-bound (a .buffer .now) (a .pair .value .kind) (a .pair .value .a) (a .pair .value .b), part-within-buffer (a .buffer .now) (a .pair .value .a) (a .pair .value .b))
 
 cap-requires-2 : tie.Need-cap-requires-2
 cap-requires-2 c κs = search needs

@@ -53,9 +53,9 @@ all c =
     let s = start k in
     let fit = both-room (key s) (value s) (s .args .out .now) _ _ (key-count k) (key-leaves k) (room s) in (
       both-count (key s) (value s) (s .args .out .now) _ _ (key-count k) (key-leaves k) (room s) _
-      (value-count (s .args .buffer .now) (s .args .pair .value) (v .write-value .ensures) (c .wrote2 .ensures) (s .pre .0 .fields) (s .pre .0 .range) fit),
+          (value-count (s .args .buffer .now) (s .args .pair .value) (v .write-value .ensures) (c .wrote2 .ensures) (s .pre .0 .fields) (s .pre .0 .range) fit),
       both-leaves (key s) (value s) (s .args .out .now) _ _ (key-count k) (key-leaves k) (room s) _
-      (value-leaves (s .args .buffer .now) (s .args .pair .value) (v .write-value .ensures) (c .wrote2 .ensures) (s .pre .0 .fields) (s .pre .0 .range) fit),
+          (value-leaves (s .args .buffer .now) (s .args .pair .value) (v .write-value .ensures) (c .wrote2 .ensures) (s .pre .0 .fields) (s .pre .0 .range) fit),
     )
 
 add-to : tie.Need-add-to
