@@ -261,7 +261,7 @@ fn upload() {
     let messages = [0, 5, 0, 2];
     let pairs = [5, 4, 3, 7, 0, 9, 2, 1, 1, 0];
     let mut out = [0u8; 64];
-    let answer = notify::write_notify(
+    let answer = writer::write_notify(
         true,
         false,
         1,

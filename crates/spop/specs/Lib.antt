@@ -1,4 +1,4 @@
--- What a C program is told, and that nothing else is told it.
+-- What a C program is told, a value as it has one, and what each call promises.
 pub mod Told
 pub mod Values
-pub mod Unique
+pub mod Promise

@@ -1,24 +1,8 @@
 // The calls under C names, as `include/spop.h` declares them. Each is thin over the call that it wraps, and its promise goes
 // through the same definitions.
 //
-// A call answers the paper's number, 0 for done, and `at` takes what goes with it: the bytes used or written, or the place.
+// A call answers a refusal's number, 0 for done, and `at` takes what goes with it: the bytes used or written, or the place.
 // Whatever else is lent changes only after 0.
-ghost use mathlib.Core.Path.{_≡_};
-ghost use lib.ListN.{length};
-ghost use Rattle.answer.specs.Answer.{written, within, leaves};
-ghost use Rattle.varint.specs.Number.{number, numberBytes};
-ghost use Rattle.answer.specs.Writes.{said};
-ghost use Rattle.varint.specs.Promise.{numberRead};
-ghost use Rattle.utf8.specs.Text.{isUtf8, lossy, sameText};
-ghost use Rattle.writer.specs.Frame.{headOf, kvAnswer, actionsAnswer};
-ghost use Rattle.notify.specs.Notify.{notifyAnswer};
-ghost use Rattle.hello.specs.Hello.{frameSize, announced, choice};
-ghost use Rattle.types.specs.Value.{typed};
-ghost use Rattle.types.specs.Form.{valueAnswer, lengthOf};
-ghost use Rattle.types.specs.Check.{refusal};
-ghost use Rattle.types.specs.Promise.{recordOf};
-ghost use Rattle.spop.specs.Told.{Told, valueOf, chosenOf};
-ghost use Rattle.spop.specs.Values.{recordIn, numbersOf};
 use answer::Refusal;
 use answer::Written;
 use hello::Chosen;
@@ -26,20 +10,25 @@ use hello::Size;
 use types::Typed;
 use types::Value;
 use varint::Number;
+ghost use mathlib.Core.Path.{_≡_};
+ghost use Rattle.answer.specs.Writes.{said};
+ghost use Rattle.types.specs.Promise.{recordOf};
+ghost use Rattle.spop.specs.Told.{Told};
+ghost use Rattle.spop.specs.Values.{recordIn};
+ghost use Rattle.spop.specs.Promise.{SpopVarintLen, SpopEncodeVarint, SpopDecodeVarint, SpopIsUtf8, SpopSameText, SpopLossyText, SpopTypedData, SpopValueLen, SpopCheckValue, SpopWriteValue, SpopWriteKv, SpopWriteActions, SpopWriteNotify, SpopNegotiateMaxFrameSize, SpopNegotiateVersion};
 
 const DONE: u64 = 0;
 
 #[no_mangle]
 pub extern "C" fn spop_varint_len(n: u64) -> u64
-    ensures { λ r. ⌜ r ≡ length (numberBytes n) ⌝ }
+    ensures { λ r. ⌜ SpopVarintLen n r ⌝ }
 {
     varint::varint_len(n) as u64
 }
 
 #[no_mangle]
 pub extern "C" fn spop_encode_varint(n: u64, out: &mut [u8], at: &mut u64) -> u64
-    ensures { λ r. ⌜ Told (within (length (now (out .entry))) (written (numberBytes n))) r (now (at .exit)) ⌝ }
-    ensures { λ r. ⌜ now (out .exit) ≡ leaves (within (length (now (out .entry))) (written (numberBytes n))) (now (out .entry)) ⌝ }
+    ensures { λ r. ⌜ SpopEncodeVarint n r (now (at .exit)) (now (out .entry)) (now (out .exit)) ⌝ }
 {
     let answer = varint::encode_varint(n, out);
     tell(answer, at)
@@ -47,8 +36,7 @@ pub extern "C" fn spop_encode_varint(n: u64, out: &mut [u8], at: &mut u64) -> u6
 
 #[no_mangle]
 pub extern "C" fn spop_decode_varint(input: &[u8], value: &mut u64, at: &mut u64) -> u64
-    ensures { λ r. ⌜ Told (number (now (input .entry))) r (now (at .exit)) ⌝ }
-    ensures { λ r. ⌜ now (value .exit) ≡ valueOf (number (now (input .entry))) (now (value .entry)) ⌝ }
+    ensures { λ r. ⌜ SpopDecodeVarint (now (input .entry)) r (now (at .exit)) (now (value .entry)) (now (value .exit)) ⌝ }
 {
     match varint::decode_varint(input) {
         Number::Done { value: n, used } => {
@@ -62,22 +50,21 @@ pub extern "C" fn spop_decode_varint(input: &[u8], value: &mut u64, at: &mut u64
 
 #[no_mangle]
 pub extern "C" fn spop_is_utf8(bytes: &[u8]) -> bool
-    ensures { λ r. ⌜ r ≡ isUtf8 (now (bytes .entry)) ⌝ }
+    ensures { λ r. ⌜ SpopIsUtf8 (now (bytes .entry)) r ⌝ }
 {
     utf8::is_utf8(bytes)
 }
 
 #[no_mangle]
 pub extern "C" fn spop_same_text(a: &[u8], b: &[u8]) -> bool
-    ensures { λ r. ⌜ r ≡ sameText (now (a .entry)) (now (b .entry)) ⌝ }
+    ensures { λ r. ⌜ SpopSameText (now (a .entry)) (now (b .entry)) r ⌝ }
 {
     utf8::same_text(a, b)
 }
 
 #[no_mangle]
 pub extern "C" fn spop_lossy_text(bytes: &[u8], out: &mut [u8], at: &mut u64) -> u64
-    ensures { λ r. ⌜ Told (within (length (now (out .entry))) (written (lossy (now (bytes .entry))))) r (now (at .exit)) ⌝ }
-    ensures { λ r. ⌜ now (out .exit) ≡ leaves (within (length (now (out .entry))) (written (lossy (now (bytes .entry))))) (now (out .entry)) ⌝ }
+    ensures { λ r. ⌜ SpopLossyText (now (bytes .entry)) r (now (at .exit)) (now (out .entry)) (now (out .exit)) ⌝ }
 {
     let answer = utf8::lossy_text(bytes, out);
     tell(answer, at)
@@ -85,8 +72,7 @@ pub extern "C" fn spop_lossy_text(bytes: &[u8], out: &mut [u8], at: &mut u64) ->
 
 #[no_mangle]
 pub extern "C" fn spop_typed_data(input: &[u8], value: &mut [u64; 3], at: &mut u64) -> u64
-    ensures { λ r. ⌜ Told (typed (now (input .entry))) r (now (at .exit)) ⌝ }
-    ensures { λ r. ⌜ now (value .exit) ≡ numbersOf (typed (now (input .entry))) (now (value .entry)) ⌝ }
+    ensures { λ r. ⌜ SpopTypedData (now (input .entry)) r (now (at .exit)) (now (value .entry)) (now (value .exit)) ⌝ }
 {
     match types::typed_data(input) {
         Typed::Done { value: v, used } => {
@@ -100,14 +86,14 @@ pub extern "C" fn spop_typed_data(input: &[u8], value: &mut [u64; 3], at: &mut u
 
 #[no_mangle]
 pub extern "C" fn spop_value_len(value: &[u64; 3], buffer: &[u8]) -> u64
-    ensures { λ r. ⌜ r ≡ lengthOf (valueAnswer (now (buffer .entry)) (recordIn (now (value .entry)))) ⌝ }
+    ensures { λ r. ⌜ SpopValueLen (now (value .entry)) (now (buffer .entry)) r ⌝ }
 {
     types::value_len(value_of(value), buffer) as u64
 }
 
 #[no_mangle]
 pub extern "C" fn spop_check_value(value: &[u64; 3], buffer: &[u8]) -> u64
-    ensures { λ r. ⌜ r ≡ refusal (now (buffer .entry)) (recordIn (now (value .entry))) ⌝ }
+    ensures { λ r. ⌜ SpopCheckValue (now (value .entry)) (now (buffer .entry)) r ⌝ }
 {
     types::check_value(value_of(value), buffer)
 }
@@ -119,8 +105,7 @@ pub extern "C" fn spop_write_value(
     out: &mut [u8],
     at: &mut u64,
 ) -> u64
-    ensures { λ r. ⌜ Told (within (length (now (out .entry))) (valueAnswer (now (buffer .entry)) (recordIn (now (value .entry))))) r (now (at .exit)) ⌝ }
-    ensures { λ r. ⌜ now (out .exit) ≡ leaves (within (length (now (out .entry))) (valueAnswer (now (buffer .entry)) (recordIn (now (value .entry))))) (now (out .entry)) ⌝ }
+    ensures { λ r. ⌜ SpopWriteValue (now (value .entry)) (now (buffer .entry)) r (now (at .exit)) (now (out .entry)) (now (out .exit)) ⌝ }
 {
     let answer = types::write_value(value_of(value), buffer, out);
     tell(answer, at)
@@ -151,8 +136,7 @@ pub extern "C" fn spop_write_kv(
     out: &mut [u8],
     at: &mut u64,
 ) -> u64
-    ensures { λ r. ⌜ Told (within (length (now (out .entry))) (kvAnswer (headOf kind fin abort «stream_id» «frame_id») limit (now (buffer .entry)) (now (pairs .entry)) «pair_count»)) r (now (at .exit)) ⌝ }
-    ensures { λ r. ⌜ now (out .exit) ≡ leaves (within (length (now (out .entry))) (kvAnswer (headOf kind fin abort «stream_id» «frame_id») limit (now (buffer .entry)) (now (pairs .entry)) «pair_count»)) (now (out .entry)) ⌝ }
+    ensures { λ r. ⌜ SpopWriteKv fin abort «stream_id» «frame_id» limit (now (buffer .entry)) kind (now (pairs .entry)) «pair_count» r (now (at .exit)) (now (out .entry)) (now (out .exit)) ⌝ }
 {
     let answer = writer::write_kv(
         kind,
@@ -182,8 +166,7 @@ pub extern "C" fn spop_write_actions(
     out: &mut [u8],
     at: &mut u64,
 ) -> u64
-    ensures { λ r. ⌜ Told (within (length (now (out .entry))) (actionsAnswer (headOf 103 fin abort «stream_id» «frame_id») limit (now (buffer .entry)) (now (actions .entry)) «action_count»)) r (now (at .exit)) ⌝ }
-    ensures { λ r. ⌜ now (out .exit) ≡ leaves (within (length (now (out .entry))) (actionsAnswer (headOf 103 fin abort «stream_id» «frame_id») limit (now (buffer .entry)) (now (actions .entry)) «action_count»)) (now (out .entry)) ⌝ }
+    ensures { λ r. ⌜ SpopWriteActions fin abort «stream_id» «frame_id» limit (now (buffer .entry)) (now (actions .entry)) «action_count» r (now (at .exit)) (now (out .entry)) (now (out .exit)) ⌝ }
 {
     let answer = writer::write_actions(
         fin,
@@ -214,10 +197,9 @@ pub extern "C" fn spop_write_notify(
     out: &mut [u8],
     at: &mut u64,
 ) -> u64
-    ensures { λ r. ⌜ Told (within (length (now (out .entry))) (notifyAnswer (headOf 3 fin abort «stream_id» «frame_id») limit (now (buffer .entry)) (now (messages .entry)) «message_count» (now (pairs .entry)) «pair_count»)) r (now (at .exit)) ⌝ }
-    ensures { λ r. ⌜ now (out .exit) ≡ leaves (within (length (now (out .entry))) (notifyAnswer (headOf 3 fin abort «stream_id» «frame_id») limit (now (buffer .entry)) (now (messages .entry)) «message_count» (now (pairs .entry)) «pair_count»)) (now (out .entry)) ⌝ }
+    ensures { λ r. ⌜ SpopWriteNotify fin abort «stream_id» «frame_id» limit (now (buffer .entry)) (now (messages .entry)) «message_count» (now (pairs .entry)) «pair_count» r (now (at .exit)) (now (out .entry)) (now (out .exit)) ⌝ }
 {
-    let answer = notify::write_notify(
+    let answer = writer::write_notify(
         fin,
         abort,
         stream_id,
@@ -235,7 +217,7 @@ pub extern "C" fn spop_write_notify(
 
 #[no_mangle]
 pub extern "C" fn spop_negotiate_max_frame_size(theirs: u32, ours: u32, at: &mut u64) -> u64
-    ensures { λ r. ⌜ Told (frameSize theirs ours) r (now (at .exit)) ⌝ }
+    ensures { λ r. ⌜ SpopNegotiateMaxFrameSize theirs ours r (now (at .exit)) ⌝ }
 {
     match hello::negotiate_max_frame_size(theirs, ours) {
         Size::Agreed(n) => {
@@ -248,8 +230,7 @@ pub extern "C" fn spop_negotiate_max_frame_size(theirs: u32, ours: u32, at: &mut
 
 #[no_mangle]
 pub extern "C" fn spop_negotiate_version(versions: &[u64], version: &mut [u64; 3]) -> bool
-    ensures { λ r. ⌜ r ≡ announced (now (versions .entry)) ⌝ }
-    ensures { λ r. ⌜ now (version .exit) ≡ chosenOf (choice (now (versions .entry))) (now (version .entry)) ⌝ }
+    ensures { λ r. ⌜ SpopNegotiateVersion (now (versions .entry)) r (now (version .entry)) (now (version .exit)) ⌝ }
 {
     match hello::negotiate_version(versions) {
         Chosen::Version(v) => {

@@ -63,17 +63,17 @@ module _ (allowed : Bool) (width : ℕ) (table : List ℕ) (count : ℕ) (number
 module _ (h : Head) (limit : ℕ) (buffer table : List ℕ) (count : ℕ) (bytes : List ℕ) (n : ℕ) where
   pub kv-accepted : kvAnswer h limit buffer table count ≡ done bytes n
       → (kvAllowed h ≡ true) × (count * pairWidth ≤ length table) × Sound (kvRefusal buffer table) count
-  kv-accepted is = list-accepted _ _ _ _ _ limit h _ bytes n (sym (kv-list h limit buffer table count) ∙ is)
+  kv-accepted is = list-accepted (kvAllowed h) pairWidth table count (kvRefusal buffer table) limit h (pairsBytes buffer table count) bytes n (sym (kv-list h limit buffer table count) ∙ is)
 
   pub kv-wrote : kvAnswer h limit buffer table count ≡ done bytes n → Wrote h limit (pairsBytes buffer table count) bytes n
-  kv-wrote is = list-wrote (kvAllowed h) pairWidth table count (kvRefusal buffer table) limit h _ bytes n (sym (kv-list h limit buffer table count) ∙ is)
+  kv-wrote is = list-wrote (kvAllowed h) pairWidth table count (kvRefusal buffer table) limit h (pairsBytes buffer table count) bytes n (sym (kv-list h limit buffer table count) ∙ is)
 
   pub actions-accepted : actionsAnswer h limit buffer table count ≡ done bytes n
       → (finAlone h ≡ true) × (count * actionWidth ≤ length table) × Sound (actionRefusal buffer table) count
-  actions-accepted is = list-accepted _ _ _ _ _ limit h _ bytes n (sym (actions-list h limit buffer table count) ∙ is)
+  actions-accepted is = list-accepted (finAlone h) actionWidth table count (actionRefusal buffer table) limit h (actionsBytes buffer table count) bytes n (sym (actions-list h limit buffer table count) ∙ is)
 
   pub actions-wrote : actionsAnswer h limit buffer table count ≡ done bytes n → Wrote h limit (actionsBytes buffer table count) bytes n
-  actions-wrote is = list-wrote (finAlone h) actionWidth table count (actionRefusal buffer table) limit h _ bytes n (sym (actions-list h limit buffer table count) ∙ is)
+  actions-wrote is = list-wrote (finAlone h) actionWidth table count (actionRefusal buffer table) limit h (actionsBytes buffer table count) bytes n (sym (actions-list h limit buffer table count) ∙ is)
 
 -- Law: the same of NOTIFY: FIN alone, all records in their tables, a message where there is a pair, and neither a message nor a pair refused.
 module _ (h : Head) (limit : ℕ) (buffer messages : List ℕ) (count : ℕ) (pairs : List ℕ) (total : ℕ) (bytes : List ℕ) (n : ℕ)

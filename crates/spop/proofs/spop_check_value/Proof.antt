@@ -2,7 +2,9 @@
 -- Assumes nothing.
 use mathlib.Core.Path.{ap, _∙_}
 use borrow.Author.Needs.{needs}
-use Rattle.types.specs.Check.{refusal}
+use Rattle.answer.specs.Order.{first}
+use Rattle.types.specs.Value.{Record}
+use Rattle.types.specs.Check.{valueChecks}
 use Rattle.spop.proofs.spop_check_value.Statement.{statement}
 use Rattle.spop.proofs.spop_check_value.Tie as tie
 
@@ -13,7 +15,7 @@ check-value-requires : tie.Need-check-value-requires
 check-value-requires c κs = search needs
 
 returns : tie.Need-returns
-returns c = c .check-value .ensures ∙ ap (refusal (c .before .before .before .args .buffer .now)) (c .before .value-of .ensures)
+returns c = c .check-value .ensures ∙ ap (λ (v : Record). first (valueChecks (c .before .before .before .args .buffer .now) v)) (c .before .value-of .ensures)
 
 pub spop-check-value-spec : {M : Type 1} → statement M
 spop-check-value-spec = tie.close (tie.spec value-of-requires check-value-requires returns)

@@ -3,7 +3,7 @@
 use borrow.Author.Needs.{needs}
 use mathlib.Core.Path.{sym, ap, _∙_}
 use Rattle.varint.specs.Promise.{numberRead}
-use Rattle.spop.specs.Told.{told-done, told-refused}
+use Rattle.spop.proofs.Telling.{told-done, told-refused}
 use Rattle.spop.proofs.spop_decode_varint.Statement.{statement}
 use Rattle.spop.proofs.spop_decode_varint.Tie as tie
 

@@ -1,7 +1,7 @@
 -- `spop::spop_encode_varint` meets its contract: what the writer answers is told, and what it leaves is left.
 -- Assumes nothing.
 use borrow.Author.Needs.{needs}
-use Rattle.spop.specs.Told.{told-writes}
+use Rattle.spop.proofs.Telling.{told-writes}
 use Rattle.spop.proofs.spop_encode_varint.Statement.{statement}
 use Rattle.spop.proofs.spop_encode_varint.Tie as tie
 

@@ -1,7 +1,7 @@
 -- `spop::spop_lossy_text` meets its contract: what the writer answers is told, and what it leaves is left.
 -- Assumes nothing.
 use borrow.Author.Needs.{needs}
-use Rattle.spop.specs.Told.{told-writes}
+use Rattle.spop.proofs.Telling.{told-writes}
 use Rattle.spop.proofs.spop_lossy_text.Statement.{statement}
 use Rattle.spop.proofs.spop_lossy_text.Tie as tie
 

@@ -3,7 +3,7 @@
 use mathlib.Core.Path.{sym, ap, _∙_}
 use borrow.Author.Needs.{needs}
 use Rattle.hello.specs.Promise.{sizeOf}
-use Rattle.spop.specs.Told.{told-done, told-refused}
+use Rattle.spop.proofs.Telling.{told-done, told-refused}
 use Rattle.spop.proofs.spop_negotiate_max_frame_size.Statement.{statement}
 use Rattle.spop.proofs.spop_negotiate_max_frame_size.Tie as tie
 

@@ -5,7 +5,7 @@ use borrow.Author.Needs.{needs}
 use Rattle.answer.specs.Answer.{Answer}
 use Rattle.types.specs.Value.{Record}
 use Rattle.types.specs.Promise.{typedRead}
-use Rattle.spop.specs.Told.{told-done, told-refused}
+use Rattle.spop.proofs.Telling.{told-done, told-refused}
 use Rattle.spop.specs.Values.{recordIn, numbersOf}
 use Rattle.spop.proofs.spop_typed_data.Statement.{statement}
 use Rattle.spop.proofs.spop_typed_data.Tie as tie

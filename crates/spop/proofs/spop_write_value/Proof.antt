@@ -9,7 +9,7 @@ use borrow.Author.Needs.{needs}
 use Rattle.answer.specs.Answer.{Answer, within}
 use Rattle.answer.specs.Writes.{Writes}
 use Rattle.types.specs.Form.{valueAnswer}
-use Rattle.spop.specs.Told.{told-writes}
+use Rattle.spop.proofs.Telling.{told-writes}
 use Rattle.spop.proofs.spop_write_value.Statement.{statement}
 use Rattle.spop.proofs.spop_write_value.Tie as tie
 

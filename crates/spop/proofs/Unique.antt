@@ -1,0 +1,80 @@
+-- No second result, and no second content of what is lent, meets the promise of a call.
+use mathlib.Core.Path.{_≡_}
+use mathlib.Core.Bool.{Bool}
+use mathlib.Core.List.{List}
+use Prim.Native.Nat.{ℕ}
+use Rattle.answer.specs.Answer.{Answer}
+use Rattle.answer.proofs.Same.{one-only}
+use Rattle.spop.specs.Told.{Told}
+use Rattle.spop.specs.Promise.{SpopVarintLen, SpopEncodeVarint, SpopDecodeVarint, SpopIsUtf8, SpopSameText, SpopLossyText, SpopTypedData, SpopValueLen, SpopCheckValue, SpopWriteValue, SpopWriteKv, SpopWriteActions, SpopWriteNotify, SpopNegotiateMaxFrameSize, SpopNegotiateVersion}
+
+told-unique : {A : Type 0} {a : Answer A} {r q at also : ℕ} → Told a r at → Told a q also → (r ≡ q) × (at ≡ also)
+told-unique p q = (one-only (p .says) (q .says), one-only (p .where-at) (q .where-at))
+
+-- of any call that tells an answer and leaves something in what else was lent to it
+call-unique : {A B : Type 0} {a : Answer A} {x y left : B} {r q at also : ℕ}
+    → Told a r at × (x ≡ left) → Told a q also × (y ≡ left) → (r ≡ q) × (at ≡ also) × (x ≡ y)
+call-unique p q = let t = told-unique (p .0) (q .0) in (t .0, t .1, one-only (p .1) (q .1))
+
+pub spop-varint-len-unique : (n r q : ℕ) → SpopVarintLen n r → SpopVarintLen n q → r ≡ q
+spop-varint-len-unique n r q p s = one-only p s
+
+pub spop-is-utf8-unique : (bytes : List ℕ) (r q : Bool) → SpopIsUtf8 bytes r → SpopIsUtf8 bytes q → r ≡ q
+spop-is-utf8-unique bytes r q p s = one-only p s
+
+pub spop-same-text-unique : (a b : List ℕ) (r q : Bool) → SpopSameText a b r → SpopSameText a b q → r ≡ q
+spop-same-text-unique a b r q p s = one-only p s
+
+pub spop-value-len-unique : (value buffer : List ℕ) (r q : ℕ) → SpopValueLen value buffer r → SpopValueLen value buffer q → r ≡ q
+spop-value-len-unique value buffer r q p s = one-only p s
+
+pub spop-check-value-unique : (value buffer : List ℕ) (r q : ℕ) → SpopCheckValue value buffer r → SpopCheckValue value buffer q → r ≡ q
+spop-check-value-unique value buffer r q p s = one-only p s
+
+pub spop-negotiate-max-frame-size-unique : (theirs ours r q at also : ℕ)
+    → SpopNegotiateMaxFrameSize theirs ours r at → SpopNegotiateMaxFrameSize theirs ours q also → (r ≡ q) × (at ≡ also)
+spop-negotiate-max-frame-size-unique theirs ours r q at also p s = told-unique p s
+
+pub spop-negotiate-version-unique : (versions : List ℕ) (r q : Bool) (before version other : List ℕ)
+    → SpopNegotiateVersion versions r before version → SpopNegotiateVersion versions q before other → (r ≡ q) × (version ≡ other)
+spop-negotiate-version-unique versions r q before version other p s = (one-only (p .0) (s .0), one-only (p .1) (s .1))
+
+module _ (r q at also : ℕ) where
+  pub spop-decode-varint-unique : (input : List ℕ) (before value other : ℕ)
+      → SpopDecodeVarint input r at before value → SpopDecodeVarint input q also before other → (r ≡ q) × (at ≡ also) × (value ≡ other)
+  spop-decode-varint-unique input before value other p s = call-unique p s
+
+  pub spop-typed-data-unique : (input before value other : List ℕ)
+      → SpopTypedData input r at before value → SpopTypedData input q also before other → (r ≡ q) × (at ≡ also) × (value ≡ other)
+  spop-typed-data-unique input before value other p s = call-unique p s
+
+-- the writers
+module _ (r q at also : ℕ) (old new other : List ℕ) where
+  pub spop-encode-varint-unique : (n : ℕ) → SpopEncodeVarint n r at old new → SpopEncodeVarint n q also old other → (r ≡ q) × (at ≡ also) × (new ≡ other)
+  spop-encode-varint-unique n p s = call-unique p s
+
+  pub spop-lossy-text-unique : (bytes : List ℕ) → SpopLossyText bytes r at old new → SpopLossyText bytes q also old other → (r ≡ q) × (at ≡ also) × (new ≡ other)
+  spop-lossy-text-unique bytes p s = call-unique p s
+
+  pub spop-write-value-unique : (value buffer : List ℕ)
+      → SpopWriteValue value buffer r at old new → SpopWriteValue value buffer q also old other → (r ≡ q) × (at ≡ also) × (new ≡ other)
+  spop-write-value-unique value buffer p s = call-unique p s
+
+  module _ (fin abort : Bool) (stream frame limit : ℕ) (buffer : List ℕ) where
+    pub spop-write-kv-unique : (kind : ℕ) (pairs : List ℕ) (count : ℕ)
+        → SpopWriteKv fin abort stream frame limit buffer kind pairs count r at old new
+        → SpopWriteKv fin abort stream frame limit buffer kind pairs count q also old other
+        → (r ≡ q) × (at ≡ also) × (new ≡ other)
+    spop-write-kv-unique kind pairs count p s = call-unique p s
+
+    pub spop-write-actions-unique : (actions : List ℕ) (count : ℕ)
+        → SpopWriteActions fin abort stream frame limit buffer actions count r at old new
+        → SpopWriteActions fin abort stream frame limit buffer actions count q also old other
+        → (r ≡ q) × (at ≡ also) × (new ≡ other)
+    spop-write-actions-unique actions count p s = call-unique p s
+
+    pub spop-write-notify-unique : (messages : List ℕ) (count : ℕ) (pairs : List ℕ) (total : ℕ)
+        → SpopWriteNotify fin abort stream frame limit buffer messages count pairs total r at old new
+        → SpopWriteNotify fin abort stream frame limit buffer messages count pairs total q also old other
+        → (r ≡ q) × (at ≡ also) × (new ≡ other)
+    spop-write-notify-unique messages count pairs total p s = call-unique p s

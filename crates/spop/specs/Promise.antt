@@ -1,0 +1,64 @@
+-- What each call under a C name promises: its result r, what it leaves in `at`, and in what else is lent, old or before and new afterwards.
+use mathlib.Core.Path.{_≡_}
+use mathlib.Core.Bool.{Bool}
+use mathlib.Core.List.{List}
+use Prim.Native.Nat.{ℕ}
+use lib.ListN.{length}
+use Rattle.answer.specs.Answer.{written}
+use Rattle.answer.specs.Order.{first}
+use Rattle.varint.specs.Number.{number, numberBytes}
+use Rattle.utf8.specs.Text.{isUtf8, lossy, sameText}
+use Rattle.types.specs.Value.{typed}
+use Rattle.types.specs.Form.{valueAnswer, lengthOf}
+use Rattle.types.specs.Check.{valueChecks}
+use Rattle.writer.specs.Frame.{headOf, kvAnswer, actionsAnswer, notifyAnswer}
+use Rattle.hello.specs.Hello.{frameSize, announced, choice}
+use Rattle.spop.specs.Told.{Told, valueOf, chosenOf, Left}
+use Rattle.spop.specs.Values.{recordIn, numbersOf}
+
+abbrev pub SpopVarintLen : ℕ → ℕ → Type 0
+SpopVarintLen n r = r ≡ length (numberBytes n)
+
+abbrev pub SpopEncodeVarint : ℕ → ℕ → ℕ → List ℕ → List ℕ → Type 0
+SpopEncodeVarint n r at old new = Left (written (numberBytes n)) r at old new
+
+abbrev pub SpopDecodeVarint : List ℕ → ℕ → ℕ → ℕ → ℕ → Type 0
+SpopDecodeVarint input r at before value = Told (number input) r at × (value ≡ valueOf (number input) before)
+
+abbrev pub SpopIsUtf8 : List ℕ → Bool → Type 0
+SpopIsUtf8 bytes r = r ≡ isUtf8 bytes
+
+abbrev pub SpopSameText : List ℕ → List ℕ → Bool → Type 0
+SpopSameText a b r = r ≡ sameText a b
+
+abbrev pub SpopLossyText : List ℕ → ℕ → ℕ → List ℕ → List ℕ → Type 0
+SpopLossyText bytes r at old new = Left (written (lossy bytes)) r at old new
+
+abbrev pub SpopTypedData : List ℕ → ℕ → ℕ → List ℕ → List ℕ → Type 0
+SpopTypedData input r at before value = Told (typed input) r at × (value ≡ numbersOf (typed input) before)
+
+abbrev pub SpopValueLen : List ℕ → List ℕ → ℕ → Type 0
+SpopValueLen value buffer r = r ≡ lengthOf (valueAnswer buffer (recordIn value))
+
+abbrev pub SpopCheckValue : List ℕ → List ℕ → ℕ → Type 0
+SpopCheckValue value buffer r = r ≡ first (valueChecks buffer (recordIn value))
+
+abbrev pub SpopWriteValue : List ℕ → List ℕ → ℕ → ℕ → List ℕ → List ℕ → Type 0
+SpopWriteValue value buffer r at old new = Left (valueAnswer buffer (recordIn value)) r at old new
+
+module _ (fin abort : Bool) (stream frame limit : ℕ) (buffer : List ℕ) where
+  abbrev pub SpopWriteKv : ℕ → List ℕ → ℕ → ℕ → ℕ → List ℕ → List ℕ → Type 0
+  SpopWriteKv kind pairs count r at old new = Left (kvAnswer (headOf kind fin abort stream frame) limit buffer pairs count) r at old new
+
+  abbrev pub SpopWriteActions : List ℕ → ℕ → ℕ → ℕ → List ℕ → List ℕ → Type 0
+  SpopWriteActions actions count r at old new = Left (actionsAnswer (headOf 103 fin abort stream frame) limit buffer actions count) r at old new
+
+  abbrev pub SpopWriteNotify : List ℕ → ℕ → List ℕ → ℕ → ℕ → ℕ → List ℕ → List ℕ → Type 0
+  SpopWriteNotify messages count pairs total r at old new =
+      Left (notifyAnswer (headOf 3 fin abort stream frame) limit buffer messages count pairs total) r at old new
+
+abbrev pub SpopNegotiateMaxFrameSize : ℕ → ℕ → ℕ → ℕ → Type 0
+SpopNegotiateMaxFrameSize theirs ours r at = Told (frameSize theirs ours) r at
+
+abbrev pub SpopNegotiateVersion : List ℕ → Bool → List ℕ → List ℕ → Type 0
+SpopNegotiateVersion versions r before version = (r ≡ announced versions) × (version ≡ chosenOf (choice versions) before)
