@@ -162,7 +162,9 @@ def functions_of(module):
         clauses, place = {"requires": [], "ensures": []}, end + 1
         while found := CLAUSE.match(module.code, place):
             place = closing(module.code, found.end()) + 1
-            clauses[found[1]].append(TOKEN.findall(module.code[found.end() + 1 : place - 1]))
+            # A parameter is quoted, as «pair_count», where antt would read its name as an operator's.
+            words = TOKEN.findall(module.code[found.end() + 1 : place - 1])
+            clauses[found[1]].append([word[1:-1] if word[1:-1] in parameters else word for word in words])
         yield head[2], (head[1] or "").strip() == "pub", parameters, clauses
 
 

@@ -1,6 +1,6 @@
 -- Records of a table, as docs/RULES.md sets out their numbers.
 use mathlib.Core.List.{List}
-use Prim.Native.Nat.{ℕ}
+use Prim.Native.Nat.{ℕ, _+_}
 use Rattle.answer.specs.Table.{numberAt}
 use Rattle.frame.specs.declared.Pair.{Pair}
 use Rattle.frame.specs.declared.Action.{Action}
@@ -19,31 +19,19 @@ actionWidth = 7
 -- name start, name length, first pair, and how many pairs
 unfoldable pub messageAt : List ℕ → ℕ → Message
 messageAt table i =
-    record {
-      start = numberAt messageWidth table i 0;
-      len = numberAt messageWidth table i 1;
-      first = numberAt messageWidth table i 2;
-      count = numberAt messageWidth table i 3;
-    }
+    let number = numberAt messageWidth table i in
+    record { start = number 0; len = number 1; first = number 2; count = number 3 }
 
--- key start, key length, and the value's kind and two numbers
+-- a pair whose numbers start at number k of a record: key start, key length, and the value's kind and two numbers
+abbrev pub pairIn : (ℕ → ℕ) → ℕ → Pair
+pairIn number k =
+    record { start = number k; len = number (k + 1); value = record { kind = number (k + 2); a = number (k + 3); b = number (k + 4) } }
+
 unfoldable pub pairAt : List ℕ → ℕ → Pair
-pairAt table i =
-    record {
-      start = numberAt pairWidth table i 0;
-      len = numberAt pairWidth table i 1;
-      value = record { kind = numberAt pairWidth table i 2; a = numberAt pairWidth table i 3; b = numberAt pairWidth table i 4 };
-    }
+pairAt table i = pairIn (numberAt pairWidth table i) 0
 
--- set or unset, the scope, and the five of a pair for the variable's name and value
+-- set or unset, the scope, and a pair for the variable's name and value
 unfoldable pub actionAt : List ℕ → ℕ → Action
 actionAt table i =
-    record {
-      verb = numberAt actionWidth table i 0;
-      scope = numberAt actionWidth table i 1;
-      pair = record {
-        start = numberAt actionWidth table i 2;
-        len = numberAt actionWidth table i 3;
-        value = record { kind = numberAt actionWidth table i 4; a = numberAt actionWidth table i 5; b = numberAt actionWidth table i 6 };
-      };
-    }
+    let number = numberAt actionWidth table i in
+    record { verb = number 0; scope = number 1; pair = pairIn number 2 }

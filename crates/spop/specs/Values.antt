@@ -10,9 +10,6 @@ abbrev pub recordIn : List ℕ → Record
 recordIn l = value (getD l 0 0) (getD l 1 0) (getD l 2 0)
 
 -- the numbers of what was read, in the place of what was there before
-abbrev pub threeOf : Record → List ℕ
-threeOf (value kind a b) = kind ∷ a ∷ b ∷ []
-
 abbrev pub numbersOf : Answer Record → List ℕ → List ℕ
-numbersOf (done v n) before = threeOf v
+numbersOf (done (value kind a b) n) before = kind ∷ a ∷ b ∷ []
 numbersOf (refused number place) before = before

@@ -12,15 +12,13 @@ use Rattle.types.specs.Form.{part, inside, writableRecord, ranged}
 abbrev pub stringChecks : List ℕ → ℕ → ℕ → List Check
 stringChecks buffer start len =
     (16, inside buffer start len)
-    ∷ (15, isUtf8 (part buffer start len))
-    ∷ []
+    ∷ (15, isUtf8 (part buffer start len)) ∷ []
 
 -- a value's range, and a string's text
 abbrev pub partChecks : List ℕ → Record → List Check
 partChecks buffer (value kind a b) =
     (16, ranged buffer (value kind a b))
-    ∷ (15, not (eqb kind 8) || isUtf8 (part buffer a b))
-    ∷ []
+    ∷ (15, not (eqb kind 8) || isUtf8 (part buffer a b)) ∷ []
 
 -- the numbers of its record, and then these
 abbrev pub valueChecks : List ℕ → Record → List Check

@@ -64,8 +64,7 @@ shapes =
     ∷ address 4
     ∷ address 16
     ∷ text
-    ∷ text
-    ∷ []
+    ∷ text ∷ []
 
 unfoldable pub shape : ℕ → Shape
 shape kind = getD shapes kind reserved

@@ -26,8 +26,7 @@ rows =
     ∷ row (0xEE to 0xEF) (0x80 to 0xBF) 3
     ∷ row (0xF0 to 0xF0) (0x90 to 0xBF) 4
     ∷ row (0xF1 to 0xF3) (0x80 to 0xBF) 4
-    ∷ row (0xF4 to 0xF4) (0x80 to 0x8F) 4
-    ∷ []
+    ∷ row (0xF4 to 0xF4) (0x80 to 0x8F) 4 ∷ []
 
 -- the places after the first, as many as that: the next from its own range, the others from 80 to BF
 unfoldable pub follow : ℕ → Range → List Range

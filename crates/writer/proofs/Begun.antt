@@ -20,7 +20,7 @@ use Rattle.frame.specs.declared.Head.{Head}
 use Rattle.frame.specs.Head.{fourBytes, headBytes, frameBytes}
 use Rattle.frame.proofs.Laws.{four-long}
 use Rattle.writer.specs.Frame.{limited}
-use Rattle.writer.specs.Inner.{capped, begun, refusedWith}
+use Rattle.writer.specs.Inner.{capped, begun}
 use Rattle.writer.proofs.Capped.{capped-in, capped-below}
 
 -- ---- the limit
@@ -74,7 +74,7 @@ module _ (room limit : ℕ) (h : Head) (len : ℕ) where
   begun-in l g = rw (le-leb (length (headBytes h) + len) limit l, le-leb (4 + (length (headBytes h) + len)) room g)
 
 -- a refusal, as such an answer is kept
-pub writes-refused : {a : Answer (List ℕ)} (n : ℕ) (old : List ℕ) → a ≡ refused n 0 → Writes a (refusedWith n 0) old old
+pub writes-refused : {a : Answer (List ℕ)} (n : ℕ) (old : List ℕ) → a ≡ refused n 0 → Writes a (w.Refused (record { number = n; place = 0 })) old old
 writes-refused n old e = rw e (record { says = refl; holds = refl })
 
 -- A frame that is begun: its payload's length is the measured one, its front is written, and there is room for all.

@@ -41,10 +41,9 @@ pairsBytes buffer pairs count = joined (pairBytes buffer) (records (pairAt pairs
 
 unfoldable pub kvAnswer : Head → ℕ → List ℕ → List ℕ → ℕ → Answer (List ℕ)
 kvAnswer h limit buffer pairs count =
-    after
-    ((14, kvAllowed h)
-    ∷ (16, holds pairWidth pairs count)
-    ∷ [])
+    after (
+    (14, kvAllowed h)
+    ∷ (16, holds pairWidth pairs count) ∷ [])
     (unless (firstRefused (kvRefusal buffer pairs) count)
     (limited limit h (pairsBytes buffer pairs count)))
 
@@ -55,10 +54,9 @@ actionsBytes buffer actions count = joined (actionBytes buffer) (records (action
 
 unfoldable pub actionsAnswer : Head → ℕ → List ℕ → List ℕ → ℕ → Answer (List ℕ)
 actionsAnswer h limit buffer actions count =
-    after
-    ((14, finAlone h)
-    ∷ (16, holds actionWidth actions count)
-    ∷ [])
+    after (
+    (14, finAlone h)
+    ∷ (16, holds actionWidth actions count) ∷ [])
     (unless (firstRefused (actionRefusal buffer actions) count)
     (limited limit h (actionsBytes buffer actions count)))
 
@@ -70,12 +68,11 @@ messagesBytes buffer messages count pairs = joined (messageBytes buffer pairs) (
 -- Without a message there is to be no pair.
 unfoldable pub notifyAnswer : Head → ℕ → List ℕ → List ℕ → ℕ → List ℕ → ℕ → Answer (List ℕ)
 notifyAnswer h limit buffer messages count pairs total =
-    after
-    ((14, finAlone h)
+    after (
+    (14, finAlone h)
     ∷ (16, holds messageWidth messages count)
     ∷ (16, holds pairWidth pairs total)
-    ∷ (14, not (eqb count 0) || eqb total 0)
-    ∷ [])
+    ∷ (14, not (eqb count 0) || eqb total 0) ∷ [])
     (unless (firstRefused (messageRefusal buffer total messages count) count)
     (unless (firstRefused (pairRefusal buffer pairs) total)
     (limited limit h (messagesBytes buffer messages count pairs))))

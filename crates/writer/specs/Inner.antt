@@ -5,8 +5,6 @@ use mathlib.Core.List.{List, [], _∷_, _++_}
 use Prim.Native.Nat.{ℕ, _+_, _*_, _≤_, _<_}
 use lib.Dec.{leb}
 use lib.ListN.{length}
-use Rattle.answer.specs.declared.Written.{Written}
-use Rattle.answer.specs.declared.Written.the-variants as w
 use Rattle.answer.specs.Answer.{Answer, written}
 use Rattle.answer.specs.Order.{after, firstRefused}
 use Rattle.answer.specs.Inner.{Sound}
@@ -59,7 +57,3 @@ begun room limit h len =
     ∷ (11, leb (4 + behind) room)
     ∷ [])
     (written (fourBytes behind ++ headBytes h))
-
--- what a refusal is, as the calls answer it
-abbrev pub refusedWith : ℕ → ℕ → Written
-refusedWith n place = w.Refused (record { number = n; place = place })
