@@ -215,23 +215,31 @@ fn stride(s: &[u8]) -> Step
 fn ascii_front(s: &[u8]) -> usize
     ensures { λ r. ⌜ AsciiTo (now (s .entry)) r ⌝ }
 {
-    let n = ascii_eights(s);
-    if n == s.len() {
-        return n;
-    }
+    let n = ascii_blocks(s);
     if ascii_rest(s, n) {
         return s.len();
     }
-    ascii_run(s, n)
+    let m = ascii_eights(s, n);
+    if ascii_rest(s, m) {
+        return s.len();
+    }
+    ascii_run(s, m)
 }
 
-// Whether all bytes are ASCII, where the first n are: by the last eight, or the first and the last four, which may be tested twice.
-// A yes is sure, and a no may be of bytes that are too few.
+// Whether all bytes are ASCII, where the first n are: by the last 32 or eight, or the first and the last four, which may be tested
+// twice. A yes is sure, and a no may be of bytes that are too few.
 fn ascii_rest(s: &[u8], n: usize) -> bool
     requires { ⌜ AsciiTo (now s) n ⌝ }
     ensures { λ r. ⌜ (r ≡ true → AsciiTo (now (s .entry)) (length (now (s .entry)))) ⌝ }
 {
     let len = s.len();
+    if 32 <= len {
+        let from = len - 32;
+        if n < from {
+            return false;
+        }
+        return block_ascii(&s[from..]);
+    }
     if 8 <= len {
         let from = len - 8;
         if n < from {
@@ -269,11 +277,12 @@ fn ascii_run(s: &[u8], n: usize) -> usize
     at
 }
 
-// As many of them as come in eights.
-fn ascii_eights(s: &[u8]) -> usize
+// As many of them as come in eights, where the first n are.
+fn ascii_eights(s: &[u8], n: usize) -> usize
+    requires { ⌜ AsciiTo (now s) n ⌝ }
     ensures { λ r. ⌜ AsciiTo (now (s .entry)) r ⌝ }
 {
-    let mut at = ascii_blocks(s);
+    let mut at = n;
     while 8 <= s.len() - at {
         if !eight_ascii(&s[at..]) {
             return at;

@@ -12,16 +12,13 @@ use Rattle.utf8.proofs.ascii_eights.Statement.{statement}
 use Rattle.utf8.proofs.ascii_eights.Tie as tie
 
 abbrev Inv-loop : tie.InvT-loop
-Inv-loop s at₀ at = AsciiTo s at
+Inv-loop s n at₀ at = AsciiTo s at
 
 abbrev μ-loop : tie.MeasureT-loop
-μ-loop s at₀ at = length s - at
-
-ascii-blocks-requires : tie.Need-ascii-blocks-requires Inv-loop μ-loop
-ascii-blocks-requires c κs = search needs
+μ-loop s n at₀ at = length s - at
 
 loop-holds : tie.Need-loop-holds Inv-loop μ-loop
-loop-holds c = c .ascii-blocks .ensures
+loop-holds c = c .before .pre
 
 sub-loop : tie.Need-sub-loop Inv-loop μ-loop
 sub-loop c = c .loop .inv .there
@@ -36,7 +33,7 @@ part-eight-ascii-end : tie.Need-part-eight-ascii-end Inv-loop μ-loop
 part-eight-ascii-end c = search needs
 
 eight-ascii-requires : tie.Need-eight-ascii-requires Inv-loop μ-loop
-eight-ascii-requires c κs = block-lent (c .before .before .before .before .before .args .s .now) (c .before .before .loop .at) 8 (c .before .loop-test .taken)
+eight-ascii-requires c κs = block-lent (c .before .before .before .before .args .s .now) (c .before .before .loop .at) 8 (c .before .loop-test .taken)
 
 returns : tie.Need-returns Inv-loop μ-loop
 returns c = c .before .before .before .before .loop .inv
@@ -49,7 +46,7 @@ loop-less c = omega (arith, c .before .before .before .loop-test .taken)
 
 loop-again : tie.Need-loop-again Inv-loop μ-loop
 loop-again c = let k = c .before .before .before .before in
-    block-on (k .before .before .before .args .s .now) (k .loop .at) 8 (c .before .before .before .loop-test .taken) (k .loop .inv) (c .before .eight-ascii .ensures) (not-false _ (c .if1 .left))
+    block-on (k .before .before .args .s .now) (k .loop .at) 8 (c .before .before .before .loop-test .taken) (k .loop .inv) (c .before .eight-ascii .ensures) (not-false _ (c .if1 .left))
 
 returns-2 : tie.Need-returns-2 Inv-loop μ-loop
 returns-2 c = c .before .loop .inv
@@ -60,7 +57,6 @@ ascii-eights-spec =
     (tie.spec
     Inv-loop
     μ-loop
-    ascii-blocks-requires
     loop-holds
     sub-loop
     sub-eight-ascii

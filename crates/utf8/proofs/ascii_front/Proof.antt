@@ -4,17 +4,23 @@ use borrow.Author.Needs.{needs}
 use Rattle.utf8.proofs.ascii_front.Statement.{statement}
 use Rattle.utf8.proofs.ascii_front.Tie as tie
 
-ascii-eights-requires : tie.Need-ascii-eights-requires
-ascii-eights-requires c κs = search needs
-
-returns : tie.Need-returns
-returns c = search needs
+ascii-blocks-requires : tie.Need-ascii-blocks-requires
+ascii-blocks-requires c κs = search needs
 
 ascii-rest-requires : tie.Need-ascii-rest-requires
 ascii-rest-requires c κs = search needs
 
+returns : tie.Need-returns
+returns c = c .before .ascii-rest .ensures (c .if1 .taken)
+
+ascii-eights-requires : tie.Need-ascii-eights-requires
+ascii-eights-requires c κs = search needs
+
+ascii-rest-requires-2 : tie.Need-ascii-rest-requires-2
+ascii-rest-requires-2 c κs = search needs
+
 returns-2 : tie.Need-returns-2
-returns-2 c = c .before .ascii-rest .ensures (c .if2 .taken)
+returns-2 c = c .before .ascii-rest2 .ensures (c .if2 .taken)
 
 ascii-run-requires : tie.Need-ascii-run-requires
 ascii-run-requires c κs = search needs
@@ -26,9 +32,11 @@ pub ascii-front-spec : {M : Type 1} → statement M
 ascii-front-spec =
     tie.close
     (tie.spec
-    ascii-eights-requires
-    returns
+    ascii-blocks-requires
     ascii-rest-requires
+    returns
+    ascii-eights-requires
+    ascii-rest-requires-2
     returns-2
     ascii-run-requires
     returns-3)
