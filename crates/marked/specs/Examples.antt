@@ -1,4 +1,4 @@
--- Document 01's marked examples, as one statement over a list: each layer adds its own.
+-- The worked examples of docs/RULES.md on numbers, values and sizes, as one statement over a list.
 use mathlib.Core.Path.{_≡_, refl}
 use mathlib.Core.List.{List, [], _∷_}
 use Prim.Native.Nat.{ℕ, _+_, _-_, _^_}
@@ -8,7 +8,7 @@ use Rattle.types.specs.Value.{Record, value, typed, shape, signExtended}
 use Rattle.hello.specs.Hello.{frameSize}
 use Rattle.varint.specs.Number.{worth, more, number, groups, numberBytes}
 
--- what the paper says: a number is these bytes, written and read; some bytes are read so, as a number
+-- what an example says: a number is these bytes, written and read; some bytes are read so, as a number
 -- or as a value; two frame sizes settle so
 pub data Example : Type 0 where
   is : ℕ → List ℕ → Example

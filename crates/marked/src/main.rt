@@ -1,7 +1,8 @@
-// Runs document 01's marked examples and says of each what it found.
+// Runs worked examples of docs/RULES.md and says of each what it found: a line for each, which ends in "as marked" where the answer is the
+// one that is marked here.
 //
-// The same examples are proved of the definitions, as one statement over a list, in specs/Examples.antt. Here the built
-// code is run on them: a line for each, which ends in "as marked" where the answer is the paper's.
+// Those on numbers, values and sizes are also proved of the definitions, as one statement over a list, in specs/Examples.antt. Those on texts
+// and frames are only run.
 ghost use Prim.Native.Nat.{_≤_};
 ghost use lib.ListN.{length};
 use answer::Refusal;
@@ -14,7 +15,7 @@ use varint::Number;
 // What F0 and eight 80 add up to: 240+2^11+2^18+2^25+2^32+2^39+2^46+2^53+2^60.
 const EIGHT_80: u64 = 1_161_999_626_690_365_680;
 
-// What the paper has: the refusal's number or 0, the bytes used or the place, and the number that was read.
+// What is marked: the refusal's number or 0, the bytes used or the place, and the number that was read.
 struct Answer {
     number: u64,
     at: usize,
@@ -78,7 +79,7 @@ fn numbers() {
     );
 }
 
-// Lossy texts, with FF for each mark: document 01's, and the tables of the Unicode standard's section 3.9.
+// Lossy texts, with FF for each mark: two of docs/RULES.md, and the tables of the Unicode standard's section 3.9.
 fn texts() {
     becomes(&[0xED, 0xA0, 0x80], &[0xFF, 0xFF, 0xFF]);
     becomes(&[0xE2, 0x82], &[0xFF]);
@@ -256,7 +257,7 @@ fn ack() {
     );
 }
 
-// The frame that the paper's listing is of.
+// The frame of the listing in docs/RULES.md.
 fn upload() {
     let messages = [0, 5, 0, 2];
     let pairs = [5, 4, 3, 7, 0, 9, 2, 1, 1, 0];
