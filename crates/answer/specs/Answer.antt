@@ -1,4 +1,4 @@
--- The shape that every layer's answers have (document 01, "Numbers of refusal"), and what a writer leaves in the bytes that
+-- The shape that every layer's answers have (docs/RULES.md, "Numbers of refusal"), and what a writer leaves in the bytes that
 -- were lent to it.
 use mathlib.Core.Bool.{cond}
 use mathlib.Core.List.{List, _++_}

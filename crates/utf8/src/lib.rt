@@ -215,6 +215,10 @@ fn stride(s: &[u8]) -> Step
 fn ascii_front(s: &[u8]) -> usize
     ensures { λ r. ⌜ AsciiTo (now (s .entry)) r ⌝ }
 {
+    // Where other scripts go on, the tests of many bytes are not begun.
+    if s.len() == 0 || 128 <= s[0] {
+        return 0;
+    }
     let n = ascii_blocks(s);
     if ascii_rest(s, n) {
         return s.len();

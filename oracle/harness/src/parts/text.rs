@@ -371,7 +371,7 @@ fn time_sameness(name: &str, texts: &[Vec<u8>]) {
 
 // ---------------------------------------------------------------- the list
 
-/// Unicode's worked examples and document 01's, the edges of the table, and random texts.
+/// Unicode's worked examples and docs/RULES.md's, the edges of the table, and random texts.
 pub fn list(random: &mut Random) -> Result<Vec<String>, String> {
     let mut lines = Vec::new();
     for bytes in EXAMPLES {
@@ -393,7 +393,7 @@ pub fn list(random: &mut Random) -> Result<Vec<String>, String> {
     Ok(lines)
 }
 
-/// The Unicode standard's section 3.9, the tables of maximal subparts, and document 01's two.
+/// The Unicode standard's section 3.9, the tables of maximal subparts, and docs/RULES.md's two.
 const EXAMPLES: [&[u8]; 8] = [
     b"",
     &[0xed, 0xa0, 0x80],
