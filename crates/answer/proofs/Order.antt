@@ -3,14 +3,14 @@ use mathlib.Core.Path.{_≡_, refl, sym, ap, _∙_}
 use mathlib.Core.Bool.{Bool, true, false}
 use mathlib.Core.Logic.{⊎-elim}
 use mathlib.Core.List.{List, [], _∷_, _++_}
-use Prim.Native.Nat.{ℕ, zero, suc, _+_, _-_, _≤_, _<_}
+use Prim.Native.Nat.{ℕ, zero, suc, _+_, _-_, _<_}
 use native.Mathlib.Numerals.{add-one}
 use native.Mathlib.Omega.{arith}
 use lib.Dec.{eqb}
 use borrow.Author.Tests.{eq-eqb, ne-eqb, eqb-true, eqb-false}
 use Rattle.answer.specs.declared.Refusal.{Refusal}
 use Rattle.answer.specs.Answer.{Answer, done, refused}
-use Rattle.answer.specs.Order.{Check, first, unless, after, firstRefused}
+use Rattle.answer.specs.Order.{Check, first, unless, firstRefused}
 use Rattle.answer.specs.Inner.{Sound}
 use Rattle.answer.proofs.Cases.{lt-or-le, bool-cases, not-both}
 
@@ -76,13 +76,6 @@ module _ {A : Type 0} (r : Refusal) (a : Answer A) where
       bool-cases (eqb (r .number) 0)
       (λ t. let z = eqb-true (r .number) 0 t in (z, sym (unless-none z) ∙ is))
       (λ t. not-both is (unless-refused (eqb-false (r .number) 0 t)))
-
-module _ {A : Type 0} (checks : List Check) (a : Answer A) where
-  pub after-refused : (n : ℕ) → first checks ≡ n → (n ≡ 0 → ⊥) → after checks a ≡ refused n 0
-  after-refused n e ne = rw (e, ne-eqb n 0 ne)
-
-  pub after-passed : first checks ≡ 0 → after checks a ≡ a
-  after-passed z = rw z
 
 -- ---- records that are not refused
 

@@ -125,9 +125,6 @@ pub writes-refusal : {a : Answer (List ℕ)} (room n place : ℕ) (old : List �
 writes-refusal room n place old e = rw e (record { says = refl; holds = refl })
 
 module _ {a : Answer (List ℕ)} (bytes old : List ℕ) (is : a ≡ written bytes) where
-  pub writes-short : length old < length bytes → Writes (within (length old) a) (w.Refused (record { number = 11; place = 0 })) old old
-  writes-short h = rw is (writes-none bytes old h)
-
   pub writes-whole : (new : List ℕ) (n : ℕ) → length bytes ≤ length old → n ≡ length bytes → new ≡ leaves (written bytes) old
       → Writes (within (length old) a) (w.Done n) old new
   writes-whole new n room m e = rw is (writes-all bytes old new n room m e)

@@ -7,7 +7,7 @@ use Rattle.answer.specs.declared.Refusal.{Refusal}
 use Rattle.answer.specs.declared.Written.{Written}
 use Rattle.answer.specs.declared.Written.the-variants as w
 use Rattle.answer.specs.Answer.{Answer}
-use Rattle.answer.specs.Writes.{said, counted, Writes}
+use Rattle.answer.specs.Writes.{said, Writes}
 
 -- a refusal is its number and its place
 pub refusal-same : (r q : Refusal) → r .number ≡ q .number → r .place ≡ q .place → r ≡ q

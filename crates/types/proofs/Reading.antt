@@ -10,7 +10,7 @@ use lib.Seq.{drop-cons}
 use lib.ListN.{length, drop, getD, length-append, drop-of-length-le}
 use borrow.Author.Tests.{le-leb, lt-leb}
 use Rattle.answer.specs.Answer.{Answer, done, refused, next, behind}
-use Rattle.varint.specs.Number.{worth, more, number}
+use Rattle.varint.specs.Number.{number}
 use Rattle.answer.proofs.Cases.{lt-or-le, answer-cases, not-both}
 use Rattle.varint.proofs.Reading.{accepted, number-place, number-kept, accepted-kept}
 use Rattle.types.proofs.Shapes.{shape-listed, InWidth, signed-again, Fields}

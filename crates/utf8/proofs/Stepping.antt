@@ -9,7 +9,7 @@ use lib.Dec.{leb}
 use lib.ListN.{length, take, drop, getD, drop-of-length-le}
 use lib.Seq.{drop-cons}
 use borrow.Author.Tests.{le-leb, lt-leb, eq-eqb, ne-eqb, leb-true}
-use Rattle.answer.proofs.Cases.{bool-cases, true-false, both-true}
+use Rattle.answer.proofs.Cases.{bool-cases, both-true}
 use Rattle.utf8.specs.Text.{Range, _to_, Row, row, rows, follow, places, inRange, starts, front, Step, ends, char, mark, taken, Led, unused, led, rowFor, stepFor, step, replacement}
 
 -- ---- a byte and its range

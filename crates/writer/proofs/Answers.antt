@@ -1,18 +1,18 @@
 -- Laws about each writer's answer: for each refusal, when.
-use mathlib.Core.Path.{_≡_, refl, sym, ap, _∙_}
+use mathlib.Core.Path.{_≡_, refl, _∙_}
 use mathlib.Core.Bool.{Bool, true, false, not, _||_}
 use mathlib.Core.List.{List, [], _∷_}
-use Prim.Native.Nat.{ℕ, _+_, _*_, _≤_, _<_}
+use Prim.Native.Nat.{ℕ, _*_, _≤_, _<_}
 use native.Mathlib.Omega.{arith}
 use lib.Dec.{eqb}
 use lib.ListN.{length}
 use borrow.Author.Tests.{le-leb, lt-leb, eq-eqb, ne-eqb, eqb-true, eqb-false}
 use Rattle.answer.specs.declared.Refusal.{Refusal}
-use Rattle.answer.specs.Answer.{Answer, done, refused}
-use Rattle.answer.specs.Order.{Check, first, unless, after, firstRefused}
+use Rattle.answer.specs.Answer.{Answer, refused}
+use Rattle.answer.specs.Order.{first, unless, after, firstRefused}
 use Rattle.answer.specs.Table.{holds}
 use Rattle.answer.proofs.Cases.{bool-cases, true-false}
-use Rattle.answer.proofs.Order.{first-none, first-fails, first-holds, after-refused, after-passed, unless-refused, unless-none}
+use Rattle.answer.proofs.Order.{unless-refused, unless-none}
 use Rattle.frame.specs.declared.Head.{Head}
 use Rattle.frame.specs.Records.{pairWidth, actionWidth, messageWidth}
 use Rattle.writer.specs.Pair.{pairRefusal, kvRefusal}

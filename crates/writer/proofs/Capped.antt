@@ -19,11 +19,6 @@ pub capped-most : (most n : ℕ) → capped most n ≤ most + 1
 capped-most most n =
     ⊎-elim (λ h. omega (arith, capped-over most n h)) (λ h. omega (arith, capped-in most n h)) (lt-or-le most n)
 
--- what was capped already
-pub capped-same : (most n : ℕ) → n ≤ most + 1 → capped most n ≡ n
-capped-same most n b =
-    ⊎-elim (λ h. omega (arith, capped-over most n h)) (λ h. omega (arith, capped-in most n h)) (lt-or-le most n)
-
 -- what a capped length says of the length
 pub capped-below : (most n : ℕ) → capped most n ≤ most → capped most n ≡ n
 capped-below most n h = ⊎-elim (λ l. absurd (omega (arith, capped-over most n l))) (λ l. capped-in most n l) (lt-or-le most n)
@@ -38,8 +33,3 @@ capped-left most a b =
 
 pub capped-right : (most a b : ℕ) → capped most (a + capped most b) ≡ capped most (a + b)
 capped-right most a b = ap (capped most) (omega arith) ∙ capped-left most b a ∙ ap (capped most) (omega arith)
-
--- one part more of a sum that is measured part by part
-pub capped-on : (most t a b : ℕ) → capped most (t + (a + b)) ≡ capped most (capped most (t + capped most a) + b)
-capped-on most t a b =
-    sym (capped-left most (t + capped most a) b ∙ ap (capped most) (omega arith) ∙ capped-right most (t + b) a ∙ ap (capped most) (omega arith))

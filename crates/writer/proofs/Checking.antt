@@ -1,15 +1,13 @@
 -- The loop that checks and measures a table's records: those before i pass, and `len` is how many bytes they have as far as it matters.
-use mathlib.Core.Path.{_≡_, refl, sym, ap, _∙_}
+use mathlib.Core.Path.{_≡_, sym, ap, _∙_}
 use mathlib.Core.List.{List, [], _∷_, _++_, append-nil}
 use Prim.Native.Nat.{ℕ, _+_, _≤_, _<_}
 use native.Mathlib.Omega.{arith}
 use lib.ListN.{length, length-append}
-use Rattle.answer.specs.declared.Refusal.{Refusal}
 use Rattle.answer.specs.Table.{records, joined}
 use Rattle.answer.specs.Inner.{Sound}
 use Rattle.answer.proofs.Order.{sound-none, sound-on, none-refused, refused-here}
 use Rattle.answer.proofs.Records.{records-none, records-snoc, joined-none, joined-on, joined-both}
-use Rattle.writer.specs.declared.Checked.{Checked}
 use Rattle.writer.specs.Inner.{capped, Checks}
 use Rattle.writer.proofs.Capped.{capped-in, capped-most, capped-left, capped-right}
 

@@ -9,7 +9,7 @@ use lib.Dec.{eqb, leb}
 use lib.ListN.{length}
 use borrow.Author.Tests.{leb-true}
 use Rattle.answer.specs.Answer.{Answer, done, written}
-use Rattle.answer.specs.Order.{Check, first, unless, after, firstRefused}
+use Rattle.answer.specs.Order.{first, unless, firstRefused}
 use Rattle.answer.specs.Table.{holds}
 use Rattle.answer.specs.Inner.{Sound}
 use Rattle.answer.proofs.Order.{first-passed, unless-passed, none-before}

@@ -1,7 +1,6 @@
 -- Laws about messages: how their checks and bytes unroll, what a list that passes has, and that the arguments of all messages are all the
 -- pairs, in their order.
 use mathlib.Core.Path.{_≡_, refl, sym, ap, ap₂, _∙_}
-use mathlib.Core.Logic.{⊎-elim}
 use mathlib.Core.Bool.{Bool, true, false, not, _||_}
 use mathlib.Core.List.{List, [], _∷_, _++_, append-assoc, append-nil}
 use Prim.Native.Nat.{ℕ, zero, suc, _+_, _-_, _*_, _≤_, _<_}
@@ -9,13 +8,13 @@ use native.Mathlib.Numerals.{add-one}
 use native.Mathlib.Omega.{arith}
 use lib.Dec.{eqb, leb}
 use lib.ListN.{length, length-append}
-use borrow.Author.Tests.{le-leb, lt-leb, eq-eqb, ne-eqb, eqb-true, eqb-false, leb-true}
-use Rattle.answer.specs.Order.{Check, first}
+use borrow.Author.Tests.{le-leb, lt-leb, eq-eqb, eqb-true, eqb-false, leb-true}
+use Rattle.answer.specs.Order.{first}
 use Rattle.answer.specs.Table.{records, joined}
 use Rattle.answer.specs.Inner.{Sound}
 use Rattle.answer.proofs.Cases.{bool-cases}
-use Rattle.answer.proofs.Order.{first-fails, first-holds, first-passed}
-use Rattle.answer.proofs.Records.{records-none, records-snoc, records-both, joined-none, joined-on, joined-both}
+use Rattle.answer.proofs.Order.{first-fails, first-passed}
+use Rattle.answer.proofs.Records.{records-snoc, records-both, joined-both}
 use Rattle.varint.specs.Number.{numberBytes}
 use Rattle.types.specs.Form.{part, stringBytes}
 use Rattle.types.specs.Check.{stringChecks}
@@ -25,7 +24,7 @@ use Rattle.frame.specs.Records.{messageAt, pairWidth, pairAt}
 use Rattle.writer.specs.Pair.{pairBytes, pairRefusal}
 use Rattle.writer.specs.Message.{nameBytes, messageBytes, messageChecks, runStart, messageRefusal}
 use Rattle.writer.specs.Frame.{pairsBytes, messagesBytes}
-use Rattle.writer.specs.Inner.{FormedRun, Ready, AllReady}
+use Rattle.writer.specs.Inner.{AllReady}
 use Rattle.types.proofs.Writing.{string-long}
 use Rattle.types.proofs.Checking.{string-range}
 

@@ -1,23 +1,21 @@
 -- Laws about pairs: how their checks and bytes unroll, and what a pair that passes them has.
 use mathlib.Core.Path.{_≡_, refl, sym, ap, _∙_}
-use mathlib.Core.Logic.{⊎-elim}
-use mathlib.Core.Bool.{Bool, true, false, not}
-use mathlib.Core.List.{List, [], _∷_, _++_}
+use mathlib.Core.Bool.{true, false}
+use mathlib.Core.List.{List, [], _++_}
 use Prim.Native.Nat.{ℕ, _+_, _-_, _*_, _≤_, _<_}
 use native.Mathlib.Omega.{arith}
 use lib.ListN.{length, take, drop, length-append}
 use Rattle.answer.specs.declared.Written.{Written}
 use Rattle.answer.specs.Answer.{written, within, leaves}
 use Rattle.answer.specs.Writes.{Wrote, Writes}
-use Rattle.answer.specs.Order.{Check, first}
+use Rattle.answer.specs.Order.{first}
 use Rattle.answer.specs.Table.{records, some}
 use Rattle.answer.specs.Inner.{Sound}
-use Rattle.answer.proofs.Cases.{lt-or-le, bool-cases}
 use Rattle.answer.proofs.Order.{Numbered, first-fails, first-holds, first-passed, first-both, first-then, first-front, first-none}
 use Rattle.answer.proofs.Parts.{room-counted, room-leaves}
 use Rattle.varint.specs.Number.{numberBytes}
 use Rattle.types.specs.Value.{Record, value}
-use Rattle.types.specs.Form.{part, inside, stringBytes, valueBytes, writableRecord, ranged, valueAnswer, lengthOf}
+use Rattle.types.specs.Form.{part, stringBytes, valueBytes, writableRecord, ranged, valueAnswer, lengthOf}
 use Rattle.types.specs.Check.{stringChecks, partChecks}
 use Rattle.types.specs.declared.Value.{Value}
 use Rattle.types.specs.Promise.{recordOf, WriteString, WriteValue}

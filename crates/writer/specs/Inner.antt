@@ -7,7 +7,6 @@ use lib.Dec.{leb}
 use lib.ListN.{length}
 use Rattle.answer.specs.Answer.{Answer, written}
 use Rattle.answer.specs.Order.{after, firstRefused}
-use Rattle.answer.specs.Inner.{Sound}
 use Rattle.types.specs.Form.{writableRecord, ranged}
 use Rattle.types.specs.Promise.{recordOf}
 use Rattle.frame.specs.declared.Head.{Head}

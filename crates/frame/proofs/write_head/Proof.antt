@@ -2,8 +2,8 @@
 -- numbers into the tail behind them, one after the other.
 -- Assumes nothing.
 use borrow.Author.Needs.{needs}
-use mathlib.Core.Path.{_≡_, refl, sym, ap, _∙_}
-use mathlib.Core.List.{List, [], _∷_, _++_}
+use mathlib.Core.Path.{_≡_, ap, _∙_}
+use mathlib.Core.List.{List, _∷_, _++_}
 use Prim.Native.Nat.{ℕ, _+_, _-_, _≤_}
 use native.Mathlib.Omega.{arith}
 use lib.ListN.{length, length-append}
@@ -12,7 +12,7 @@ use Rattle.answer.specs.Answer.{written, leaves}
 use Rattle.varint.specs.Number.{numberBytes}
 use Rattle.varint.proofs.Writing.{length-most}
 use Rattle.answer.proofs.Output.{leaves-length, leaves-writes, writes-none, writes-all}
-use Rattle.frame.specs.Head.{fourBytes, flagsOf, headBytes}
+use Rattle.frame.specs.Head.{fourBytes, headBytes}
 use Rattle.frame.proofs.Laws.{four-long, startBytes, start-long, head-length, head-parts}
 use Rattle.frame.proofs.write_head.Statement.{statement}
 use Rattle.frame.proofs.write_head.Tie as tie

@@ -1,15 +1,12 @@
 -- `writer::begin_frame` meets its contract: past the two tests the head finds its room too.
 -- Assumes nothing.
 use borrow.Author.Needs.{needs}
-use mathlib.Core.Path.{_≡_, ap}
 use mathlib.Core.List.{_++_}
-use Prim.Native.Nat.{ℕ, _+_, _^_, _≤_, _<_}
+use Prim.Native.Nat.{_+_, _^_, _≤_, _<_}
 use native.Mathlib.Omega.{arith}
 use lib.ListN.{length}
 use borrow.Author.Tests.{le-leb}
 use Rattle.varint.proofs.Writing.{length-most}
-use Rattle.answer.specs.Answer.{written, within}
-use Rattle.answer.specs.Writes.{Writes}
 use Rattle.frame.specs.Head.{fourBytes, headBytes}
 use Rattle.frame.proofs.Laws.{head-length}
 use Rattle.writer.proofs.Begun.{begun-over, begun-short, begun-in, front-length, writes-refused}

@@ -1,12 +1,11 @@
 -- `writer::action::put_action` meets its contract: three bytes, and a pair or a name in the tail behind them.
 -- Assumes nothing.
 use borrow.Author.Needs.{needs}
-use mathlib.Core.Path.{_≡_, refl, sym, ap, _∙_}
+use mathlib.Core.Path.{_≡_, refl}
 use mathlib.Core.List.{List, [], _∷_, _++_}
 use Prim.Native.Nat.{ℕ, _+_, _-_, _≤_}
 use native.Mathlib.Omega.{arith}
 use lib.ListN.{length, take, drop}
-use Rattle.answer.specs.Answer.{written, leaves}
 use Rattle.answer.proofs.Parts.{both-start, both-room, both-count, both-leaves}
 use Rattle.types.specs.Form.{stringBytes}
 use Rattle.writer.specs.Pair.{keyOf, pairBytes}

@@ -1,12 +1,9 @@
 -- `writer::kv::key_met` meets its contract: the loop compares the key with one earlier key after the other.
 -- Assumes nothing.
-use borrow.Author.Needs.{needs}
-use mathlib.Core.Path.{_≡_, sym, ap, ap₂, _∙_}
+use mathlib.Core.Path.{_≡_, sym, ap₂, _∙_}
 use Prim.Native.Nat.{ℕ, _+_, _-_, _≤_, _<_}
 use lib.ListN.{length}
 use native.Mathlib.Omega.{arith}
-use mathlib.Core.Bool.{Bool}
-use Rattle.frame.specs.declared.Pair.{Pair}
 use Rattle.answer.proofs.Loops.{Seeking, seeking-none, seeking-here, seeking-on, seeking-all}
 use Rattle.frame.specs.Records.{pairAt}
 use Rattle.writer.specs.Pair.{sameKey}

@@ -2,7 +2,6 @@
 -- Assumes nothing.
 use borrow.Author.Needs.{needs}
 use mathlib.Core.Path.{sym, _∙_}
-use Rattle.writer.specs.Frame.{headOf}
 use Rattle.writer.proofs.Answers.{kv-haproxy-hello, kv-haproxy-disconnect, kv-agent-hello, kv-agent-disconnect, kv-other}
 use Rattle.writer.proofs.kv.kv_allowed.Statement.{statement}
 use Rattle.writer.proofs.kv.kv_allowed.Tie as tie

@@ -4,14 +4,12 @@
 use borrow.Author.Needs.{needs}
 use mathlib.Core.Path.{_≡_, refl, sym, ap, _∙_}
 use mathlib.Core.Bool.{Bool, true, false, not, _&&_, _||_}
-use mathlib.Core.List.{List}
 use Prim.Native.Nat.{ℕ, _+_, _*_, _≤_}
 use native.Mathlib.Omega.{arith}
 use lib.Dec.{eqb}
 use lib.ListN.{length}
 use borrow.Author.Tests.{not-true, not-false}
 use Rattle.answer.specs.declared.Refusal.{Refusal}
-use Rattle.answer.specs.Answer.{refused}
 use Rattle.answer.specs.Order.{firstRefused}
 use Rattle.answer.specs.Table.{records, joined}
 use Rattle.answer.specs.Inner.{Sound}
@@ -21,7 +19,7 @@ use Rattle.frame.specs.declared.Head.{Head}
 use Rattle.frame.specs.Records.{messageWidth, messageAt, pairWidth}
 use Rattle.writer.specs.Pair.{pairRefusal}
 use Rattle.writer.specs.Message.{nameBytes, messageRefusal}
-use Rattle.writer.specs.Frame.{headOf, finAlone, pairsBytes, messagesBytes}
+use Rattle.writer.specs.Frame.{headOf, finAlone, pairsBytes}
 use Rattle.writer.specs.Inner.{capped}
 use Rattle.writer.proofs.Capped.{capped-left, capped-right, capped-most}
 use Rattle.writer.proofs.Messages.{all-ready, payload-length}
