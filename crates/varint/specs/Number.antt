@@ -18,8 +18,8 @@ use Rattle.answer.specs.Answer.{Answer, done, refused}
 unfoldable pub worth : ℕ → ℕ → ℕ
 worth k b = cond (eqb k 9) (b % 16 * 2 ^ 60) (b * 2 ^ (7 * k - 3))
 
--- The number that goes on with these bytes, after k bytes that add up to sum. Of each byte, in the
--- order of docs/RULES.md: it is missing (3), it is the eleventh (7), the sum passes 2^64-1 (7); a byte below 128 is the last.
+-- The number that goes on with these bytes, after k bytes that add up to sum. Of each byte, in the order of docs/RULES.md: it is
+-- missing (3), it is the eleventh (7), the sum passes 2^64-1 (7); a byte below 128 is the last.
 unfoldable pub more : ℕ → ℕ → List ℕ → Answer ℕ
 more sum k [] = refused 3 k
 more sum k (b ∷ s) =

@@ -26,7 +26,8 @@ limited limit h payload = after ((12, leb (length (headBytes h ++ payload)) limi
 abbrev pub finAlone : Head → Bool
 finAlone h = h .fin && not (h .abort)
 
--- HAPROXY-HELLO and HAPROXY-DISCONNECT have any metadata; AGENT-HELLO and AGENT-DISCONNECT have FIN alone and both numbers 0
+-- HAPROXY-HELLO and HAPROXY-DISCONNECT, which are 1 and 2, have any metadata; AGENT-HELLO and AGENT-DISCONNECT, which are 101 and
+-- 102, have FIN alone and both numbers 0 (docs/RULES.md)
 abbrev pub agentAllowed : Head → Bool
 agentAllowed h = finAlone h && (eqb (h .stream) 0 && eqb (h .frame) 0)
 
