@@ -10,23 +10,23 @@ use lib.Dec.{eqb}
 use borrow.Author.Tests.{eq-eqb, ne-eqb, eqb-true, eqb-false}
 use Rattle.answer.specs.declared.Refusal.{Refusal}
 use Rattle.answer.specs.Answer.{Answer, done, refused}
-use Rattle.answer.specs.Order.{Check, first, unless, firstRefused}
+use Rattle.answer.specs.Order.{Check, inOrder, first, unless, firstRefused}
 use Rattle.answer.specs.Inner.{Sound}
 use Rattle.answer.proofs.Cases.{lt-or-le, bool-cases, not-both}
 
 -- ---- one line after the other
 
 pub first-none : first [] ≡ 0
-unfolding first
+unfolding inOrder
 first-none = refl
 
 module _ (n : ℕ) (test : Bool) (checks : List Check) where
   pub first-fails : test ≡ false → first ((n, test) ∷ checks) ≡ n
-  unfolding first
+  unfolding inOrder
   first-fails e = rw e
 
   pub first-holds : test ≡ true → first ((n, test) ∷ checks) ≡ first checks
-  unfolding first
+  unfolding inOrder
   first-holds e = rw e
 
   -- where all hold, the first does and the others do
@@ -43,14 +43,14 @@ Numbered ((n, test) ∷ checks) = (n ≡ 0 → ⊥) × Numbered checks
 
 -- where the first order refuses, so do both
 pub first-both : (xs ys : List Check) → (first xs ≡ 0 → ⊥) → first (xs ++ ys) ≡ first xs
-unfolding first
+unfolding inOrder
 first-both [] ys ne = absurd (ne refl)
 first-both ((n, test) ∷ xs) ys ne =
     bool-cases test (λ t. rw t (first-both xs ys (λ z. ne (rw t z)))) (λ t. rw t)
 
 -- and where it does not, both do as the second
 pub first-then : (xs ys : List Check) → Numbered xs → first xs ≡ 0 → first (xs ++ ys) ≡ first ys
-unfolding first
+unfolding inOrder
 first-then [] ys some z = refl
 first-then ((n, test) ∷ xs) ys some z =
     bool-cases test (λ t. rw t (first-then xs ys (some .1) (rw t at z))) (λ t. absurd (some .0 (rw t at z)))

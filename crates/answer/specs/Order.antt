@@ -10,10 +10,14 @@ use Rattle.answer.specs.Answer.{Answer, refused}
 abbrev pub Check : Type 0
 Check = ℕ × Bool
 
+-- The order as such: a line has the answer that is given where its test does not hold, and where all hold it is the last one.
+unfoldable pub inOrder : {A : Type 0} → List (A × Bool) → A → A
+inOrder [] last = last
+inOrder ((answer, holds) ∷ lines) last = cond holds (inOrder lines last) answer
+
 -- the number of the first line whose test does not hold; 0 where all hold
-unfoldable pub first : List Check → ℕ
-first [] = 0
-first ((number, holds) ∷ checks) = cond holds (first checks) number
+abbrev pub first : List Check → ℕ
+first checks = inOrder checks 0
 
 -- a refusal, where its number is not 0; else what comes after it
 abbrev pub unless : {A : Type 0} → Refusal → Answer A → Answer A

@@ -5,14 +5,18 @@
 --     METADATA    : <FLAGS:4 bytes> <STREAM-ID:varint> <FRAME-ID:varint>
 use mathlib.Core.Bool.{Bool, cond}
 use mathlib.Core.List.{List, [], _∷_, _++_}
-use Prim.Native.Nat.{ℕ, _+_, _/_, _%_, _^_}
-use lib.ListN.{length}
+use Prim.Native.Nat.{ℕ, _+_, _*_, _/_, _%_, _^_}
+use lib.ListN.{length, getD}
 use Rattle.varint.specs.Number.{numberBytes}
 use Rattle.frame.specs.declared.Head.{Head}
 
 -- "4 bytes in network byte order": the highest first
 unfoldable pub fourBytes : ℕ → List ℕ
 fourBytes n = n / 2 ^ 24 % 256 ∷ n / 2 ^ 16 % 256 ∷ n / 2 ^ 8 % 256 ∷ n % 256 ∷ []
+
+-- the number that four bytes at the front are so
+unfoldable pub fourNumber : List ℕ → ℕ
+fourNumber s = getD s 0 0 * 2 ^ 24 + getD s 1 0 * 2 ^ 16 + getD s 2 0 * 2 ^ 8 + getD s 3 0
 
 -- bit 0 is FIN, bit 1 is ABORT, the others are reserved
 abbrev pub flagsOf : Bool → Bool → ℕ

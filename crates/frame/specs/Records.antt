@@ -1,7 +1,10 @@
 -- Records of a table, as docs/RULES.md sets out their numbers.
-use mathlib.Core.List.{List}
+use mathlib.Core.Bool.{Bool}
+use mathlib.Core.List.{List, [], _∷_}
 use Prim.Native.Nat.{ℕ, _+_}
 use Rattle.answer.specs.Table.{numberAt}
+use Rattle.utf8.specs.Text.{sameText}
+use Rattle.types.specs.Form.{part}
 use Rattle.frame.specs.declared.Pair.{Pair}
 use Rattle.frame.specs.declared.Action.{Action}
 use Rattle.frame.specs.declared.Message.{Message}
@@ -35,3 +38,17 @@ unfoldable pub actionAt : List ℕ → ℕ → Action
 actionAt table i =
     let number = numberAt actionWidth table i in
     record { verb = number 0; scope = number 1; pair = pairIn number 2 }
+
+-- the numbers of a record, as its table has them
+abbrev pub messageNumbers : Message → List ℕ
+messageNumbers m = m .start ∷ m .len ∷ m .first ∷ m .count ∷ []
+
+abbrev pub pairNumbers : Pair → List ℕ
+pairNumbers p = p .start ∷ p .len ∷ p .value .kind ∷ p .value .a ∷ p .value .b ∷ []
+
+-- a pair's key, and whether two keys are the same text
+abbrev pub keyOf : List ℕ → Pair → List ℕ
+keyOf buffer p = part buffer (p .start) (p .len)
+
+abbrev pub sameKey : List ℕ → Pair → Pair → Bool
+sameKey buffer p q = sameText (keyOf buffer p) (keyOf buffer q)

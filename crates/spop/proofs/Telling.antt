@@ -1,11 +1,17 @@
 -- The ways to keep what a call under a C name promises.
 use mathlib.Core.Path.{_≡_, refl, sym, ap, _∙_}
-use mathlib.Core.List.{List}
+use mathlib.Core.List.{List, [], _∷_}
 use Prim.Native.Nat.{ℕ}
+use native.Mathlib.Omega.{arith}
 use Rattle.answer.specs.declared.Written.{Written}
 use Rattle.answer.specs.Answer.{Answer, done, refused, tells}
 use Rattle.answer.specs.Writes.{said, Writes}
+use Rattle.parser.specs.declared.Metadata.{Metadata}
+use Rattle.parser.specs.Payload.{Contents}
+use Rattle.parser.specs.Frame.{Reading, wait, answered, answerOf}
+use Rattle.parser.specs.Promise.{Counts, frameTells}
 use Rattle.spop.specs.Told.{numberOf, atOf, valueOf, Told}
+use Rattle.spop.specs.Values.{headNumbersOf}
 
 -- a reader was told a value, or a refusal
 module _ {A : Type 0} {a : Answer A} where
@@ -31,3 +37,38 @@ told-writes {a} p t =
       says = t .says ∙ ap numberOf (p .says) ∙ number-tells a;
       where-at = t .where-at ∙ ap atOf (p .says) ∙ at-tells a;
     }
+
+-- ---- what the frame reader said, in numbers
+
+done-apart : {A : Type 0} {x y : A} {m n : ℕ} → _≡_ {A = Answer A} (done x m) (done y n) → (x ≡ y) × (m ≡ n)
+done-apart e = ((cc), (cc))
+
+answered-apart : {A : Type 0} {a b : Answer A} → answered a ≡ answered b → a ≡ b
+answered-apart e = cc
+
+-- each is the answer's, and the head's numbers are its own or stay as they were
+module _ (before : List ℕ) where
+  pub frame-done : (x : Reading (Metadata × Contents)) (m : Metadata) (k : Counts) (n : ℕ) → answered (done (m, k) n) ≡ frameTells x
+      → Told (answerOf x) 0 n × (m .kind ∷ m .flags ∷ m .stream ∷ m .frame ∷ k .0 ∷ k .1 ∷ [] ≡ headNumbersOf (answerOf x) before)
+  frame-done (wait w) m k n e = let z : _≡_ {A = ℕ} 0 1 = cc in absurd (omega arith)
+  frame-done (answered (done y u)) m k n e =
+      let o = done-apart (answered-apart e) in (
+        record { says = refl; where-at = o .1 },
+        ap (λ (h : Metadata × Counts). h .0 .kind ∷ h .0 .flags ∷ h .0 .stream ∷ h .0 .frame ∷ h .1 .0 ∷ h .1 .1 ∷ []) (o .0),
+      )
+  frame-done (answered (refused a p)) m k n e = let q = answered-apart e in let z : _≡_ {A = ℕ} 0 1 = cc in absurd (omega arith)
+
+  pub frame-wait : (x : Reading (Metadata × Contents)) (n : ℕ) → wait n ≡ frameTells x → Told (answerOf x) 1 n × (before ≡ headNumbersOf (answerOf x) before)
+  frame-wait (wait w) n e = (record { says = refl; where-at = cc }, refl)
+  frame-wait (answered (done y u)) n e = let z : _≡_ {A = ℕ} 0 1 = cc in absurd (omega arith)
+  frame-wait (answered (refused a p)) n e = let z : _≡_ {A = ℕ} 0 1 = cc in absurd (omega arith)
+
+  pub frame-refused : (x : Reading (Metadata × Contents)) (number place : ℕ) → answered (refused number place) ≡ frameTells x
+      → {r at : ℕ} → (r ≡ number) × (at ≡ place) → Told (answerOf x) r at × (before ≡ headNumbersOf (answerOf x) before)
+  frame-refused (wait w) number place e t = let z : _≡_ {A = ℕ} 0 1 = cc in absurd (omega arith)
+  frame-refused (answered (done y u)) number place e t = let q = answered-apart e in let z : _≡_ {A = ℕ} 0 1 = cc in absurd (omega arith)
+  frame-refused (answered (refused a p)) number place e t =
+      let q = answered-apart e in
+      let one : number ≡ a = cc in
+      let two : place ≡ p = cc in
+      (record { says = t .0 ∙ one; where-at = t .1 ∙ two }, refl)

@@ -6,7 +6,7 @@ use Prim.Native.Nat.{ℕ}
 use Rattle.answer.specs.Answer.{Answer}
 use Rattle.answer.proofs.Same.{one-only}
 use Rattle.spop.specs.Told.{Told}
-use Rattle.spop.specs.Promise.{SpopVarintLen, SpopEncodeVarint, SpopDecodeVarint, SpopIsUtf8, SpopSameText, SpopLossyText, SpopTypedData, SpopValueLen, SpopCheckValue, SpopWriteValue, SpopWriteKv, SpopWriteActions, SpopWriteNotify, SpopNegotiateMaxFrameSize, SpopNegotiateVersion}
+use Rattle.spop.specs.Promise.{SpopVarintLen, SpopEncodeVarint, SpopDecodeVarint, SpopIsUtf8, SpopSameText, SpopLossyText, SpopTypedData, SpopValueLen, SpopCheckValue, SpopWriteValue, SpopReadPair, SpopReadFrame, SpopWriteKv, SpopWriteActions, SpopWriteNotify, SpopNegotiateMaxFrameSize, SpopNegotiateVersion}
 
 told-unique : {A : Type 0} {a : Answer A} {r q at also : ℕ} → Told a r at → Told a q also → (r ≡ q) × (at ≡ also)
 told-unique p q = (one-only (p .says) (q .says), one-only (p .where-at) (q .where-at))
@@ -47,6 +47,20 @@ module _ (r q at also : ℕ) where
   pub spop-typed-data-unique : (input before value other : List ℕ)
       → SpopTypedData input r at before value → SpopTypedData input q also before other → (r ≡ q) × (at ≡ also) × (value ≡ other)
   spop-typed-data-unique input before value other p s = call-unique p s
+
+  pub spop-read-pair-unique : (input before numbers other : List ℕ)
+      → SpopReadPair input r at before numbers → SpopReadPair input q also before other → (r ≡ q) × (at ≡ also) × (numbers ≡ other)
+  spop-read-pair-unique input before numbers other p s = call-unique p s
+
+  pub spop-read-frame-unique : (input : List ℕ) (limit : ℕ) (before head other oldMessages newMessages otherMessages oldPairs newPairs otherPairs : List ℕ)
+      → SpopReadFrame input limit r at before head oldMessages newMessages oldPairs newPairs
+      → SpopReadFrame input limit q also before other oldMessages otherMessages oldPairs otherPairs
+      → (r ≡ q) × (at ≡ also) × (head ≡ other) × (newMessages ≡ otherMessages) × (newPairs ≡ otherPairs)
+  spop-read-frame-unique input limit before head other oldMessages newMessages otherMessages oldPairs newPairs otherPairs p s =
+      let t = told-unique (p .told) (s .told) in
+      let x = p .fills in
+      let y = s .fills in
+      (t .0, t .1, one-only (p .numbers) (s .numbers), one-only (x .messages) (y .messages), one-only (x .pairs) (y .pairs))
 
 -- the writers
 module _ (r q at also : ℕ) (old new other : List ℕ) where

@@ -11,10 +11,13 @@ use Rattle.utf8.specs.Text.{isUtf8, lossy, sameText}
 use Rattle.types.specs.Value.{typed}
 use Rattle.types.specs.Form.{valueAnswer, lengthOf}
 use Rattle.types.specs.Check.{valueChecks}
+use Rattle.parser.specs.Pair.{pair}
+use Rattle.parser.specs.Frame.{answerOf, frameRead}
+use Rattle.parser.specs.Promise.{roomsOf, contentsRead, Fills}
 use Rattle.writer.specs.Frame.{headOf, kvAnswer, actionsAnswer, notifyAnswer}
 use Rattle.hello.specs.Hello.{frameSize, announced, choice}
 use Rattle.spop.specs.Told.{Told, valueOf, chosenOf, Left}
-use Rattle.spop.specs.Values.{recordIn, numbersOf}
+use Rattle.spop.specs.Values.{recordIn, numbersOf, pairNumbersOf, headNumbersOf}
 
 abbrev pub SpopVarintLen : ℕ → ℕ → Type 0
 SpopVarintLen n r = r ≡ length (numberBytes n)
@@ -45,6 +48,14 @@ SpopCheckValue value buffer r = r ≡ first (valueChecks buffer (recordIn value)
 
 abbrev pub SpopWriteValue : List ℕ → List ℕ → ℕ → ℕ → List ℕ → List ℕ → Type 0
 SpopWriteValue value buffer r at old new = Left (valueAnswer buffer (recordIn value)) r at old new
+
+abbrev pub SpopReadPair : List ℕ → ℕ → ℕ → List ℕ → List ℕ → Type 0
+SpopReadPair input r at before numbers = Told (pair input) r at × (numbers ≡ pairNumbersOf (pair input) before)
+
+pub record SpopReadFrame (input : List ℕ) (limit r at : ℕ) (before head oldMessages newMessages oldPairs newPairs : List ℕ) : Type 0 where
+  pub told : Told (answerOf (frameRead limit (roomsOf oldMessages oldPairs) input)) r at
+  pub numbers : head ≡ headNumbersOf (answerOf (frameRead limit (roomsOf oldMessages oldPairs) input)) before
+  pub fills : Fills (contentsRead (frameRead limit (roomsOf oldMessages oldPairs) input)) oldMessages newMessages oldPairs newPairs
 
 module _ (fin abort : Bool) (stream frame limit : ℕ) (buffer : List ℕ) where
   abbrev pub SpopWriteKv : ℕ → List ℕ → ℕ → ℕ → ℕ → List ℕ → List ℕ → Type 0

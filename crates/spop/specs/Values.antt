@@ -1,9 +1,13 @@
--- A value as a C program has it: three numbers, kind, a and b.
+-- What a C program has in numbers: a value is three of them, kind, a and b; a pair five, and a frame's head six.
 use mathlib.Core.List.{List, [], _∷_}
 use Prim.Native.Nat.{ℕ}
-use lib.ListN.{getD}
+use lib.ListN.{length, getD}
 use Rattle.answer.specs.Answer.{Answer, done, refused}
 use Rattle.types.specs.Value.{Record, value}
+use Rattle.frame.specs.declared.Pair.{Pair}
+use Rattle.frame.specs.Records.{pairNumbers}
+use Rattle.parser.specs.declared.Metadata.{Metadata}
+use Rattle.parser.specs.Payload.{Contents}
 
 -- the record that the numbers are
 abbrev pub recordIn : List ℕ → Record
@@ -13,3 +17,13 @@ recordIn l = value (getD l 0 0) (getD l 1 0) (getD l 2 0)
 abbrev pub numbersOf : Answer Record → List ℕ → List ℕ
 numbersOf (done (value kind a b) n) before = kind ∷ a ∷ b ∷ []
 numbersOf (refused number place) before = before
+
+abbrev pub pairNumbersOf : Answer Pair → List ℕ → List ℕ
+pairNumbersOf (done p n) before = pairNumbers p
+pairNumbersOf (refused number place) before = before
+
+-- type, flags, stream id, frame id, how many messages, how many pairs
+abbrev pub headNumbersOf : Answer (Metadata × Contents) → List ℕ → List ℕ
+headNumbersOf (done x n) before =
+    x .0 .kind ∷ x .0 .flags ∷ x .0 .stream ∷ x .0 .frame ∷ length (x .1 .messages) ∷ length (x .1 .pairs) ∷ []
+headNumbersOf (refused number place) before = before

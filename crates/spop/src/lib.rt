@@ -4,9 +4,12 @@
 // A call answers a refusal's number, 0 for done, and `at` takes what goes with it: the bytes used or written, or the place.
 // Whatever else is lent changes only after 0.
 use answer::Refusal;
+use answer::WAIT;
 use answer::Written;
 use hello::Chosen;
 use hello::Size;
+use parser::FrameRead;
+use parser::PairRead;
 use types::Typed;
 use types::Value;
 use varint::Number;
@@ -15,7 +18,7 @@ ghost use Rattle.answer.specs.Writes.{said};
 ghost use Rattle.types.specs.Promise.{recordOf};
 ghost use Rattle.spop.specs.Told.{Told};
 ghost use Rattle.spop.specs.Values.{recordIn};
-ghost use Rattle.spop.specs.Promise.{SpopVarintLen, SpopEncodeVarint, SpopDecodeVarint, SpopIsUtf8, SpopSameText, SpopLossyText, SpopTypedData, SpopValueLen, SpopCheckValue, SpopWriteValue, SpopWriteKv, SpopWriteActions, SpopWriteNotify, SpopNegotiateMaxFrameSize, SpopNegotiateVersion};
+ghost use Rattle.spop.specs.Promise.{SpopVarintLen, SpopEncodeVarint, SpopDecodeVarint, SpopIsUtf8, SpopSameText, SpopLossyText, SpopTypedData, SpopValueLen, SpopCheckValue, SpopWriteValue, SpopReadPair, SpopReadFrame, SpopWriteKv, SpopWriteActions, SpopWriteNotify, SpopNegotiateMaxFrameSize, SpopNegotiateVersion};
 
 const DONE: u64 = 0;
 
@@ -119,6 +122,57 @@ fn value_of(value: &[u64; 3]) -> Value
         kind: value[0],
         a: value[1],
         b: value[2],
+    }
+}
+
+#[no_mangle]
+pub extern "C" fn spop_read_pair(input: &[u8], pair: &mut [u64; 5], at: &mut u64) -> u64
+    ensures { λ r. ⌜ SpopReadPair (now (input .entry)) r (now (at .exit)) (now (pair .entry)) (now (pair .exit)) ⌝ }
+{
+    match parser::read_pair(input) {
+        PairRead::Done { pair: p, used } => {
+            *pair = [p.start, p.len, p.value.kind, p.value.a, p.value.b];
+            *at = used as u64;
+            DONE
+        },
+        PairRead::Refused(r) => refuse(r, at),
+    }
+}
+
+#[no_mangle]
+pub extern "C" fn spop_read_frame(
+    input: &[u8],
+    limit: u32,
+    messages: &mut [u64],
+    pairs: &mut [u64],
+    head: &mut [u64; 6],
+    at: &mut u64,
+) -> u64
+    ensures { λ r. ⌜ SpopReadFrame (now (input .entry)) limit r (now (at .exit)) (now (head .entry)) (now (head .exit)) (now (messages .entry)) (now (messages .exit)) (now (pairs .entry)) (now (pairs .exit)) ⌝ }
+{
+    match parser::read_frame(input, limit, messages, pairs) {
+        FrameRead::Done {
+            metadata: m,
+            messages: message_count,
+            pairs: pair_count,
+            used,
+        } => {
+            *head = [
+                m.kind,
+                m.flags,
+                m.stream,
+                m.frame,
+                message_count as u64,
+                pair_count as u64,
+            ];
+            *at = used as u64;
+            DONE
+        },
+        FrameRead::Wait(missing) => {
+            *at = missing as u64;
+            WAIT
+        },
+        FrameRead::Refused(r) => refuse(r, at),
     }
 }
 

@@ -8,7 +8,7 @@ use lib.Dec.{eqb}
 use lib.ListN.{length}
 use borrow.Author.Tests.{le-leb, leb-true, eq-eqb, ne-eqb}
 use Rattle.answer.specs.Answer.{done, written}
-use Rattle.answer.specs.Order.{first}
+use Rattle.answer.specs.Order.{inOrder, first}
 use Rattle.answer.proofs.Cases.{bool-cases}
 use Rattle.answer.proofs.Order.{first-fails, first-holds, first-passed}
 use Rattle.utf8.specs.Text.{isUtf8}
@@ -23,15 +23,15 @@ use Rattle.types.proofs.Writing.{form-whole}
 
 module _ (buffer : List ℕ) (start len : ℕ) where
   pub string-outside : inside buffer start len ≡ false → first (stringChecks buffer start len) ≡ 16
-  unfolding first
+  unfolding inOrder
   string-outside h = rw h
 
   pub string-ill : inside buffer start len ≡ true → isUtf8 (part buffer start len) ≡ false → first (stringChecks buffer start len) ≡ 15
-  unfolding first
+  unfolding inOrder
   string-ill h u = rw (h, u)
 
   pub string-well : inside buffer start len ≡ true → isUtf8 (part buffer start len) ≡ true → first (stringChecks buffer start len) ≡ 0
-  unfolding first
+  unfolding inOrder
   string-well h u = rw (h, u)
 
   -- a string that passes lies inside and is UTF-8
@@ -49,15 +49,15 @@ module _ (buffer : List ℕ) (start len : ℕ) where
 module _ (buffer : List ℕ) (kind a b : ℕ) where
   -- of kind 8 it is a string's
   pub part-string : kind ≡ 8 → first (partChecks buffer (value kind a b)) ≡ first (stringChecks buffer a b)
-  unfolding first
+  unfolding inOrder
   part-string e = rw (e, ap points (shape-is .8))
 
   pub part-outside : ranged buffer (value kind a b) ≡ false → first (partChecks buffer (value kind a b)) ≡ 16
-  unfolding first
+  unfolding inOrder
   part-outside h = rw h
 
   pub part-within : (kind ≡ 8 → ⊥) → ranged buffer (value kind a b) ≡ true → first (partChecks buffer (value kind a b)) ≡ 0
-  unfolding first
+  unfolding inOrder
   part-within e h = rw (h, ne-eqb kind 8 e)
 
 module _ (buffer : List ℕ) (v : Record) where

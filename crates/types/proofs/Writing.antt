@@ -11,7 +11,7 @@ use lib.ListN.{length, take, drop, length-append, length-take, length-drop}
 use lib.Seq.{length-take-le}
 use borrow.Author.Tests.{le-leb, lt-leb, ne-eqb, leb-true}
 use Rattle.answer.specs.Answer.{refused, written}
-use Rattle.answer.specs.Order.{first}
+use Rattle.answer.specs.Order.{inOrder, first}
 use Rattle.varint.specs.Number.{numberBytes}
 use Rattle.answer.proofs.Cases.{lt-or-le}
 use Rattle.varint.proofs.Writing.{length-most}
@@ -150,15 +150,15 @@ value-bound buffer k a b =
 
 module _ (buffer : List ℕ) (v : Record) where
   pub form-unwritable : writableRecord v ≡ false → valueAnswer buffer v ≡ refused 14 0
-  unfolding valueAnswer first
+  unfolding valueAnswer inOrder
   form-unwritable h = rw h
 
   pub form-outside : writableRecord v ≡ true → ranged buffer v ≡ false → valueAnswer buffer v ≡ refused 16 0
-  unfolding valueAnswer first
+  unfolding valueAnswer inOrder
   form-outside h r = rw (h, r)
 
   pub form-whole : writableRecord v ≡ true → ranged buffer v ≡ true → valueAnswer buffer v ≡ written (valueBytes buffer v)
-  unfolding valueAnswer first
+  unfolding valueAnswer inOrder
   form-whole h r = rw (h, r)
 
 -- ---- what writing comes to, by the kind's number

@@ -14,8 +14,8 @@ use Rattle.answer.proofs.Order.{first-fails, first-holds, first-passed}
 use Rattle.types.specs.Form.{stringBytes}
 use Rattle.types.specs.Promise.{recordOf}
 use Rattle.frame.specs.declared.Action.{Action}
-use Rattle.frame.specs.Records.{actionAt}
-use Rattle.writer.specs.Pair.{keyOf, pairBytes, pairChecks}
+use Rattle.frame.specs.Records.{actionAt, keyOf}
+use Rattle.writer.specs.Pair.{pairBytes, pairChecks}
 use Rattle.writer.specs.Action.{noValue, actionWritable, actionBytes, actionChecks, actionRefusal}
 use Rattle.types.proofs.Writing.{string-long}
 use Rattle.writer.proofs.Pairs.{formed-passed}

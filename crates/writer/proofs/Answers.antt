@@ -9,7 +9,7 @@ use lib.ListN.{length}
 use borrow.Author.Tests.{le-leb, lt-leb, eq-eqb, ne-eqb, eqb-true, eqb-false}
 use Rattle.answer.specs.declared.Refusal.{Refusal}
 use Rattle.answer.specs.Answer.{Answer, refused}
-use Rattle.answer.specs.Order.{first, unless, after, firstRefused}
+use Rattle.answer.specs.Order.{inOrder, first, unless, after, firstRefused}
 use Rattle.answer.specs.Table.{holds}
 use Rattle.answer.proofs.Cases.{bool-cases, true-false}
 use Rattle.answer.proofs.Order.{unless-refused, unless-none}
@@ -61,16 +61,16 @@ listAnswer allowed width table count number a = after ((14, allowed) ∷ (16, ho
 
 module _ (allowed : Bool) (width : ℕ) (table : List ℕ) (count : ℕ) (number : ℕ → ℕ) (a : Answer (List ℕ)) where
   pub list-metadata : allowed ≡ false → listAnswer allowed width table count number a ≡ refused 14 0
-  unfolding first
+  unfolding inOrder
   list-metadata e = rw e
 
   pub list-count : allowed ≡ true → length table < count * width → listAnswer allowed width table count number a ≡ refused 16 0
-  unfolding first
+  unfolding inOrder
   list-count e l = rw (e, lt-leb (count * width) (length table) l)
 
   module _ (e : allowed ≡ true) (l : count * width ≤ length table) where
     held : listAnswer allowed width table count number a ≡ unless (firstRefused number count) a
-    unfolding first
+    unfolding inOrder
     held = rw (e, le-leb (count * width) (length table) l)
 
     pub list-refused : (r : Refusal) → r ≡ firstRefused number count → (r .number ≡ 0 → ⊥) → listAnswer allowed width table count number a ≡ refused (r .number) (r .place)
@@ -94,29 +94,29 @@ actions-list h limit buffer actions count = refl
 
 module _ (h : Head) (limit : ℕ) (buffer messages : List ℕ) (count : ℕ) (pairs : List ℕ) (total : ℕ) where
   pub notify-metadata : finAlone h ≡ false → notifyAnswer h limit buffer messages count pairs total ≡ refused 14 0
-  unfolding notifyAnswer first
+  unfolding notifyAnswer inOrder
   notify-metadata e = rw e
 
   module _ (e : finAlone h ≡ true) where
     pub notify-messages : length messages < count * messageWidth → notifyAnswer h limit buffer messages count pairs total ≡ refused 16 0
-    unfolding notifyAnswer first
+    unfolding notifyAnswer inOrder
     notify-messages l = rw (e, lt-leb (count * messageWidth) (length messages) l)
 
     module _ (m : count * messageWidth ≤ length messages) where
       pub notify-pairs : length pairs < total * pairWidth → notifyAnswer h limit buffer messages count pairs total ≡ refused 16 0
-      unfolding notifyAnswer first
+      unfolding notifyAnswer inOrder
       notify-pairs l = rw (e, le-leb (count * messageWidth) (length messages) m, lt-leb (total * pairWidth) (length pairs) l)
 
       module _ (p : total * pairWidth ≤ length pairs) where
         pub notify-stray : not (eqb count 0) || eqb total 0 ≡ false → notifyAnswer h limit buffer messages count pairs total ≡ refused 14 0
-        unfolding notifyAnswer first
+        unfolding notifyAnswer inOrder
         notify-stray s = rw (e, le-leb (count * messageWidth) (length messages) m, le-leb (total * pairWidth) (length pairs) p, s)
 
         module _ (s : not (eqb count 0) || eqb total 0 ≡ true) where
           held-both : notifyAnswer h limit buffer messages count pairs total
               ≡ unless (firstRefused (messageRefusal buffer total messages count) count)
               (unless (firstRefused (pairRefusal buffer pairs) total) (limited limit h (messagesBytes buffer messages count pairs)))
-          unfolding notifyAnswer first
+          unfolding notifyAnswer inOrder
           held-both = rw (e, le-leb (count * messageWidth) (length messages) m, le-leb (total * pairWidth) (length pairs) p, s)
 
           pub notify-message : (r : Refusal) → r ≡ firstRefused (messageRefusal buffer total messages count) count → (r .number ≡ 0 → ⊥)

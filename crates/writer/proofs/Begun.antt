@@ -12,7 +12,7 @@ use Rattle.answer.specs.declared.Written.{Written}
 use Rattle.answer.specs.declared.Written.the-variants as w
 use Rattle.answer.specs.Answer.{Answer, done, refused, written, within, tells, leaves}
 use Rattle.answer.specs.Writes.{said, Writes}
-use Rattle.answer.specs.Order.{first}
+use Rattle.answer.specs.Order.{inOrder, first}
 use Rattle.answer.proofs.Cases.{lt-or-le, not-both}
 use Rattle.answer.proofs.Output.{writes-whole}
 use Rattle.answer.proofs.Parts.{both-start, both-room, both-leaves}
@@ -37,11 +37,11 @@ module _ (limit : ℕ) (h : Head) (payload : List ℕ) where
   behind-length = length-append (headBytes h) payload
 
   pub limited-over : limit < length (headBytes h) + length payload → limited limit h payload ≡ refused 12 0
-  unfolding limited first
+  unfolding limited inOrder
   limited-over l = simp (lt-leb (length (headBytes h ++ payload)) limit (omega (arith, behind-length)))
 
   pub limited-in : length (headBytes h) + length payload ≤ limit → limited limit h payload ≡ written (frameBytes h payload)
-  unfolding limited first
+  unfolding limited inOrder
   limited-in l = simp (le-leb (length (headBytes h ++ payload)) limit (omega (arith, behind-length)))
 
   -- the length bytes and the head, and the payload behind them
@@ -61,16 +61,16 @@ module _ (limit : ℕ) (h : Head) (payload : List ℕ) where
 
 module _ (room limit : ℕ) (h : Head) (len : ℕ) where
   pub begun-over : limit < length (headBytes h) + len → begun room limit h len ≡ refused 12 0
-  unfolding begun first
+  unfolding begun inOrder
   begun-over l = rw (lt-leb (length (headBytes h) + len) limit l)
 
   pub begun-short : length (headBytes h) + len ≤ limit → room < 4 + (length (headBytes h) + len) → begun room limit h len ≡ refused 11 0
-  unfolding begun first
+  unfolding begun inOrder
   begun-short l g = rw (le-leb (length (headBytes h) + len) limit l, lt-leb (4 + (length (headBytes h) + len)) room g)
 
   pub begun-in : length (headBytes h) + len ≤ limit → 4 + (length (headBytes h) + len) ≤ room
       → begun room limit h len ≡ written (front h len)
-  unfolding begun first
+  unfolding begun inOrder
   begun-in l g = rw (le-leb (length (headBytes h) + len) limit l, le-leb (4 + (length (headBytes h) + len)) room g)
 
 -- a refusal, as such an answer is kept

@@ -9,7 +9,7 @@ use native.Mathlib.Omega.{arith}
 use lib.Dec.{eqb, leb}
 use lib.ListN.{length, length-append}
 use borrow.Author.Tests.{le-leb, lt-leb, eq-eqb, eqb-true, eqb-false, leb-true}
-use Rattle.answer.specs.Order.{first}
+use Rattle.answer.specs.Order.{inOrder, first}
 use Rattle.answer.specs.Table.{records, joined}
 use Rattle.answer.specs.Inner.{Sound}
 use Rattle.answer.proofs.Cases.{bool-cases}
@@ -35,18 +35,18 @@ module _ (buffer : List ℕ) (total from : ℕ) (last : Bool) (m : Message) wher
   message-start h = first-fails 14 _ _ h
 
   pub message-end : eqb (m .first) from ≡ true → last ≡ true → eqb total (m .first + m .count) ≡ false → first (messageChecks buffer total from last m) ≡ 14
-  unfolding first
+  unfolding inOrder
   message-end h l e = rw (h, l, e)
 
   pub message-many : eqb (m .first) from ≡ true → (last ≡ true → eqb total (m .first + m .count) ≡ true) → 255 < m .count
       → first (messageChecks buffer total from last m) ≡ 17
-  unfolding first
+  unfolding inOrder
   message-many h e l =
       bool-cases last (λ t. rw (h, t, e t, lt-leb (m .count) 255 l)) (λ t. rw (h, t, lt-leb (m .count) 255 l))
 
   pub message-name : eqb (m .first) from ≡ true → (last ≡ true → eqb total (m .first + m .count) ≡ true) → m .count ≤ 255
       → first (messageChecks buffer total from last m) ≡ first (stringChecks buffer (m .start) (m .len))
-  unfolding first
+  unfolding inOrder
   message-name h e l =
       bool-cases last (λ t. rw (h, t, e t, le-leb (m .count) 255 l)) (λ t. rw (h, t, le-leb (m .count) 255 l))
 

@@ -8,7 +8,7 @@ use lib.ListN.{length, take, drop, length-append}
 use Rattle.answer.specs.declared.Written.{Written}
 use Rattle.answer.specs.Answer.{written, within, leaves}
 use Rattle.answer.specs.Writes.{Wrote, Writes}
-use Rattle.answer.specs.Order.{first}
+use Rattle.answer.specs.Order.{inOrder, first}
 use Rattle.answer.specs.Table.{records, some}
 use Rattle.answer.specs.Inner.{Sound}
 use Rattle.answer.proofs.Order.{Numbered, first-fails, first-holds, first-passed, first-both, first-then, first-front, first-none}
@@ -22,8 +22,8 @@ use Rattle.types.specs.Promise.{recordOf, WriteString, WriteValue}
 use Rattle.types.proofs.Writing.{part-lent, string-long, form-whole}
 use Rattle.types.proofs.Checking.{string-passed, string-range, part-passed}
 use Rattle.frame.specs.declared.Pair.{Pair}
-use Rattle.frame.specs.Records.{pairWidth, pairAt}
-use Rattle.writer.specs.Pair.{keyOf, pairBytes, pairChecks, pairRefusal, sameKey, newKey, kvRefusal}
+use Rattle.frame.specs.Records.{pairWidth, pairAt, keyOf, sameKey}
+use Rattle.writer.specs.Pair.{pairBytes, pairChecks, pairRefusal, newKey, kvRefusal}
 use Rattle.writer.specs.Inner.{Formed, FormedRun}
 
 -- a value that passes has its written form's length
@@ -46,7 +46,7 @@ module _ (buffer : List ℕ) (p : Pair) where
   -- past the key it is the value's part
   pub pair-part : writableRecord (recordOf (p .value)) ≡ true → first (stringChecks buffer (p .start) (p .len)) ≡ 0
       → first (pairChecks buffer p) ≡ first (partChecks buffer (recordOf (p .value)))
-  unfolding first
+  unfolding inOrder
   pair-part h e = let t = string-passed buffer (p .start) (p .len) e in rw (h, t .0, t .1)
 
 -- Law: a pair that passes has a written form.

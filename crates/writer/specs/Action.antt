@@ -17,8 +17,8 @@ use Rattle.types.specs.Value.{Record, value}
 use Rattle.types.specs.Form.{stringBytes}
 use Rattle.types.specs.Promise.{recordOf}
 use Rattle.frame.specs.declared.Action.{Action}
-use Rattle.frame.specs.Records.{actionAt}
-use Rattle.writer.specs.Pair.{keyOf, pairBytes, pairChecks}
+use Rattle.frame.specs.Records.{actionAt, keyOf}
+use Rattle.writer.specs.Pair.{pairBytes, pairChecks}
 
 -- a name and its value, where there is one, are written as a pair's key and value
 unfoldable pub actionBytes : List ℕ → Action → List ℕ

@@ -8,15 +8,11 @@ use mathlib.Core.List.{List, [], _∷_, _++_}
 use Prim.Native.Nat.{ℕ}
 use Rattle.answer.specs.Order.{Check, first}
 use Rattle.answer.specs.Table.{records, some}
-use Rattle.utf8.specs.Text.{sameText}
-use Rattle.types.specs.Form.{part, stringBytes, valueBytes, writableRecord}
+use Rattle.types.specs.Form.{stringBytes, valueBytes, writableRecord}
 use Rattle.types.specs.Check.{stringChecks, partChecks}
 use Rattle.types.specs.Promise.{recordOf}
 use Rattle.frame.specs.declared.Pair.{Pair}
-use Rattle.frame.specs.Records.{pairAt}
-
-abbrev pub keyOf : List ℕ → Pair → List ℕ
-keyOf buffer p = part buffer (p .start) (p .len)
+use Rattle.frame.specs.Records.{pairAt, keyOf, sameKey}
 
 unfoldable pub pairBytes : List ℕ → Pair → List ℕ
 pairBytes buffer p = stringBytes (keyOf buffer p) ++ valueBytes buffer (recordOf (p .value))
@@ -30,10 +26,6 @@ pairChecks buffer p =
 -- what pair i of a table is refused with; 0 for none
 unfoldable pub pairRefusal : List ℕ → List ℕ → ℕ → ℕ
 pairRefusal buffer pairs i = first (pairChecks buffer (pairAt pairs i))
-
--- whether two keys are the same text
-unfoldable pub sameKey : List ℕ → Pair → Pair → Bool
-sameKey buffer p q = sameText (keyOf buffer p) (keyOf buffer q)
 
 -- whether pair i has a key that none before it has
 unfoldable pub newKey : List ℕ → List ℕ → ℕ → Bool

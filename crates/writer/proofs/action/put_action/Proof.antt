@@ -8,7 +8,8 @@ use native.Mathlib.Omega.{arith}
 use lib.ListN.{length, take, drop}
 use Rattle.answer.proofs.Parts.{both-start, both-room, both-count, both-leaves}
 use Rattle.types.specs.Form.{stringBytes}
-use Rattle.writer.specs.Pair.{keyOf, pairBytes}
+use Rattle.frame.specs.Records.{keyOf}
+use Rattle.writer.specs.Pair.{pairBytes}
 use Rattle.writer.proofs.Pairs.{formed-passed, string-count, string-leaves}
 use Rattle.writer.proofs.Actions.{passed-scope, passed-pair, set-bytes, unset-bytes}
 use Rattle.writer.proofs.action.put_action.Statement.{statement}

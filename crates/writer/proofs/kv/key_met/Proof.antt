@@ -5,8 +5,7 @@ use Prim.Native.Nat.{ℕ, _+_, _-_, _≤_, _<_}
 use lib.ListN.{length}
 use native.Mathlib.Omega.{arith}
 use Rattle.answer.proofs.Loops.{Seeking, seeking-none, seeking-here, seeking-on, seeking-all}
-use Rattle.frame.specs.Records.{pairAt}
-use Rattle.writer.specs.Pair.{sameKey}
+use Rattle.frame.specs.Records.{pairAt, sameKey}
 use Rattle.writer.proofs.Pairs.{formed-at}
 use Rattle.writer.proofs.kv.key_met.Statement.{statement}
 use Rattle.writer.proofs.kv.key_met.Tie as tie

@@ -5,7 +5,6 @@ use mathlib.Core.Path.{ap₂, _∙_}
 use native.Mathlib.Omega.{arith}
 use Rattle.utf8.specs.Text.{sameText}
 use Rattle.types.proofs.Writing.{part-lent}
-use Rattle.writer.specs.Pair.{sameKey}
 use Rattle.writer.proofs.kv.same_key.Statement.{statement}
 use Rattle.writer.proofs.kv.same_key.Tie as tie
 
@@ -37,7 +36,6 @@ same-text-requires : tie.Need-same-text-requires
 same-text-requires c κs = search needs
 
 returns : tie.Need-returns
-unfolding sameKey
 returns c = let a = c .before .before .before .before .args in
     c .same-text .ensures
     ∙ ap₂ sameText (part-lent (a .buffer .now) (a .p .start) (a .p .len)) (part-lent (a .buffer .now) (a .q .start) (a .q .len))

@@ -11,7 +11,7 @@ use Rattle.answer.specs.Answer.{written, leaves}
 use Rattle.answer.proofs.Parts.{both-start, both-room, both-count, both-leaves}
 use Rattle.types.specs.Form.{stringBytes, valueBytes}
 use Rattle.types.specs.Promise.{recordOf}
-use Rattle.writer.specs.Pair.{keyOf}
+use Rattle.frame.specs.Records.{keyOf}
 use Rattle.writer.proofs.Pairs.{pair-bytes, string-count, string-leaves, value-count, value-leaves}
 use Rattle.writer.proofs.pair.put_pair.Statement.{statement}
 use Rattle.writer.proofs.pair.put_pair.Tie as tie

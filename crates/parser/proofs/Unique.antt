@@ -1,0 +1,73 @@
+-- No second result meets a promise.
+use mathlib.Core.Path.{_≡_, sym, ap, _∙_}
+use mathlib.Core.Bool.{Bool}
+use mathlib.Core.List.{List}
+use Prim.Native.Nat.{ℕ}
+use native.Mathlib.Omega.{arith}
+use Rattle.answer.specs.Answer.{Answer, done}
+use Rattle.answer.proofs.Same.{refusal-same}
+use Rattle.frame.specs.declared.Pair.{Pair}
+use Rattle.parser.specs.declared.PairRead.{PairRead}
+use Rattle.parser.specs.declared.PairRead.the-variants as p
+use Rattle.parser.specs.declared.PayloadRead.{PayloadRead}
+use Rattle.parser.specs.declared.PayloadRead.the-variants as l
+use Rattle.parser.specs.declared.Metadata.{Metadata}
+use Rattle.parser.specs.declared.FrameRead.{FrameRead}
+use Rattle.parser.specs.declared.FrameRead.the-variants as f
+use Rattle.parser.specs.Payload.{Contents}
+use Rattle.parser.specs.Promise.{Counts, pairSaid, payloadSaid, frameSaid, Fills, ReadPair, ReadPayload, ReadFrame}
+use Rattle.parser.proofs.Pairs.{done-same}
+
+-- answers that say the same are the same
+pair-same : (a b : PairRead) → pairSaid a ≡ pairSaid b → a ≡ b
+pair-same (p.Done x u) (p.Done y v) e = let q : x ≡ y = cc in let o : u ≡ v = cc in cc
+pair-same (p.Done x u) (p.Refused q) e = let z : _≡_ {A = ℕ} 0 1 = cc in absurd (omega arith)
+pair-same (p.Refused r) (p.Done y v) e = let z : _≡_ {A = ℕ} 0 1 = cc in absurd (omega arith)
+pair-same (p.Refused r) (p.Refused q) e = ap p.Refused (refusal-same r q (cc) (cc))
+
+payload-same : (a b : PayloadRead) → payloadSaid a ≡ payloadSaid b → a ≡ b
+payload-same (l.Done m n u) (l.Done m′ n′ u′) e =
+    let k = done-same e in
+    let q = ap (λ (x : Counts). x .0) (k .0) in
+    let o = ap (λ (x : Counts). x .1) (k .0) in
+    let z = k .1 in
+    cc
+payload-same (l.Done m n u) (l.Refused q) e = let z : _≡_ {A = ℕ} 0 1 = cc in absurd (omega arith)
+payload-same (l.Refused r) (l.Done m n u) e = let z : _≡_ {A = ℕ} 0 1 = cc in absurd (omega arith)
+payload-same (l.Refused r) (l.Refused q) e = ap l.Refused (refusal-same r q (cc) (cc))
+
+frame-same : (a b : FrameRead) → frameSaid a ≡ frameSaid b → a ≡ b
+frame-same (f.Done x m n u) (f.Done x′ m′ n′ u′) e =
+    let k = done-same {A = Metadata × Counts} {x = (x, (m, n))} {y = (x′, (m′, n′))} {m = u} {k = u′} (cc) in
+    let w = ap (λ (y : Metadata × Counts). y .0) (k .0) in
+    let q = ap (λ (y : Metadata × Counts). y .1 .0) (k .0) in
+    let o = ap (λ (y : Metadata × Counts). y .1 .1) (k .0) in
+    let z = k .1 in
+    cc
+frame-same (f.Done x m n u) (f.Wait k) e = let z : _≡_ {A = ℕ} 0 1 = cc in absurd (omega arith)
+frame-same (f.Done x m n u) (f.Refused q) e = let z : _≡_ {A = ℕ} 0 1 = cc in absurd (omega arith)
+frame-same (f.Wait k) (f.Done x m n u) e = let z : _≡_ {A = ℕ} 0 1 = cc in absurd (omega arith)
+frame-same (f.Wait k) (f.Wait k′) e = let q : k ≡ k′ = cc in cc
+frame-same (f.Wait k) (f.Refused q) e = let z : _≡_ {A = ℕ} 0 1 = cc in absurd (omega arith)
+frame-same (f.Refused r) (f.Done x m n u) e = let z : _≡_ {A = ℕ} 0 1 = cc in absurd (omega arith)
+frame-same (f.Refused r) (f.Wait k) e = let z : _≡_ {A = ℕ} 0 1 = cc in absurd (omega arith)
+frame-same (f.Refused r) (f.Refused q) e = ap f.Refused (refusal-same r q (cc) (cc))
+
+-- and so are tables that are filled with the same
+fills-same : {a : Answer Contents} {m n n′ p q q′ : List ℕ} → Fills a m n p q → Fills a m n′ p q′ → (n ≡ n′) × (q ≡ q′)
+fills-same x y = (x .messages ∙ sym (y .messages), x .pairs ∙ sym (y .pairs))
+
+pub read-pair-unique : (input : List ℕ) (r q : PairRead) → ReadPair input r → ReadPair input q → r ≡ q
+read-pair-unique input r q p s = pair-same r q (p ∙ sym s)
+
+pub read-payload-unique : (kv : Bool) (input : List ℕ) (r q : PayloadRead) (oldMessages newMessages otherMessages oldPairs newPairs otherPairs : List ℕ)
+    → ReadPayload kv input r oldMessages newMessages oldPairs newPairs → ReadPayload kv input q oldMessages otherMessages oldPairs otherPairs
+    → (r ≡ q) × (newMessages ≡ otherMessages) × (newPairs ≡ otherPairs)
+read-payload-unique kv input r q oldMessages newMessages otherMessages oldPairs newPairs otherPairs p s =
+    let t = fills-same (p .fills) (s .fills) in (payload-same r q (p .says ∙ sym (s .says)), t .0, t .1)
+
+pub read-frame-unique : (input : List ℕ) (limit : ℕ) (r q : FrameRead) (oldMessages newMessages otherMessages oldPairs newPairs otherPairs : List ℕ)
+    → ReadFrame input limit r oldMessages newMessages oldPairs newPairs → ReadFrame input limit q oldMessages otherMessages oldPairs otherPairs
+    → (r ≡ q) × (newMessages ≡ otherMessages) × (newPairs ≡ otherPairs)
+read-frame-unique input limit r q oldMessages newMessages otherMessages oldPairs newPairs otherPairs p s =
+    let t = fills-same (p .fills) (s .fills) in (frame-same r q (p .says ∙ sym (s .says)), t .0, t .1)

@@ -1,0 +1,81 @@
+-- What the calls' own types mean, and what each call promises.
+use mathlib.Core.Path.{_≡_}
+use mathlib.Core.Bool.{Bool}
+use mathlib.Core.List.{List}
+use Prim.Native.Nat.{ℕ, _/_}
+use lib.ListN.{length}
+use Rattle.answer.specs.Answer.{Answer, done, refused, next, written, leaves}
+use Rattle.answer.specs.Table.{joined}
+use Rattle.frame.specs.declared.Pair.{Pair}
+use Rattle.frame.specs.Records.{messageWidth, messageNumbers, pairWidth, pairNumbers}
+use Rattle.parser.specs.declared.PairRead.{PairRead}
+use Rattle.parser.specs.declared.PairRead.the-variants as p
+use Rattle.parser.specs.declared.PayloadRead.{PayloadRead}
+use Rattle.parser.specs.declared.PayloadRead.the-variants as l
+use Rattle.parser.specs.declared.Rooms.{Rooms}
+use Rattle.parser.specs.declared.Metadata.{Metadata}
+use Rattle.parser.specs.declared.FrameRead.{FrameRead}
+use Rattle.parser.specs.declared.FrameRead.the-variants as f
+use Rattle.parser.specs.Pair.{pair}
+use Rattle.parser.specs.Payload.{Contents, payload}
+use Rattle.parser.specs.Frame.{Reading, wait, answered, answerOf, frameRead}
+
+-- ---- what the answers say
+
+-- how many messages and how many pairs
+abbrev pub Counts : Type 0
+Counts = ℕ × ℕ
+
+abbrev pub countsOf : Contents → Counts
+countsOf c = (length (c .messages), length (c .pairs))
+
+abbrev pub pairSaid : PairRead → Answer Pair
+pairSaid (p.Done x used) = done x used
+pairSaid (p.Refused r) = refused (r .number) (r .place)
+
+abbrev pub payloadSaid : PayloadRead → Answer Counts
+payloadSaid (l.Done messages pairs used) = done (messages, pairs) used
+payloadSaid (l.Refused r) = refused (r .number) (r .place)
+
+abbrev pub frameSaid : FrameRead → Reading (Metadata × Counts)
+frameSaid (f.Done m messages pairs used) = answered (done (m, (messages, pairs)) used)
+frameSaid (f.Wait missing) = wait missing
+frameSaid (f.Refused r) = answered (refused (r .number) (r .place))
+
+-- what is said of a payload and of a frame that come out so: counts stand for the records
+abbrev pub payloadTells : Answer Contents → Answer Counts
+payloadTells a = next a (λ c used. done (countsOf c) used)
+
+abbrev pub frameTells : Reading (Metadata × Contents) → Reading (Metadata × Counts)
+frameTells (wait missing) = wait missing
+frameTells (answered a) = answered (next a (λ x used. done (x .0, countsOf (x .1)) used))
+
+-- ---- what is left in the tables
+
+-- how many records two tables have room for
+abbrev pub roomsOf : List ℕ → List ℕ → Rooms
+roomsOf messages pairs = record { messages = length messages / messageWidth; pairs = length pairs / pairWidth }
+
+-- Where contents come out, their records stand at the front of the tables, in order, and what lies behind them stays. Else all stays.
+pub record Fills (a : Answer Contents) (oldMessages newMessages oldPairs newPairs : List ℕ) : Type 0 where
+  pub messages : newMessages ≡ leaves (next a (λ c used. written (joined messageNumbers (c .messages)))) oldMessages
+  pub pairs : newPairs ≡ leaves (next a (λ c used. written (joined pairNumbers (c .pairs)))) oldPairs
+
+-- what a frame holds, where it is accepted
+abbrev pub contentsRead : Reading (Metadata × Contents) → Answer Contents
+contentsRead x = next (answerOf x) (λ y used. done (y .1) used)
+
+-- ---- the promises
+
+-- `read_pair` reads the pair at the front of the bytes.
+abbrev pub ReadPair : List ℕ → PairRead → Type 0
+ReadPair input r = pairSaid r ≡ pair input
+
+-- A reader that fills two tables: what it says, and what it leaves.
+pub record ReadPayload (kv : Bool) (input : List ℕ) (r : PayloadRead) (oldMessages newMessages oldPairs newPairs : List ℕ) : Type 0 where
+  pub says : payloadSaid r ≡ payloadTells (payload kv (roomsOf oldMessages oldPairs) input)
+  pub fills : Fills (payload kv (roomsOf oldMessages oldPairs) input) oldMessages newMessages oldPairs newPairs
+
+pub record ReadFrame (input : List ℕ) (limit : ℕ) (r : FrameRead) (oldMessages newMessages oldPairs newPairs : List ℕ) : Type 0 where
+  pub says : frameSaid r ≡ frameTells (frameRead limit (roomsOf oldMessages oldPairs) input)
+  pub fills : Fills (contentsRead (frameRead limit (roomsOf oldMessages oldPairs) input)) oldMessages newMessages oldPairs newPairs

@@ -1,0 +1,76 @@
+// What HAProxy sends, read (SPOE.txt, section 3.2): a pair, a payload, a whole frame.
+//
+// No public call has a `requires`: each does its own refusing. A first pass over a payload finds the answer and writes nothing; only
+// what is accepted is filled in, by a second pass.
+mod fill;
+mod head;
+mod look;
+mod pair;
+
+use answer::Refusal;
+pub use fill::read_payload;
+use frame::Pair;
+pub use head::read_frame;
+pub use pair::read_pair;
+
+// What the pair reader answers.
+pub enum PairRead {
+    Done { pair: Pair, used: usize },
+    Refused(Refusal),
+}
+
+// What the payload reader answers: how many messages and pairs it found, and the bytes that they took, which are all.
+pub enum PayloadRead {
+    Done {
+        messages: usize,
+        pairs: usize,
+        used: usize,
+    },
+    Refused(Refusal),
+}
+
+// How many messages and pairs the lent tables have room for.
+pub struct Rooms {
+    pub messages: usize,
+    pub pairs: usize,
+}
+
+// A frame's type, its flags, and the numbers of its stream and of the frame in it.
+pub struct Metadata {
+    pub kind: u64,
+    pub flags: u64,
+    pub stream: u64,
+    pub frame: u64,
+}
+
+// What the frame reader answers: the frame, with how many messages and pairs it has, and its bytes; or how many bytes are missing.
+pub enum FrameRead {
+    Done {
+        metadata: Metadata,
+        messages: usize,
+        pairs: usize,
+        used: usize,
+    },
+    Wait(usize),
+    Refused(Refusal),
+}
+
+// How far a pass is: the place, how many arguments of the last message are to come, and how many messages and pairs were met.
+pub(crate) struct State {
+    pub at: usize,
+    pub left: usize,
+    pub messages: usize,
+    pub pairs: usize,
+}
+
+// What a step of the first pass finds.
+pub(crate) enum Step {
+    On(State),
+    Refused(Refusal),
+}
+
+// What the reader of metadata answers: the metadata, and where the payload starts.
+pub(crate) enum MetadataRead {
+    Done { metadata: Metadata, start: usize },
+    Refused(Refusal),
+}

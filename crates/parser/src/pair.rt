@@ -1,0 +1,90 @@
+// A pair, read from the front of some bytes.
+use crate::PairRead;
+use answer::Refusal;
+use frame::Pair;
+use types::Text;
+use types::Typed;
+use types::Value;
+ghost use mathlib.Core.Path.{_≡_};
+ghost use Prim.Native.Nat.{ℕ, _+_, _≤_, _<_, _^_};
+ghost use Rattle.types.specs.Value.{moved as movedRecord};
+ghost use Rattle.types.specs.Promise.{recordOf, textRead};
+ghost use Rattle.answer.specs.Answer.{refused};
+ghost use Rattle.parser.specs.Pair.{movedPair};
+ghost use Rattle.parser.specs.Promise.{pairSaid, ReadPair};
+
+// Reads the pair at the front of `input`: its key, and its value behind that. Starts count from the input's first byte.
+pub fn read_pair(input: &[u8]) -> PairRead
+    ensures { λ r. ⌜ ReadPair (now (input .entry)) r ⌝ }
+{
+    let key = types::read_string(input);
+    let Text::Done { start, len, used } = key else {
+        return key_refused(key);
+    };
+    match types::typed_data(&input[used..]) {
+        Typed::Refused(r) => {
+            return PairRead::Refused(Refusal {
+                number: r.number,
+                place: used + r.place,
+            });
+        },
+        Typed::Done { value, used: n } => {
+            return PairRead::Done {
+                pair: Pair {
+                    start: start as u64,
+                    len: len as u64,
+                    value: moved_value(value, used as u64),
+                },
+                used: used + n,
+            };
+        },
+    }
+}
+
+// The refusal of a key; 0 at 0 of one that was read, which is not asked.
+fn key_refused(key: Text) -> PairRead
+    ensures { λ r. ⌜ ((number place : ℕ) → textRead key ≡ refused number place → pairSaid r ≡ refused number place) ⌝ }
+{
+    match key {
+        Text::Refused(r) => PairRead::Refused(r),
+        Text::Done {
+            start: _,
+            len: _,
+            used: _,
+        } => PairRead::Refused(Refusal {
+            number: 0,
+            place: 0,
+        }),
+    }
+}
+
+// A value that was read behind n other bytes: where it points, its start moves.
+fn moved_value(value: Value, n: u64) -> Value
+    requires { ⌜ (6 ≤ value .kind → value .kind < 10 → value .a + n < 2 ^ 64) ⌝ }
+    ensures { λ r. ⌜ recordOf r ≡ movedRecord n (recordOf value) ⌝ }
+{
+    let kind = value.kind;
+    if kind < 6 {
+        return value;
+    }
+    if 10 <= kind {
+        return value;
+    }
+    Value {
+        kind,
+        a: n + value.a,
+        b: value.b,
+    }
+}
+
+// A pair that was read behind n other bytes.
+pub(crate) fn moved_pair(pair: Pair, n: u64) -> Pair
+    requires { ⌜ (pair .start + n < 2 ^ 64) × (6 ≤ pair .value .kind → pair .value .kind < 10 → pair .value .a + n < 2 ^ 64) ⌝ }
+    ensures { λ r. ⌜ r ≡ movedPair n pair ⌝ }
+{
+    Pair {
+        start: n + pair.start,
+        len: pair.len,
+        value: moved_value(pair.value, n),
+    }
+}
