@@ -2,15 +2,13 @@
 
 mod answers;
 mod inputs;
-mod model;
 mod parts;
 mod port;
-mod reading;
+mod reader;
 mod records;
 mod shrink;
 mod text;
 mod timing;
-mod wire;
 
 use inputs::Random;
 use parts::{PARTS, Part};

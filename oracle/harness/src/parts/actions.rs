@@ -4,7 +4,7 @@ use crate::{
     answers::Answer,
     inputs::{self, Random},
     port,
-    reading::Written,
+    reader::back::Written,
     records::{self, Frame, NOT_WRITABLE, OUTSIDE, Wrote},
     shrink::{self, Fields},
     text::Difference,

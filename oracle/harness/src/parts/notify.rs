@@ -5,7 +5,7 @@ use crate::{
     answers::{self, Answer},
     inputs::{self, Random},
     port,
-    reading::Written,
+    reader::back::Written,
     records::{self, Frame, NOT_WRITABLE, OUTSIDE, TOO_MANY, Wrote},
     shrink::{self, Fields},
     text::{Difference, hex},

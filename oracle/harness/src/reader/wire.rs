@@ -68,13 +68,12 @@ fn frame(random: &mut Random) -> Drawn {
     bytes.extend(flags(random).to_be_bytes());
     number(random, &mut bytes);
     number(random, &mut bytes);
-    let (mut messages, mut pairs) = (0, 0);
-    match kind {
-        1 if random.below(3) == 0 => pairs = items(random, HELLO, &mut bytes),
-        2 if random.below(2) == 0 => pairs = items(random, STATUS, &mut bytes),
-        3 => (messages, pairs) = messages_of(random, &mut bytes),
-        _ => pairs = list(random, 16, &mut bytes),
-    }
+    let (messages, pairs) = match kind {
+        1 if random.below(3) == 0 => (0, items(random, HELLO, &mut bytes)),
+        2 if random.below(2) == 0 => (0, items(random, STATUS, &mut bytes)),
+        3 => messages_of(random, &mut bytes),
+        _ => (0, list(random, 16, 400, &mut bytes)),
+    };
     fit(&mut bytes);
     Drawn {
         bytes,
@@ -130,7 +129,7 @@ fn messages_of(random: &mut Random, bytes: &mut Vec<u8>) -> (usize, usize) {
         string(random, &name, bytes);
         let place = bytes.len();
         bytes.push(0);
-        let found = list(random, 4, bytes);
+        let found = list(random, 4, 255, bytes);
         pairs += found;
         bytes[place] = match random.below(32) {
             0 => found.wrapping_add(1) as u8,
@@ -142,10 +141,10 @@ fn messages_of(random: &mut Random, bytes: &mut Vec<u8>) -> (usize, usize) {
     (count as usize, pairs)
 }
 
-/// Pairs, of which one of `rarely` repeats an earlier key.
-fn list(random: &mut Random, rarely: u64, bytes: &mut Vec<u8>) -> usize {
+/// Pairs, up to `most` of them, of which one of `rarely` repeats an earlier key.
+fn list(random: &mut Random, rarely: u64, most: u64, bytes: &mut Vec<u8>) -> usize {
     let count = match random.below(256) {
-        0 => random.within(60, 255),
+        0 => random.within(60, most),
         _ => random.within(0, PAIRS),
     };
     let twins = TWINS[random.index(TWINS.len())];
