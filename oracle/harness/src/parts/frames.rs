@@ -1,5 +1,5 @@
-//! Frames and pairs that are read. Number, place, head and tables of the port are compared with a plain reading of the paper, and
-//! that with what the Rust reads.
+//! Frames and pairs that are read. Number, place, head and tables of the port are compared with a plain reading of
+//! the paper, and that with what the Rust reads.
 
 use crate::{
     answers::{self, Answer},
@@ -127,7 +127,8 @@ fn around_the_listing(met: &mut Met) -> Result<(), Difference> {
     Ok(())
 }
 
-/// Each payload of up to six bytes of a few kinds, and each head that is cut short, with small tables of changing sizes.
+/// Each string of up to six bytes of a few kinds, as a payload, as ids and as a whole frame, with small tables of
+/// changing sizes.
 fn small_payloads(met: &mut Met) -> Result<(), Difference> {
     const BYTES: [u8; 8] = [0x00, 0x01, 0x02, 0x0a, b'A', 0x80, 0xf0, 0xff];
     for length in 0..=6 {

@@ -1,4 +1,5 @@
-//! Reading as the paper has it, in its plainest form. It calls neither the Rust nor the port, so that each can be compared with it.
+//! Reading as the paper has it, in its plainest form. It calls neither the Rust nor the port, so that each can be
+//! compared with it.
 
 use crate::{answers, records::REPEATED};
 use std::borrow::Cow;
