@@ -4,6 +4,7 @@ mod answers;
 mod inputs;
 mod parts;
 mod port;
+mod reader;
 mod records;
 mod shrink;
 mod text;

@@ -78,6 +78,18 @@ c_calls! {
         out_len: usize,
         at: *mut u64
     ) -> u64;
+    fn spop_read_pair(input: *const u8, input_len: usize, pair: *mut u64, at: *mut u64) -> u64;
+    fn spop_read_frame(
+        input: *const u8,
+        input_len: usize,
+        limit: u32,
+        messages: *mut u64,
+        messages_len: usize,
+        pairs: *mut u64,
+        pairs_len: usize,
+        head: *mut u64,
+        at: *mut u64
+    ) -> u64;
 }
 
 pub fn varint_len(n: u64) -> u64 {
@@ -247,6 +259,35 @@ pub fn write_notify(
             pair_count,
             out.as_mut_ptr(),
             out.len(),
+            at,
+        )
+    }
+}
+
+pub fn read_pair(input: &[u8], pair: &mut [u64; 5], at: &mut u64) -> u64 {
+    // SAFETY: the slice is lent with its length, the record has five numbers, and nothing lent overlaps.
+    unsafe { spop_read_pair(input.as_ptr(), input.len(), pair.as_mut_ptr(), at) }
+}
+
+pub fn read_frame(
+    input: &[u8],
+    limit: u32,
+    messages: &mut [u64],
+    pairs: &mut [u64],
+    head: &mut [u64; 6],
+    at: &mut u64,
+) -> u64 {
+    // SAFETY: each slice is lent with its length, the head has six numbers, and nothing lent overlaps.
+    unsafe {
+        spop_read_frame(
+            input.as_ptr(),
+            input.len(),
+            limit,
+            messages.as_mut_ptr(),
+            messages.len(),
+            pairs.as_mut_ptr(),
+            pairs.len(),
+            head.as_mut_ptr(),
             at,
         )
     }

@@ -15,19 +15,40 @@ pub fn head() {
     );
 }
 
-/// Prints the best time of each side for one call, and answers the port's. Each closure makes `calls` calls. The sides
-/// take turns, so that a slow spell of the machine meets both.
-pub fn race(name: &str, calls: usize, mut port: impl FnMut(), mut rust: impl FnMut()) -> f64 {
-    let passes = passes_for_a_run(&mut rust);
-    let (mut best_port, mut best_rust) = (Duration::MAX, Duration::MAX);
-    for _ in 0..RUNS {
-        best_port = best_port.min(time(passes, &mut port));
-        best_rust = best_rust.min(time(passes, &mut rust));
-    }
-    let per_call = |best: Duration| best.as_nanos() as f64 / (passes * calls) as f64;
-    let (port, rust) = (per_call(best_port), per_call(best_rust));
+/// Prints the best time of each side for one call, and answers the port's. Each closure makes `calls` calls.
+pub fn race(name: &str, calls: usize, port: impl FnMut(), rust: impl FnMut()) -> f64 {
+    let [port, rust] = best(calls, port, rust);
     println!("{name:<32} {port:>9.2} {rust:>9.2} {:>9.2}", port / rust);
     port
+}
+
+/// Prints the port's best time for one call of the first kind, of the second, and the first divided by the second.
+pub fn compare(name: &str, calls: usize, first: impl FnMut(), second: impl FnMut()) {
+    let [first, second] = best(calls, first, second);
+    let ratio = first / second;
+    println!("{name:<32} {first:>9.2} then {second:.2}, the first {ratio:.2} of the second");
+}
+
+/// Prints the port's best time for a call that the Rust is not asked.
+pub fn alone(name: &str, mut port: impl FnMut()) {
+    let passes = passes_for_a_run(&mut port);
+    let times = (0..RUNS).map(|_| time(passes, &mut port));
+    let best = times.min().unwrap_or_default().as_nanos() as f64 / passes as f64;
+    println!(
+        "{name:<32} {best:>9.2}, or {:.1} microseconds",
+        best / 1000.0
+    );
+}
+
+/// The best time of a call of each. They take turns, so that a slow spell of the machine meets both.
+fn best(calls: usize, mut one: impl FnMut(), mut other: impl FnMut()) -> [f64; 2] {
+    let passes = passes_for_a_run(&mut other);
+    let mut best = [Duration::MAX; 2];
+    for _ in 0..RUNS {
+        best[0] = best[0].min(time(passes, &mut one));
+        best[1] = best[1].min(time(passes, &mut other));
+    }
+    best.map(|time| time.as_nanos() as f64 / (passes * calls) as f64)
 }
 
 /// Prints how many bytes a second the port's time for a call of so many bytes comes to.

@@ -4,6 +4,7 @@ use crate::{
     answers::Answer,
     inputs::{self, Random},
     port,
+    reader::back::Written,
     records::{self, Frame, NOT_WRITABLE, OUTSIDE, Wrote},
     shrink::{self, Fields},
     text::Difference,
@@ -60,7 +61,12 @@ impl Call {
             return Err((OUTSIDE, 0));
         }
         let mut actions = Vec::new();
-        for (index, record) in self.actions.chunks_exact(7).take(self.count as usize).enumerate() {
+        for (index, record) in self
+            .actions
+            .chunks_exact(7)
+            .take(self.count as usize)
+            .enumerate()
+        {
             let action = action(record, &self.buffer);
             actions.push(action.map_err(|number| (number, index as u64))?);
         }
@@ -101,10 +107,27 @@ fn scope(number: u64) -> Result<VarScope, u64> {
 fn compare(call: &Call) -> Result<Option<usize>, Difference> {
     let (port, rust) = (call.by_port(), call.by_rust());
     if port == rust {
-        return Ok(port.length());
+        let length = port.length();
+        length.map_or(Ok(()), |length| compare_read(call, &port, length))?;
+        return Ok(length);
     }
     let sides = [("port", &port), ("rust", &rust)];
     Err(records::difference("write_actions", call, sides))
+}
+
+/// The port refuses to read its own frame, since agents write such frames and do not read them.
+fn compare_read(call: &Call, port: &Wrote, length: usize) -> Result<(), Difference> {
+    let written = Written {
+        kind: 103,
+        fin: call.fin,
+        abort: call.abort,
+        ids: [call.stream, call.frame],
+        limit: call.limit,
+        buffer: &call.buffer,
+        messages: &[],
+        pairs: &[],
+    };
+    written.read_back(&port.area, length, call)
 }
 
 pub fn diff(random: &mut Random, rounds: u64) -> Result<String, Difference> {
@@ -117,7 +140,9 @@ pub fn diff(random: &mut Random, rounds: u64) -> Result<String, Difference> {
             checked(&call)?;
         }
     }
-    Ok(format!("{rounds} rounds, {done} of them with a frame written"))
+    Ok(format!(
+        "{rounds} rounds, {done} of them with a frame written and read back"
+    ))
 }
 
 fn checked(call: &Call) -> Result<Option<usize>, Difference> {
@@ -126,8 +151,8 @@ fn checked(call: &Call) -> Result<Option<usize>, Difference> {
 
 impl shrink::Call for Call {
     fn differing(&self) -> Option<[Answer; 2]> {
-        let (port, rust) = (self.by_port(), self.by_rust());
-        (port != rust).then_some([port.answer, rust.answer])
+        let answers = [self.by_port().answer, self.by_rust().answer];
+        compare(self).is_err().then_some(answers)
     }
 
     fn length(&self) -> Option<usize> {
@@ -170,7 +195,12 @@ fn drawn(random: &mut Random) -> Call {
             _ => 2 - u64::from(set),
         };
         let (start, length) = records::drawn_part(random, room);
-        actions.extend([kind, random.below(5) + records::unused(random) / 3, start, length]);
+        actions.extend([
+            kind,
+            random.below(5) + records::unused(random) / 3,
+            start,
+            length,
+        ]);
         actions.extend(match kind {
             2 => [records::unused(random), records::unused(random) / 2, 0],
             _ => records::drawn_value(random, room),
@@ -205,7 +235,9 @@ fn drawn(random: &mut Random) -> Call {
 // ---------------------------------------------------------------- timing
 
 pub fn bench(_: &mut Random) {
-    time("write_actions, 2 set-vars", 2, |index| TypedData::UInt32(7 + index as u32));
+    time("write_actions, 2 set-vars", 2, |index| {
+        TypedData::UInt32(7 + index as u32)
+    });
     time("write_actions, 100 texts", 100, |index| {
         TypedData::String(format!("{index:>40}"))
     });

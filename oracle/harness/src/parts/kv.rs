@@ -4,6 +4,7 @@ use crate::{
     answers::Answer,
     inputs::{self, Random},
     port,
+    reader::back::Written,
     records::{self, Frame, NOT_WRITABLE, OUTSIDE, Payload, REPEATED, Wrote, encoding},
     shrink::{self, Fields},
     text::Difference,
@@ -71,14 +72,23 @@ impl Call {
             return Err((OUTSIDE, 0));
         }
         let mut pairs: Vec<(String, TypedData)> = Vec::new();
-        for (index, record) in self.pairs.chunks_exact(5).take(self.count as usize).enumerate() {
+        for (index, record) in self
+            .pairs
+            .chunks_exact(5)
+            .take(self.count as usize)
+            .enumerate()
+        {
             let pair = self.pair(record, &pairs);
             pairs.push(pair.map_err(|number| (number, index as u64))?);
         }
         Ok(self.written(kind, pairs))
     }
 
-    fn pair(&self, record: &[u64], earlier: &[(String, TypedData)]) -> Result<(String, TypedData), u64> {
+    fn pair(
+        &self,
+        record: &[u64],
+        earlier: &[(String, TypedData)],
+    ) -> Result<(String, TypedData), u64> {
         let (key, value) = records::pair(record, &self.buffer)?;
         if earlier.iter().any(|(other, _)| *other == key) {
             return Err(REPEATED);
@@ -89,9 +99,15 @@ impl Call {
     /// The Rust's header, and the encodings of the pairs in the records' order. The Rust's own payload has to be
     /// the same encodings in its map's order.
     fn written(&self, kind: FrameType, pairs: Vec<(String, TypedData)>) -> Vec<u8> {
-        let encodings: Vec<Vec<u8>> = pairs.iter().map(|(key, value)| encoding(key, value)).collect();
+        let encodings: Vec<Vec<u8>> = pairs
+            .iter()
+            .map(|(key, value)| encoding(key, value))
+            .collect();
         let map: HashMap<String, TypedData> = pairs.into_iter().collect();
-        let order: Vec<Vec<u8>> = map.iter().map(|(key, value)| encoding(key, value)).collect();
+        let order: Vec<Vec<u8>> = map
+            .iter()
+            .map(|(key, value)| encoding(key, value))
+            .collect();
         let frame = Frame {
             kind,
             metadata: Metadata {
@@ -135,10 +151,27 @@ fn cut(mut bytes: &[u8], encodings: &[Vec<u8>]) -> bool {
 fn compare(call: &Call) -> Result<Option<usize>, Difference> {
     let (port, rust) = (call.by_port(), call.by_rust());
     if port == rust {
-        return Ok(port.length());
+        let length = port.length();
+        length.map_or(Ok(()), |length| compare_read(call, &port, length))?;
+        return Ok(length);
     }
     let sides = [("port", &port), ("rust", &rust)];
     Err(records::difference("write_kv", call, sides))
+}
+
+/// The port reads its own frame: the pairs come back in order, or the flags or the type are refused.
+fn compare_read(call: &Call, port: &Wrote, length: usize) -> Result<(), Difference> {
+    let written = Written {
+        kind: call.kind,
+        fin: call.fin,
+        abort: call.abort,
+        ids: [call.stream, call.frame],
+        limit: call.limit,
+        buffer: &call.buffer,
+        messages: &[],
+        pairs: &call.pairs[..5 * call.count as usize],
+    };
+    written.read_back(&port.area, length, call)
 }
 
 pub fn diff(random: &mut Random, rounds: u64) -> Result<String, Difference> {
@@ -151,7 +184,9 @@ pub fn diff(random: &mut Random, rounds: u64) -> Result<String, Difference> {
             checked(&call)?;
         }
     }
-    Ok(format!("{rounds} rounds, {done} of them with a frame written"))
+    Ok(format!(
+        "{rounds} rounds, {done} of them with a frame written and read back"
+    ))
 }
 
 fn checked(call: &Call) -> Result<Option<usize>, Difference> {
@@ -160,8 +195,8 @@ fn checked(call: &Call) -> Result<Option<usize>, Difference> {
 
 impl shrink::Call for Call {
     fn differing(&self) -> Option<[Answer; 2]> {
-        let (port, rust) = (self.by_port(), self.by_rust());
-        (port != rust).then_some([port.answer, rust.answer])
+        let answers = [self.by_port().answer, self.by_rust().answer];
+        compare(self).is_err().then_some(answers)
     }
 
     fn length(&self) -> Option<usize> {
@@ -175,7 +210,10 @@ impl shrink::Call for Call {
             count,
             ..self.clone()
         });
-        let plainer = (self.kind != 1).then(|| Call { kind: 1, ..self.clone() });
+        let plainer = (self.kind != 1).then(|| Call {
+            kind: 1,
+            ..self.clone()
+        });
         fewer.chain(plainer).collect()
     }
 
@@ -210,8 +248,16 @@ fn drawn(random: &mut Random) -> Call {
         kind,
         fin: plain || random.below(2) == 0,
         abort: !plain && random.below(2) == 0,
-        stream: if plain && kind > 100 { 0 } else { inputs::number(random) },
-        frame: if plain && kind > 100 { 0 } else { inputs::number(random) },
+        stream: if plain && kind > 100 {
+            0
+        } else {
+            inputs::number(random)
+        },
+        frame: if plain && kind > 100 {
+            0
+        } else {
+            inputs::number(random)
+        },
         limit: match random.below(8) {
             0 => random.below(60) as u32,
             1 => u32::MAX,

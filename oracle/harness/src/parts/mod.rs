@@ -35,5 +35,6 @@ parts! {
     kv,
     actions,
     notify,
+    frames,
     hello,
 }

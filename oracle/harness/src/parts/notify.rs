@@ -5,6 +5,7 @@ use crate::{
     answers::{self, Answer},
     inputs::{self, Random},
     port,
+    reader::back::Written,
     records::{self, Frame, NOT_WRITABLE, OUTSIDE, TOO_MANY, Wrote},
     shrink::{self, Fields},
     text::{Difference, hex},
@@ -190,8 +191,9 @@ fn compare(call: &Call) -> Result<Option<usize>, Difference> {
         let sides = [("port", &port), ("paper", &paper)];
         return Err(records::difference("write_notify", call, sides));
     }
-    if port.length().is_some() {
+    if let Some(length) = port.length() {
         compare_read(call, &port)?;
+        compare_read_by_port(call, &port, length)?;
     }
     Ok(port.length())
 }
@@ -215,6 +217,21 @@ fn compare_read(call: &Call, port: &Wrote) -> Result<(), Difference> {
         .row("rust", format!("{read:?}")))
 }
 
+/// The port reads its own frame: messages and arguments come back in order.
+fn compare_read_by_port(call: &Call, port: &Wrote, length: usize) -> Result<(), Difference> {
+    let written = Written {
+        kind: 3,
+        fin: call.fin,
+        abort: call.abort,
+        ids: [call.stream, call.frame],
+        limit: call.limit,
+        buffer: &call.buffer,
+        messages: &call.messages[..4 * call.message_count as usize],
+        pairs: &call.pairs[..5 * call.pair_count as usize],
+    };
+    written.read_back(&port.area, length, call)
+}
+
 pub fn diff(random: &mut Random, rounds: u64) -> Result<String, Difference> {
     let mut done = 0;
     for _ in 0..rounds {
@@ -226,7 +243,7 @@ pub fn diff(random: &mut Random, rounds: u64) -> Result<String, Difference> {
         }
     }
     Ok(format!(
-        "{rounds} rounds, {done} of them with a frame written and read back"
+        "{rounds} rounds, {done} of them with a frame written and read back by both"
     ))
 }
 

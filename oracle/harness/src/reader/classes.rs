@@ -1,0 +1,143 @@
+//! How often each kind of answer was met, so that inputs which have become too plain show.
+
+use super::{
+    model::{Pair, Read, Rooms, TABLE_FULL},
+    sides::{self, Call},
+};
+use crate::{
+    records::{self, REPEATED},
+    text::Difference,
+};
+use spop::{parser::parse_frame_with_limit, varint::decode_varint};
+
+const CLASSES: usize = 28;
+
+/// How often each class was met.
+#[derive(Default)]
+pub struct Met {
+    pub frames: u64,
+    pub pairs: u64,
+    pub classes: [(&'static str, u64); CLASSES],
+}
+
+impl Met {
+    pub fn frame(&mut self, call: &Call) -> Result<Read, Difference> {
+        let read = sides::checked(call)?;
+        self.frames += 1;
+        for (met, (name, is)) in self.classes.iter_mut().zip(classes(call, &read)) {
+            *met = (name, met.1 + u64::from(is));
+        }
+        Ok(read)
+    }
+
+    pub fn pair(&mut self, input: &[u8]) -> Result<(), Difference> {
+        self.pairs += 1;
+        sides::checked_pair(input)
+    }
+
+    /// A class that was not met says that the inputs have become too plain.
+    pub fn all(&self, inputs: &str) -> Result<(), Difference> {
+        match self.classes.iter().find(|(_, count)| *count == 0) {
+            None => Ok(()),
+            Some((name, _)) => Err(Difference::in_call("read_frame")
+                .row("inputs", inputs)
+                .row("not met", name)),
+        }
+    }
+}
+
+/// Which of the classes a call is of, with their names.
+fn classes(call: &Call, read: &Read) -> [(&'static str, bool); CLASSES] {
+    let is = |number| read.number == number;
+    let kind = call.input.get(4).copied().unwrap_or_default();
+    let rooms = Rooms::of(call.lengths);
+    let fills = [read.messages.len(), read.pairs.len()] == [rooms.messages, rooms.pairs];
+    let list = matches!(kind, 1 | 2);
+    let notify = kind == 3;
+    let known = list || notify || matches!(kind, 101..=103);
+    let in_payload = reaches_payload(&call.input);
+    let same_bytes = is(REPEATED) && repeats_bytes(&call.input, &read.pairs);
+    let in_message = within_message(read);
+    [
+        ("0, a KV list", is(0) && list),
+        (
+            "0, a KV list without a pair",
+            is(0) && list && read.pairs.is_empty(),
+        ),
+        (
+            "0, a KV list that the Rust does not convert",
+            is(0) && list && parse_frame_with_limit(&call.input, call.limit).is_err(),
+        ),
+        ("0, a NOTIFY", is(0) && notify),
+        (
+            "0, a NOTIFY with a repeated argument",
+            is(0) && repeats_argument(&call.input, read),
+        ),
+        (
+            "0, with bytes behind the frame",
+            is(0) && read.at < call.input.len() as u64,
+        ),
+        ("0, with tables that are full then", is(0) && fills),
+        ("1, from the length bytes", is(1) && call.input.len() < 4),
+        ("1, from the frame", is(1) && call.input.len() >= 4),
+        ("2", is(2)),
+        ("3, no type", is(3) && read.at == 4),
+        ("3, short flags", is(3) && read.at == 5),
+        ("3, an id", is(3) && read.at > 5 && !in_payload),
+        ("3, the payload", is(3) && in_payload),
+        ("4, the type", is(4) && !known),
+        ("4, the flags", is(4) && known),
+        ("5", is(5)),
+        ("6", is(6)),
+        ("7, an id", is(7) && !in_payload),
+        ("7, the payload", is(7) && in_payload),
+        ("8", is(8)),
+        ("9, the same bytes", same_bytes),
+        ("9, the same lossy text alone", is(REPEATED) && !same_bytes),
+        (
+            "9, and 10 without it",
+            is(REPEATED) && read.pairs.len() > rooms.pairs,
+        ),
+        ("10, a message", is(TABLE_FULL) && notify && !in_message),
+        ("10, an argument", is(TABLE_FULL) && notify && in_message),
+        ("10, a pair of a KV list", is(TABLE_FULL) && list),
+        (
+            "10, and 9 with more room",
+            is(TABLE_FULL) && call.by_paper_without_end().number == REPEATED,
+        ),
+    ]
+}
+
+/// Whether both ids can be read.
+fn reaches_payload(input: &[u8]) -> bool {
+    let ids = || {
+        let length = u32::from_be_bytes(*input.first_chunk()?) as usize;
+        let (rest, _) = decode_varint(input.get(9..4 + length)?).ok()?;
+        decode_varint(rest).ok()
+    };
+    ids().is_some()
+}
+
+/// Whether the last message has arguments that were not met.
+fn within_message(read: &Read) -> bool {
+    let end = read.messages.last().map(|message| message[2] + message[3]);
+    end.is_some_and(|end| end > read.pairs.len() as u64)
+}
+
+/// Whether the last key has the bytes of an earlier one.
+fn repeats_bytes(input: &[u8], pairs: &[Pair]) -> bool {
+    let key = |pair: &Pair| records::part(input, pair[0], pair[1]);
+    match pairs.split_last() {
+        Some((last, earlier)) => earlier.iter().any(|pair| key(pair) == key(last)),
+        None => false,
+    }
+}
+
+/// Whether a message has an argument's name twice, in its first ones.
+fn repeats_argument(input: &[u8], read: &Read) -> bool {
+    read.messages.iter().any(|message| {
+        let (first, count) = (message[2] as usize, message[3].min(8) as usize);
+        let run = &read.pairs[first..first + count];
+        (2..=count).any(|end| repeats_bytes(input, &run[..end]))
+    })
+}

@@ -1,0 +1,9 @@
+//! Frames and pairs that are read: the sides that are compared, and what they are given.
+
+pub mod back;
+pub mod classes;
+pub mod lent;
+pub mod model;
+pub mod rust;
+pub mod sides;
+pub mod wire;
