@@ -112,7 +112,7 @@ pub(crate) fn fill(payload: &[u8], base: usize, kv: bool, messages: &mut [u64], 
 }
 
 // Reads a payload that stands behind `base` other bytes: looks, and then fills.
-pub(crate) fn into_tables(
+fn look_and_fill(
     payload: &[u8],
     base: usize,
     kv: bool,
@@ -144,6 +144,24 @@ pub(crate) fn into_tables(
             };
         },
     }
+}
+
+// The same, with a copy of both passes for each kind of payload: neither then asks again at each record which kind it is.
+pub(crate) fn into_tables(
+    payload: &[u8],
+    base: usize,
+    kv: bool,
+    messages: &mut [u64],
+    pairs: &mut [u64],
+) -> PayloadRead
+    requires { ⌜ base + length (now payload) < 2 ^ 63 ⌝ }
+    ensures { λ r. ⌜ payloadSaid r ≡ payloadTells (payloadOf kv (roomsOf (now (messages .entry)) (now (pairs .entry))) (now (payload .entry))) ⌝ }
+    ensures { λ r. ⌜ Fills (behind movedContents base (payloadOf kv (roomsOf (now (messages .entry)) (now (pairs .entry))) (now (payload .entry)))) (now (messages .entry)) (now (messages .exit)) (now (pairs .entry)) (now (pairs .exit)) ⌝ }
+{
+    if kv {
+        return look_and_fill(payload, base, true, messages, pairs);
+    }
+    look_and_fill(payload, base, false, messages, pairs)
 }
 
 // Reads a payload that stands alone: a KV list, or a list of messages.

@@ -1,37 +1,11 @@
--- `parser::fill::into_tables` meets its contract: a refusal fills nothing in, and what is accepted is filled in.
+-- `parser::fill::into_tables` meets its contract: either copy is told the kind that it was picked by.
 -- Assumes nothing.
 use borrow.Author.Needs.{needs}
-use mathlib.Core.Path.{sym, ap, _∙_}
-use Rattle.answer.specs.Answer.{behind}
-use Rattle.parser.specs.Payload.{payload, movedContents}
-use Rattle.parser.specs.Promise.{payloadSaid, roomsOf}
-use Rattle.parser.proofs.Frames.{tells-refused, tells-done, fills-nothing}
 use Rattle.parser.proofs.fill.into_tables.Statement.{statement}
 use Rattle.parser.proofs.fill.into_tables.Tie as tie
 
-look-requires : tie.Need-look-requires
-look-requires c κs = search needs
-
-enum-known-r : tie.Need-enum-known-r
-enum-known-r c = search needs
-
-returns : tie.Need-returns
-returns c =
-    let l = c .before .before .before in
-    let s = ap payloadSaid (sym (c .before .r .given .1)) ∙ l .look .ensures in
-    let a = l .before .before .before .before .args in
-    let p = payload (a .kv) (roomsOf (a .messages .now) (a .pairs .now)) (a .payload .now) in
-    (s, fills-nothing _ _ _ (ap (behind movedContents (a .base)) (tells-refused p _ _ s)) _ _)
-
-enum-known-message-count : tie.Need-enum-known-message-count
-enum-known-message-count c = search needs
-
-fill-requires : tie.Need-fill-requires
-fill-requires c κs =
-    let k = c .before .before .before in
-    let l = k .before .before in
-    let o = tells-done _ _ _ (ap payloadSaid (sym (k .message-count .given .1)) ∙ l .look .ensures) in
-    (l .before .before .before .before .pre, record { contents = o .0; end = _; is = o .1 })
+look-and-fill-requires : tie.Need-look-and-fill-requires
+look-and-fill-requires c κs = search needs
 
 same-length : tie.Need-same-length
 same-length c = search needs
@@ -39,22 +13,30 @@ same-length c = search needs
 same-length-2 : tie.Need-same-length-2
 same-length-2 c = search needs
 
+returns : tie.Need-returns
+returns c = let k = c .before .before .before .before in rw (k .before .before .before .if1 .taken) (k .look-and-fill .ensures)
+
+look-and-fill-requires-2 : tie.Need-look-and-fill-requires-2
+look-and-fill-requires-2 c κs = search needs
+
+same-length-3 : tie.Need-same-length-3
+same-length-3 c = search needs
+
+same-length-4 : tie.Need-same-length-4
+same-length-4 c = search needs
+
 returns-2 : tie.Need-returns-2
-returns-2 c =
-    let f = c .before .before .before .before in
-    let k = f .before .before .before .before in
-    let l = k .before .before in
-    (ap payloadSaid (sym (k .message-count .given .1)) ∙ l .look .ensures, f .fill .ensures)
+returns-2 c = let k = c .before .before .before .before in rw (k .before .before .before .if1 .left) (k .look-and-fill2 .ensures)
 
 pub into-tables-spec : {M : Type 1} → statement M
 into-tables-spec =
     tie.close
     (tie.spec
-    look-requires
-    enum-known-r
-    returns
-    enum-known-message-count
-    fill-requires
+    look-and-fill-requires
     same-length
     same-length-2
+    returns
+    look-and-fill-requires-2
+    same-length-3
+    same-length-4
     returns-2)
