@@ -3,20 +3,27 @@
  * Every call takes every input, ends, and does its own refusing. Unless its line says otherwise it answers a number:
  *
  *    0  done            *at: the bytes used or written
- *    3  too soon        the bytes end inside what is read; *at: the end of the input, or for a string or address that is too
- *                       short, right after its length number or type byte
+ *    1  wait            the frame is not whole yet; *at: the bytes missing from its four length bytes, or then from the frame
+ *    2  oversize        a frame's length bytes say more than the limit; *at: 4
+ *    3  too soon        the bytes end inside what is read; *at: the end of the input or of the frame, or for a string or address
+ *                       that is too short, right after its length number or type byte
+ *    4  unknown         a frame's type is none of the six, or its flags are not known ones; *at: 4
+ *    5  aborted         a frame has ABORT set; *at: 4
+ *    6  an agent's      a frame's type is one that agents send, 101 to 103; *at: 4
  *    7  too large       a number over 2^64-1 or of more than ten bytes; *at: right after the byte that broke it
  *    8  no such type    a data type from 10 to 15; *at: right after the type byte
- *    9  repeated        a key that an earlier record has; *at: the record's index
+ *    9  repeated        a key that an earlier pair has; *at: read, right after the second pair; written, the record's index
+ *   10  table full      a table has no room for a record; *at: right after the pair, or for a message right after its count byte
  *   11  no room         the output is too short; *at: 0
- *   12  over the limit  the frame is longer than the limit allows; *at: 0
+ *   12  over the limit  the frame to be written is longer than the limit allows; *at: 0
  *   13  size too small  a frame size is under 256; *at: 0
  *   14  not writable    a number outside its field; *at: the record's index, 0 for metadata and for a value on its own
  *   15  not UTF-8       a text is not well-formed; *at: the same
  *   16  outside         a record points outside the buffer, or the table has fewer; *at: the record's index, or 0
  *   17  too many        a message with more than 255 arguments; *at: the message's index
  *
- * *at is always set. Whatever else is lent changes only after 0, and of an output only the bytes that are written.
+ * *at is always set. Whatever else is lent changes only after 0: of an output the bytes that are written, and of a table the
+ * numbers of the records that were read.
  *
  * No pointer may be null, also where its length is 0 (it need not point at anything then), and what a call may change must not
  * overlap what else is lent to it. Lengths are counted in elements. Calls keep no state, so threads need no lock.
@@ -74,14 +81,68 @@ uint64_t spop_check_value(const uint64_t value[3], const uint8_t *buffer, size_t
  * is spop_check_value's to say. */
 uint64_t spop_write_value(const uint64_t value[3], const uint8_t *buffer, size_t buffer_len, uint8_t *out, size_t out_len, uint64_t *at);
 
+/* A pair is five numbers: key start, key length, and a value's kind, a and b. */
+
+/* Reads the pair at the front of input: its key, a string of any bytes, and its value. Starts count from the input's first byte.
+ * 0 with pair set and the bytes used; else the key's 3 or 7, or then the value's 3, 7 or 8. Bytes after the pair are not looked
+ * at. */
+uint64_t spop_read_pair(const uint8_t *input, size_t input_len, uint64_t pair[5], uint64_t *at);
+
+/* Reads the frame at the front of input, one that HAProxy sends: a HAPROXY-HELLO (type 1) or a HAPROXY-DISCONNECT (2), which hold
+ * a KV list, or a NOTIFY (3), which holds messages. There may be none of either. limit is the most that the frame's length bytes
+ * may say, which is its length without these four. Bytes after the frame are not looked at.
+ *
+ * It answers 0, and *at is the bytes used, the frame's with its length bytes; or the first of these that holds:
+ *
+ *     1              there are fewer than four bytes; *at: how many of the four are missing
+ *     2  at 4        the length bytes say more than limit; the rest is not waited for
+ *     1              there are fewer bytes than the length bytes say; *at: how many are missing
+ *     3  at 4        the frame has no type byte, since its length is 0
+ *     4  at 4        its type is none of 1, 2, 3, 101, 102 and 103
+ *     3  at 5        it has fewer than four bytes of flags
+ *     4  at 4        FIN is not set, or a flag beside FIN and ABORT is
+ *     5  at 4        ABORT is set
+ *     3, 7           its stream id, or then its frame id, cannot be read
+ *     6  at 4        its type is 101 to 103
+ *         in a KV list, for each pair in turn:
+ *     3, 7, 8        its key, or then its value, cannot be read
+ *     9              an earlier key has the same lossy text (spop_same_text says which have); *at: right after this pair
+ *    10              pairs has no room for it; *at: right after it
+ *         in a NOTIFY, for each message in turn:
+ *     3, 7           its name cannot be read
+ *     3              it has no count byte; *at: the frame's end
+ *    10              messages has no room for it; *at: right after its count byte
+ *         and then for each of its arguments in turn, which are pairs, and whose keys may repeat:
+ *     3, 7, 8        its key, or then its value, cannot be read
+ *    10              pairs has no room for it; *at: right after it
+ *
+ * Where no place stands here, 3, 7 and 8 have the one that the head of this file gives. Places and starts count from the frame's
+ * first length byte, input[0].
+ *
+ * After 0, head is the type, the flags (FIN alone, so 1), the stream id, the frame id, how many messages there are, and how many
+ * pairs. The records are at the front of the tables, in the order of their bytes, and the numbers behind them stay. A message has
+ * four: name start, name length, first pair (how many pairs the messages before it have, also where it has none itself) and pair
+ * count. A pair has five, as above; those of a NOTIFY are the arguments of all its messages, one message after the other. A KV list
+ * has no messages. Names, keys and strings may be any bytes. After any other number neither head nor a table has changed.
+ *
+ * messages has room for messages_len / 4 messages, and pairs for pairs_len / 5 pairs, rounded down. Either may have none. A record
+ * takes two bytes of its frame or more, so with room for limit / 2 in each table the answer is never 10. In a KV list each key is
+ * compared with those before it, so its time grows with the square of the pairs that there is room for.
+ *
+ * To go on: after 0 the next frame is *at bytes further, at input + *at with input_len - *at bytes. After 1, call again with the
+ * same bytes and *at more behind them; where the four length bytes were not there, it may then answer 1 once more, for the rest.
+ * After 3 to 10 the frame is whole: whoever passes it over goes on four bytes further than its length bytes say. */
+uint64_t spop_read_frame(const uint8_t *input, size_t input_len, uint32_t limit,
+                         uint64_t *messages, size_t messages_len, uint64_t *pairs, size_t pairs_len,
+                         uint64_t head[6], uint64_t *at);
+
 /* The writers of frames take records in a table of numbers, so many of them, whose starts count in buffer; and a limit for the
  * frame's length without its four length bytes. They answer, the first of these that holds: 14 for the metadata (type, flags and
  * numbers of stream and frame); 16 for more records than the table has; for the first record that is refused its number, with its
  * index in *at; 12; 11. The records are written in their order. */
 
-/* Writes a KV frame: type 1 or 2, or 101 or 102 with FIN alone and both numbers 0. A pair has five numbers: key start, key length,
- * and a value's kind, a and b. A pair's refusals, in this order: 14; 16 and 15 for its key; 16 and 15 for its value; 9 where an
- * earlier key is the same text. */
+/* Writes a KV frame: type 1 or 2, or 101 or 102 with FIN alone and both numbers 0. A pair has five numbers, as above. Its refusals,
+ * in this order: 14; 16 and 15 for its key; 16 and 15 for its value; 9 where an earlier key is the same text. */
 uint64_t spop_write_kv(uint64_t type, bool fin, bool abort, uint64_t stream_id, uint64_t frame_id, uint32_t limit,
                        const uint8_t *buffer, size_t buffer_len, const uint64_t *pairs, size_t pairs_len, uint64_t pair_count,
                        uint8_t *out, size_t out_len, uint64_t *at);
