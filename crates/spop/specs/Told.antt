@@ -1,5 +1,5 @@
 -- What a call under a C name hands over of an answer: the refusal's number as its result, 0 for done; through `at` what goes with
--- it, the bytes used or written, or the place; and through what else is lent the value, which stays where there is none.
+-- it, the bytes used or written, those missing, or the place; and through what else is lent the value, which stays where there is none.
 use mathlib.Core.Path.{_≡_}
 use mathlib.Core.List.{List, [], _∷_}
 use Prim.Native.Nat.{ℕ}

@@ -1,8 +1,8 @@
 // The calls under C names, as `include/spop.h` declares them. Each is thin over the call that it wraps, and its promise goes
 // through the same definitions.
 //
-// A call answers a refusal's number, 0 for done, and `at` takes what goes with it: the bytes used or written, or the place.
-// Whatever else is lent changes only after 0.
+// A call answers a refusal's number, 0 for done, and `at` takes what goes with it: the bytes used or written, after a wait those that are
+// missing, or the place. Whatever else is lent changes only after 0.
 use answer::Refusal;
 use answer::WAIT;
 use answer::Written;
