@@ -1,6 +1,6 @@
 // Frames, read into lent tables: at least one for each line of the order in docs/RULES.md, "A frame, read".
 //
-// The tables are full of KEPT before a call. Afterwards each of their numbers is compared: a refusal or a wait changes none, and a frame
+// The tables are full of OLD before a call. Afterwards each of their numbers is compared: a refusal or a wait changes none, and a frame
 // that is accepted changes its own records alone.
 use crate::show::print_bytes;
 use crate::show::refused;
@@ -10,12 +10,14 @@ use parser::FrameRead;
 
 const LIMIT: u32 = 1_048_576;
 
-const KEPT: u64 = 0xA5A5_A5A5_A5A5_A5A5;
+const OLD: u64 = 0xA5A5_A5A5_A5A5_A5A5;
 
 pub(crate) fn frames() {
     lengths();
-    heads();
+    flags();
+    ids();
     pairs();
+    keys();
     messages();
 }
 
@@ -30,8 +32,8 @@ fn lengths() {
     waits(b"\x00\x00\x00\x07\x01\x00\x00\x00\x01\x00", 1);
 }
 
-// The type, the flags and the two ids.
-fn heads() {
+// The type and the flags.
+fn flags() {
     stops(b"\x00\x00\x00\x00", 3, 4);
     flagged(4, 1, 4);
     stops(b"\x00\x00\x00\x04\x01\x00\x00\x00", 3, 5);
@@ -39,25 +41,28 @@ fn heads() {
     flagged(1, 2, 4);
     flagged(1, 5, 4);
     flagged(1, 3, 5);
+}
+
+// The two ids. That a type is an agent's is tested behind them, and behind the flags.
+fn ids() {
     stops(b"\x00\x00\x00\x05\x01\x00\x00\x00\x01", 3, 9);
     stops(
         b"\x00\x00\x00\x0F\x01\x00\x00\x00\x01\xF0\x80\x80\x80\x80\x80\x80\x80\x80\x0F",
         7,
         19,
     );
-    // That a type is an agent's is tested last, behind the ids and the flags.
     stops(b"\x00\x00\x00\x06\x65\x00\x00\x00\x01\x00", 3, 10);
     flagged(101, 2, 4);
     flagged(101, 1, 6);
 }
 
-// KV lists: without a pair, cut short, of a type and a number that are none, accepted, with a key twice, and too long.
+// KV lists: without a pair, cut short, with a data type and a number that there is not, and accepted.
 fn pairs() {
     reads(
         b"\x00\x00\x00\x07\x01\x00\x00\x00\x01\x00\x00",
         &[0, 11, 1, 1, 0, 0, 0, 0],
-        &[KEPT; 8],
-        &[KEPT; 15],
+        &[OLD; 8],
+        &[OLD; 15],
     );
     stops(b"\x00\x00\x00\x09\x01\x00\x00\x00\x01\x00\x00\x02A", 3, 12);
     stops(
@@ -73,26 +78,13 @@ fn pairs() {
     reads(
         b"\x00\x00\x00\x12\x02\x00\x00\x00\x01\x00\x00\x01A\x03\x07\x01B\x08\x032.0",
         &[0, 22, 2, 1, 0, 0, 0, 2],
-        &[KEPT; 8],
-        &[
-            12,
-            1,
-            3,
-            7,
-            0,
-            16,
-            1,
-            8,
-            19,
-            3,
-            KEPT,
-            KEPT,
-            KEPT,
-            KEPT,
-            KEPT,
-        ],
+        &[OLD; 8],
+        &[12, 1, 3, 7, 0, 16, 1, 8, 19, 3, OLD, OLD, OLD, OLD, OLD],
     );
-    // Keys are the same where their lossy texts are, which is tested before the room.
+}
+
+// Keys are the same where their lossy texts are, and that is tested before the room.
+fn keys() {
     let twice = b"\x00\x00\x00\x0F\x01\x00\x00\x00\x01\x00\x00\x02A\xFF\x00\x02A\xFE\x00";
     stops(twice, 9, 19);
     stops_in_one(twice, 9, 19);
@@ -120,14 +112,14 @@ fn messages() {
     reads(
         b"\x00\x00\x00\x19\x03\x00\x00\x00\x01\x01\x02\x05delay\x02\x04slot\x03\x07\x02ok\x11",
         &[0, 29, 3, 1, 1, 2, 1, 2],
-        &[12, 5, 0, 2, KEPT, KEPT, KEPT, KEPT],
-        &[19, 4, 3, 7, 0, 26, 2, 1, 1, 0, KEPT, KEPT, KEPT, KEPT, KEPT],
+        &[12, 5, 0, 2, OLD, OLD, OLD, OLD],
+        &[19, 4, 3, 7, 0, 26, 2, 1, 1, 0, OLD, OLD, OLD, OLD, OLD],
     );
     reads(
         b"\x00\x00\x00\x12\x03\x00\x00\x00\x01\x01\x02\x01m\x02\x01a\x03\x07\x01a\x03\x08",
         &[0, 22, 3, 1, 1, 2, 1, 2],
-        &[12, 1, 0, 2, KEPT, KEPT, KEPT, KEPT],
-        &[15, 1, 3, 7, 0, 19, 1, 3, 8, 0, KEPT, KEPT, KEPT, KEPT, KEPT],
+        &[12, 1, 0, 2, OLD, OLD, OLD, OLD],
+        &[15, 1, 3, 7, 0, 19, 1, 3, 8, 0, OLD, OLD, OLD, OLD, OLD],
     );
 }
 
@@ -145,24 +137,24 @@ fn stops(input: &[u8], number: u64, at: u64) {
     reads(
         input,
         &[number, at, 0, 0, 0, 0, 0, 0],
-        &[KEPT; 8],
-        &[KEPT; 15],
+        &[OLD; 8],
+        &[OLD; 15],
     );
 }
 
 // Not accepted, with room for one pair: four numbers more are no second one.
 fn stops_in_one(input: &[u8], number: u64, at: u64) {
-    let mut messages = [KEPT; 8];
-    let mut pairs = [KEPT; 9];
+    let mut messages = [OLD; 8];
+    let mut pairs = [OLD; 9];
     let told = answer_to(input, &mut messages, &mut pairs);
     let right = same_numbers(&told, &[number, at, 0, 0, 0, 0, 0, 0]);
-    verdict(right && same_numbers(&messages, &[KEPT; 8]) && same_numbers(&pairs, &[KEPT; 9]));
+    verdict(right && same_numbers(&messages, &[OLD; 8]) && same_numbers(&pairs, &[OLD; 9]));
 }
 
 // Reads with room for two messages and three pairs. The answer is to be as marked, and so are the tables afterwards.
 fn reads(input: &[u8], marked: &[u64; 8], marked_messages: &[u64; 8], marked_pairs: &[u64; 15]) {
-    let mut messages = [KEPT; 8];
-    let mut pairs = [KEPT; 15];
+    let mut messages = [OLD; 8];
+    let mut pairs = [OLD; 15];
     let told = answer_to(input, &mut messages, &mut pairs);
     let right = same_numbers(&told, marked);
     verdict(
