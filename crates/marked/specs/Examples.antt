@@ -124,6 +124,7 @@ examples =
     ∷ frameInOne (framed 0x0F 1 1 (0x00 ∷ 0x00 ∷ 0x02 ∷ 0x41 ∷ 0xFF ∷ 0x00 ∷ 0x02 ∷ 0x41 ∷ 0xFE ∷ 0x00 ∷ [])) (stops 9 19)
     ∷ frameInOne (framed 0x0F 1 1 (0x00 ∷ 0x00 ∷ 0x02 ∷ 0x41 ∷ 0x42 ∷ 0x00 ∷ 0x02 ∷ 0x41 ∷ 0x43 ∷ 0x00 ∷ [])) (stops 10 19)
     -- lists of messages
+    ∷ frame (framed 0x09 3 1 (0x01 ∷ 0x02 ∷ 0x02 ∷ 0x6D ∷ [])) (stops 3 12)
     ∷ frame (framed 0x09 3 1 (0x01 ∷ 0x02 ∷ 0x01 ∷ 0x6D ∷ [])) (stops 3 13)
     ∷ frame (framed 0x0A 3 1 (0x01 ∷ 0x02 ∷ 0x01 ∷ 0x6D ∷ 0x01 ∷ [])) (stops 3 14)
     ∷ frame (framed 0x10 3 1 (0x01 ∷ 0x02 ∷ 0x01 ∷ 0x6D ∷ 0x00 ∷ 0x01 ∷ 0x6E ∷ 0x00 ∷ 0x01 ∷ 0x6F ∷ 0x00 ∷ [])) (stops 10 20)
@@ -146,4 +147,4 @@ marked =
     (refl, refl) and (refl, refl) and (refl, refl) and (refl, refl) and (refl, refl) and refl and refl and refl and refl and refl and
     refl and refl and refl and refl and refl and refl and refl and refl and refl and refl and refl and refl and refl and refl and
     refl and refl and refl and refl and refl and refl and refl and refl and refl and refl and refl and refl and refl and refl and
-    refl and refl and refl and refl and refl and refl and refl and refl and tt
+    refl and refl and refl and refl and refl and refl and refl and refl and refl and tt

@@ -95,9 +95,10 @@ fn keys() {
     );
 }
 
-// Lists of messages: without a count byte, without an argument that is to come, too long, the frame of the listing in docs/RULES.md, and
-// one whose argument comes twice.
+// Lists of messages: with a name cut short, without a count byte, without an argument that is to come, too long, the frame of the listing in
+// docs/RULES.md, and one whose argument comes twice.
 fn messages() {
+    stops(b"\x00\x00\x00\x09\x03\x00\x00\x00\x01\x01\x02\x02m", 3, 12);
     stops(b"\x00\x00\x00\x09\x03\x00\x00\x00\x01\x01\x02\x01m", 3, 13);
     stops(
         b"\x00\x00\x00\x0A\x03\x00\x00\x00\x01\x01\x02\x01m\x01",
