@@ -1,33 +1,83 @@
--- The worked examples of docs/RULES.md on numbers, values and sizes, as one statement over a list.
+-- Worked examples of docs/RULES.md on numbers, values, frames that are read and frame sizes, as one statement over a list. The program runs
+-- the same ones.
 use mathlib.Core.Path.{_≡_, refl}
 use mathlib.Core.List.{List, [], _∷_}
 use Prim.Native.Nat.{ℕ, _+_, _-_, _^_}
 use lib.ListN.{length}
 use Rattle.answer.specs.Answer.{Answer, done, refused}
-use Rattle.types.specs.Value.{Record, value, typed, shape, signExtended}
-use Rattle.hello.specs.Hello.{frameSize}
+use Rattle.answer.specs.Order.{inOrder}
+use Rattle.answer.specs.Table.{some}
 use Rattle.varint.specs.Number.{worth, more, number, groups, numberBytes}
+use Rattle.utf8.specs.Text.{rows, follow, inRange, front, rowFor, step, bySteps, lossy, same, sameText}
+use Rattle.types.specs.Value.{Record, value, string, typed, shape, signExtended}
+use Rattle.frame.specs.declared.Pair.{Pair}
+use Rattle.frame.specs.declared.Message.{Message}
+use Rattle.frame.specs.Head.{fourNumber}
+use Rattle.parser.specs.declared.Rooms.{Rooms}
+use Rattle.parser.specs.declared.Metadata.{Metadata}
+use Rattle.parser.specs.Pair.{pair}
+use Rattle.parser.specs.Payload.{Contents, onePair, oneMessage, toEnd, payload}
+use Rattle.parser.specs.Frame.{Reading, wait, answered, lastId, ids, metadata, wholeFrame, frameRead}
+use Rattle.hello.specs.Hello.{frameSize}
 
--- what an example says: a number is these bytes, written and read; some bytes are read so, as a number
--- or as a value; two frame sizes settle so
+-- what an example says: a number is these bytes, written and read; some bytes are read so, as a number, as a value, or as a frame under a
+-- limit and with rooms; two frame sizes settle so
 pub data Example : Type 0 where
   is : ℕ → List ℕ → Example
   reads : List ℕ → Answer ℕ → Example
   values : List ℕ → Answer Record → Example
+  frames : ℕ → Rooms → List ℕ → Reading (Metadata × Contents) → Example
   sizes : ℕ → ℕ → Answer Unit → Example
 
 abbrev pub Holds : Example → Type 0
 Holds (is n bytes) = (numberBytes n ≡ bytes) × (number bytes ≡ done n (length bytes))
 Holds (reads bytes answer) = number bytes ≡ answer
 Holds (values bytes answer) = typed bytes ≡ answer
+Holds (frames limit rooms bytes answer) = frameRead limit rooms bytes ≡ answer
 Holds (sizes theirs ours answer) = frameSize theirs ours ≡ answer
 
 abbrev pub All : List Example → Type 0
 All [] = Unit
 All (e ∷ es) = Holds e × All es
 
+-- how such a statement is proved: example after example
+infixr 5 _and_
+abbrev pub _and_ : {A B : Type 0} → A → B → A × B
+a and b = (a, b)
+
+-- ---- frames
+
+-- under this limit, with room for two messages and three pairs; and with room for one pair
+abbrev pub frame : List ℕ → Reading (Metadata × Contents) → Example
+frame bytes answer = frames 1048576 (record { messages = 2; pairs = 3 }) bytes answer
+
+abbrev pub frameInOne : List ℕ → Reading (Metadata × Contents) → Example
+frameInOne bytes answer = frames 1048576 (record { messages = 2; pairs = 1 }) bytes answer
+
+-- n bytes behind the length bytes: a type, flags, and what comes behind them
+abbrev pub framed : ℕ → ℕ → ℕ → List ℕ → List ℕ
+framed n kind flags rest = 0 ∷ 0 ∷ 0 ∷ n ∷ kind ∷ 0 ∷ 0 ∷ 0 ∷ flags ∷ rest
+
+-- the answers: a refusal; and a frame that has FIN alone
+abbrev pub stops : ℕ → ℕ → Reading (Metadata × Contents)
+stops number place = answered (refused number place)
+
+abbrev pub accepted : ℕ → ℕ → ℕ → List Message → List Pair → ℕ → Reading (Metadata × Contents)
+accepted kind stream id messages pairs used =
+    answered (done (record { kind = kind; flags = 1; stream = stream; frame = id }, record { messages = messages; pairs = pairs; left = 0 }) used)
+
+-- records by the numbers of their tables
+abbrev pub aMessage : ℕ → ℕ → ℕ → ℕ → Message
+aMessage start len first count = record { start = start; len = len; first = first; count = count }
+
+abbrev pub aPair : ℕ → ℕ → ℕ → ℕ → ℕ → Pair
+aPair start len kind a b = record { start = start; len = len; value = record { kind = kind; a = a; b = b } }
+
+-- ---- the list
+
 abbrev pub examples : List Example
 examples =
+    -- numbers
     is 239 (0xEF ∷ [])
     ∷ is 240 (0xF0 ∷ 0x00 ∷ [])
     ∷ is 2287 (0xFF ∷ 0x7F ∷ [])
@@ -37,15 +87,64 @@ examples =
     (done (240 + 2 ^ 11 + 2 ^ 18 + 2 ^ 25 + 2 ^ 32 + 2 ^ 39 + 2 ^ 46 + 2 ^ 53 + 2 ^ 60) 10)
     ∷ reads (0xF0 ∷ 0x80 ∷ 0x80 ∷ 0x80 ∷ 0x80 ∷ 0x80 ∷ 0x80 ∷ 0x80 ∷ 0x80 ∷ 0x0F ∷ []) (refused 7 10)
     ∷ reads (0xF0 ∷ 0x80 ∷ 0x80 ∷ 0x80 ∷ 0x80 ∷ 0x80 ∷ 0x80 ∷ 0x80 ∷ 0x80 ∷ 0x80 ∷ 0x00 ∷ []) (refused 7 11)
+    -- values
     ∷ values (0x02 ∷ 0xF0 ∷ 0xF1 ∷ 0xFE ∷ 0xFE ∷ 0x7E ∷ []) (done (value 2 0 0) 6)
     ∷ values (0x21 ∷ []) (done (value 1 0 0) 1)
     ∷ values (0xF1 ∷ []) (done (value 1 1 0) 1)
     ∷ values (0x0A ∷ []) (refused 8 1)
+    -- frames: the length bytes, the limit, and whether all is there
+    ∷ frame [] (wait 4)
+    ∷ frame (0x00 ∷ []) (wait 3)
+    ∷ frame (0x00 ∷ 0x00 ∷ 0x00 ∷ []) (wait 1)
+    ∷ frame (0x00 ∷ 0x10 ∷ 0x00 ∷ 0x01 ∷ []) (stops 2 4)
+    ∷ frame (0x00 ∷ 0x10 ∷ 0x00 ∷ 0x00 ∷ []) (wait 1048576)
+    ∷ frame (framed 0x07 1 1 (0x00 ∷ [])) (wait 1)
+    -- the type, the flags and the two ids
+    ∷ frame (0x00 ∷ 0x00 ∷ 0x00 ∷ 0x00 ∷ []) (stops 3 4)
+    ∷ frame (framed 0x07 4 1 (0x00 ∷ 0x00 ∷ [])) (stops 4 4)
+    ∷ frame (0x00 ∷ 0x00 ∷ 0x00 ∷ 0x04 ∷ 0x01 ∷ 0x00 ∷ 0x00 ∷ 0x00 ∷ []) (stops 3 5)
+    ∷ frame (framed 0x07 1 0 (0x00 ∷ 0x00 ∷ [])) (stops 4 4)
+    ∷ frame (framed 0x07 1 2 (0x00 ∷ 0x00 ∷ [])) (stops 4 4)
+    ∷ frame (framed 0x07 1 5 (0x00 ∷ 0x00 ∷ [])) (stops 4 4)
+    ∷ frame (framed 0x07 1 3 (0x00 ∷ 0x00 ∷ [])) (stops 5 4)
+    ∷ frame (framed 0x05 1 1 []) (stops 3 9)
+    ∷ frame (framed 0x0F 1 1 (0xF0 ∷ 0x80 ∷ 0x80 ∷ 0x80 ∷ 0x80 ∷ 0x80 ∷ 0x80 ∷ 0x80 ∷ 0x80 ∷ 0x0F ∷ [])) (stops 7 19)
+    ∷ frame (framed 0x06 101 1 (0x00 ∷ [])) (stops 3 10)
+    ∷ frame (framed 0x07 101 2 (0x00 ∷ 0x00 ∷ [])) (stops 4 4)
+    ∷ frame (framed 0x07 101 1 (0x00 ∷ 0x00 ∷ [])) (stops 6 4)
+    -- KV lists
+    ∷ frame (framed 0x07 1 1 (0x00 ∷ 0x00 ∷ [])) (accepted 1 0 0 [] [] 11)
+    ∷ frame (framed 0x09 1 1 (0x00 ∷ 0x00 ∷ 0x02 ∷ 0x41 ∷ [])) (stops 3 12)
+    ∷ frame (framed 0x0A 1 1 (0x00 ∷ 0x00 ∷ 0x01 ∷ 0x41 ∷ 0x0A ∷ [])) (stops 8 14)
+    ∷ frame (framed 0x14 1 1 (0x00 ∷ 0x00 ∷ 0x01 ∷ 0x41 ∷ 0x05 ∷ 0xF0 ∷ 0x80 ∷ 0x80 ∷ 0x80 ∷ 0x80 ∷ 0x80 ∷ 0x80 ∷ 0x80 ∷ 0x80 ∷ 0x0F ∷ []))
+    (stops 7 24)
+    ∷ frame (framed 0x12 2 1 (0x00 ∷ 0x00 ∷ 0x01 ∷ 0x41 ∷ 0x03 ∷ 0x07 ∷ 0x01 ∷ 0x42 ∷ 0x08 ∷ 0x03 ∷ 0x32 ∷ 0x2E ∷ 0x30 ∷ []))
+    (accepted 2 0 0 [] (aPair 12 1 3 7 0 ∷ aPair 16 1 8 19 3 ∷ []) 22)
+    ∷ frame (framed 0x0F 1 1 (0x00 ∷ 0x00 ∷ 0x02 ∷ 0x41 ∷ 0xFF ∷ 0x00 ∷ 0x02 ∷ 0x41 ∷ 0xFE ∷ 0x00 ∷ [])) (stops 9 19)
+    ∷ frameInOne (framed 0x0F 1 1 (0x00 ∷ 0x00 ∷ 0x02 ∷ 0x41 ∷ 0xFF ∷ 0x00 ∷ 0x02 ∷ 0x41 ∷ 0xFE ∷ 0x00 ∷ [])) (stops 9 19)
+    ∷ frameInOne (framed 0x0F 1 1 (0x00 ∷ 0x00 ∷ 0x02 ∷ 0x41 ∷ 0x42 ∷ 0x00 ∷ 0x02 ∷ 0x41 ∷ 0x43 ∷ 0x00 ∷ [])) (stops 10 19)
+    -- lists of messages
+    ∷ frame (framed 0x09 3 1 (0x01 ∷ 0x02 ∷ 0x02 ∷ 0x6D ∷ [])) (stops 3 12)
+    ∷ frame (framed 0x09 3 1 (0x01 ∷ 0x02 ∷ 0x01 ∷ 0x6D ∷ [])) (stops 3 13)
+    ∷ frame (framed 0x0A 3 1 (0x01 ∷ 0x02 ∷ 0x01 ∷ 0x6D ∷ 0x01 ∷ [])) (stops 3 14)
+    ∷ frame (framed 0x10 3 1 (0x01 ∷ 0x02 ∷ 0x01 ∷ 0x6D ∷ 0x00 ∷ 0x01 ∷ 0x6E ∷ 0x00 ∷ 0x01 ∷ 0x6F ∷ 0x00 ∷ [])) (stops 10 20)
+    ∷ frame (framed 0x19 3 1 (0x01 ∷ 0x02 ∷ 0x05 ∷ 0x64 ∷ 0x65 ∷ 0x6C ∷ 0x61 ∷ 0x79 ∷ 0x02
+    ∷ 0x04 ∷ 0x73 ∷ 0x6C ∷ 0x6F ∷ 0x74 ∷ 0x03 ∷ 0x07 ∷ 0x02 ∷ 0x6F ∷ 0x6B ∷ 0x11 ∷ []))
+    (accepted 3 1 2 (aMessage 12 5 0 2 ∷ []) (aPair 19 4 3 7 0 ∷ aPair 26 2 1 1 0 ∷ []) 29)
+    ∷ frame (framed 0x12 3 1 (0x01 ∷ 0x02 ∷ 0x01 ∷ 0x6D ∷ 0x02 ∷ 0x01 ∷ 0x61 ∷ 0x03 ∷ 0x07 ∷ 0x01 ∷ 0x61 ∷ 0x03 ∷ 0x08 ∷ []))
+    (accepted 3 1 2 (aMessage 12 1 0 2 ∷ []) (aPair 15 1 3 7 0 ∷ aPair 19 1 3 8 0 ∷ []) 22)
+    -- frame sizes
     ∷ sizes 255 256 (refused 13 0)
     ∷ sizes 256 255 (refused 13 0)
     ∷ sizes 256 256 (done tt 256)
     ∷ []
 
 pub marked : All examples
-unfolding worth more number groups numberBytes typed shape signExtended frameSize
-marked = ((refl, refl), ((refl, refl), ((refl, refl), ((refl, refl), ((refl, refl), (refl, (refl, (refl, (refl, (refl, (refl, (refl, (refl, (refl, (refl, tt)))))))))))))))
+unfolding worth more number groups numberBytes string typed shape signExtended fourNumber inOrder some
+    rows follow inRange front rowFor step bySteps lossy same sameText
+    pair onePair oneMessage toEnd payload lastId ids metadata wholeFrame frameRead frameSize
+marked =
+    (refl, refl) and (refl, refl) and (refl, refl) and (refl, refl) and (refl, refl) and refl and refl and refl and refl and refl and
+    refl and refl and refl and refl and refl and refl and refl and refl and refl and refl and refl and refl and refl and refl and
+    refl and refl and refl and refl and refl and refl and refl and refl and refl and refl and refl and refl and refl and refl and
+    refl and refl and refl and refl and refl and refl and refl and refl and refl and tt

@@ -1,14 +1,20 @@
 // Runs worked examples of docs/RULES.md and says of each what it found: a line for each, which ends in "as marked" where the answer is the
 // one that is marked here.
 //
-// Those on numbers, values and sizes are also proved of the definitions, as one statement over a list, in specs/Examples.antt. Those on texts
-// and frames are only run.
+// Those on numbers, values, frames that are read and frame sizes are also proved of the definitions, as one statement over a list, in
+// specs/Examples.antt. Those on texts and on frames that are written are only run.
+mod frames_read;
+mod frames_written;
+mod show;
+
 ghost use Prim.Native.Nat.{_≤_};
 ghost use lib.ListN.{length};
-use answer::Refusal;
 use answer::Written;
 use hello::Size;
 use libc::STDOUT_FILENO;
+use show::print_bytes;
+use show::refused;
+use show::verdict;
 use types::Typed;
 use varint::Number;
 
@@ -26,7 +32,8 @@ fn main() {
     numbers();
     texts();
     values();
-    frames();
+    frames_written::frames();
+    frames_read::frames();
     sizes();
 }
 
@@ -181,126 +188,6 @@ fn value(input: &[u8], kind: u64, marked: Answer) {
     }
 }
 
-// Frames, whole, their records in order: two of pairs and one of actions, as an agent sends them, and one of messages, as HAProxy does.
-fn frames() {
-    agent_hello();
-    agent_disconnect();
-    ack();
-    upload();
-}
-
-fn agent_hello() {
-    let pairs = [0, 7, 8, 33, 3, 7, 14, 3, 16_380, 0, 21, 12, 8, 0, 0];
-    let mut out = [0u8; 64];
-    let answer = writer::write_kv(
-        101,
-        true,
-        false,
-        0,
-        0,
-        16_384,
-        b"versionmax-frame-sizecapabilities2.0",
-        &pairs,
-        3,
-        &mut out,
-    );
-    written(
-        b"agent-hello: ",
-        answer,
-        &out,
-        b"\x00\x00\x00\x36\x65\x00\x00\x00\x01\x00\x00\x07version\x08\x032.0\x0Emax-frame-size\x03\xFC\xF0\x06\x0Ccapabilities\x08\x00",
-    );
-}
-
-fn agent_disconnect() {
-    let pairs = [0, 11, 3, 0, 0, 11, 7, 8, 18, 6];
-    let mut out = [0u8; 64];
-    let answer = writer::write_kv(
-        102,
-        true,
-        false,
-        0,
-        0,
-        16_384,
-        b"status-codemessagenormal",
-        &pairs,
-        2,
-        &mut out,
-    );
-    written(
-        b"agent-disconnect: ",
-        answer,
-        &out,
-        b"\x00\x00\x00\x25\x66\x00\x00\x00\x01\x00\x00\x0Bstatus-code\x03\x00\x07message\x08\x06normal",
-    );
-}
-
-fn ack() {
-    let actions = [1, 2, 0, 6, 3, 7, 0, 1, 2, 6, 6, 3, 300, 0];
-    let mut out = [0u8; 64];
-    let answer = writer::write_actions(
-        true,
-        false,
-        1,
-        2,
-        16_384,
-        b"slot_aslot_b",
-        &actions,
-        2,
-        &mut out,
-    );
-    written(
-        b"ack: ",
-        answer,
-        &out,
-        b"\x00\x00\x00\x20\x67\x00\x00\x00\x01\x01\x02\x01\x03\x02\x06slot_a\x03\x07\x01\x03\x02\x06slot_b\x03\xFC\x03",
-    );
-}
-
-// The frame of the listing in docs/RULES.md.
-fn upload() {
-    let messages = [0, 5, 0, 2];
-    let pairs = [5, 4, 3, 7, 0, 9, 2, 1, 1, 0];
-    let mut out = [0u8; 64];
-    let answer = writer::write_notify(
-        true,
-        false,
-        1,
-        2,
-        16_384,
-        b"delayslotok",
-        &messages,
-        1,
-        &pairs,
-        2,
-        &mut out,
-    );
-    written(
-        b"notify: ",
-        answer,
-        &out,
-        b"\x00\x00\x00\x19\x03\x00\x00\x00\x01\x01\x02\x05delay\x02\x04slot\x03\x07\x02ok\x11",
-    );
-}
-
-fn written(name: &[u8], answer: Written, out: &[u8], marked: &[u8]) {
-    io::write_all(STDOUT_FILENO, name);
-    match answer {
-        Written::Done(k) => {
-            if out.len() < k {
-                verdict(false);
-                return;
-            }
-            print_bytes(&out[0..k]);
-            verdict(check::same(&out[0..k], marked));
-        },
-        Written::Refused(r) => {
-            refused(r);
-            verdict(false);
-        },
-    }
-}
-
 // Frame sizes of both sides, and what they settle on.
 fn sizes() {
     size(
@@ -449,27 +336,4 @@ fn stands_for(text: &[u8], byte: u8) -> usize
         return 3;
     }
     0
-}
-
-fn refused(r: Refusal) {
-    io::write_all(STDOUT_FILENO, b"refused ");
-    io::print_decimal(STDOUT_FILENO, r.number);
-    io::write_all(STDOUT_FILENO, b" at ");
-    io::print_decimal(STDOUT_FILENO, r.place as u64);
-}
-
-fn print_bytes(bytes: &[u8]) {
-    let mut i = 0;
-    while i < bytes.len() {
-        io::print_hex(STDOUT_FILENO, bytes[i] as u64, 2);
-        i += 1;
-    }
-}
-
-fn verdict(right: bool) {
-    if right {
-        io::write_all(STDOUT_FILENO, b", as marked\n");
-    } else {
-        io::write_all(STDOUT_FILENO, b", NOT AS MARKED\n");
-    }
 }

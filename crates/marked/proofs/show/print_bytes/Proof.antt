@@ -1,11 +1,11 @@
--- `marked::print_bytes` is safe and ends: `i` goes up to the length.
+-- `marked::show::print_bytes` is safe and ends: `i` goes up to the length.
 -- Assumes nothing.
 use Prim.Native.Nat.{_-_, _≤_}
 use borrow.Author.Needs.{needs}
 use native.Mathlib.Omega.{arith}
 use lib.ListN.{length}
-use Rattle.marked.proofs.print_bytes.Statement.{statement}
-use Rattle.marked.proofs.print_bytes.Tie as tie
+use Rattle.marked.proofs.show.print_bytes.Statement.{statement}
+use Rattle.marked.proofs.show.print_bytes.Tie as tie
 
 abbrev Inv-loop : tie.InvT-loop
 Inv-loop bytes i₀ i = i ≤ length bytes
