@@ -9,7 +9,7 @@ use native.Mathlib.Omega.{arith}
 use lib.Dec.{ltb}
 use lib.ListN.{length, take, drop, getD, length-append, length-drop}
 use borrow.Rule.Slice.PartMut.{putMid}
-use Rattle.answer.specs.Answer.{Answer, done, written, leaves, behind}
+use Rattle.answer.specs.Answer.{done, refused, written, leaves, behind}
 use Rattle.answer.specs.Table.{joined}
 use Rattle.answer.proofs.Cases.{bool-cases, not-both, lt-or-le}
 use Rattle.answer.proofs.Output.{leaves-tail, leaves-length, lent-tail}
@@ -21,7 +21,7 @@ use Rattle.frame.specs.Records.{messageWidth, messageNumbers, pairWidth, pairNu
 use Rattle.parser.specs.declared.Rooms.{Rooms}
 use Rattle.parser.specs.declared.State.{State}
 use Rattle.parser.specs.Pair.{movedPair, pairFrom}
-use Rattle.parser.specs.Payload.{Contents, withPair, withMessage, stringFrom, oneItem, ended, payload, movedMessage, movedContents}
+use Rattle.parser.specs.Payload.{Contents, withPair, withMessage, stringFrom, onePair, oneMessage, oneItem, ended, payload, movedMessage, movedContents}
 use Rattle.parser.specs.Promise.{roomsOf, Fills}
 use Rattle.parser.specs.Inner.{afterPair, afterMessage, Stands, PairThere, MessageThere, Accepted}
 use Rattle.parser.proofs.Runs.{from-next}
@@ -72,12 +72,6 @@ module _ {A : Type 0} {numbers : A → List ℕ} {old : List ℕ} {xs : List A} 
 
   -- one more goes into the tail behind them
   module _ (x : A) (n : ℕ) (count : length (joined numbers xs) ≡ n) (room : n + length (numbers x) ≤ length old) where
-    pub filled-start : n ≤ length table
-    filled-start = omega (arith, filled-length)
-
-    pub filled-tail : length (numbers x) ≤ length (take (length table - n) (drop n table))
-    filled-tail = rw (lent-tail n table) (omega (arith, filled-length, length-drop n table))
-
     pub filled-more : (tail : List ℕ) → tail ≡ leaves (written (numbers x)) (take (length table - n) (drop n table))
         → Filled numbers old (xs ++ (x ∷ [])) (putMid n (length table - n) table tail)
     filled-more tail t =
@@ -122,6 +116,118 @@ filling-none kv s base oldMessages oldPairs =
       in-pairs = filled-none (pairBehind base) oldPairs;
     }
 
+-- the tail behind n numbers
+pub tail-room : (n width : ℕ) (table : List ℕ) → n + width ≤ length table → width ≤ length (take (length table - n) (drop n table))
+tail-room n width table h = rw (lent-tail n table) (omega (arith, length-drop n table))
+
+module _ {kv : Bool} {s : List ℕ} {base : ℕ} {oldMessages oldPairs : List ℕ} {x : State} {messages pairs : List ℕ}
+    (f : Filling kv s base oldMessages oldPairs x messages pairs) where
+  -- so many numbers are filled in, which lie in the tables
+  pair-count : length (joined (pairBehind base) (f .met .pairs)) ≡ x .pairs * 5
+  pair-count = pairs-wide base (f .met .pairs) ∙ ap (λ (n : ℕ). n * 5) (f .stands .pairs)
+
+  message-count : length (joined (messageBehind base) (f .met .messages)) ≡ x .messages * 4
+  message-count = messages-wide base (f .met .messages) ∙ ap (λ (n : ℕ). n * 4) (f .stands .messages)
+
+  pub pairs-in : (x .pairs * 5 ≤ length oldPairs) × (length pairs ≡ length oldPairs)
+  pairs-in = (omega (arith, pair-count, f .in-pairs .room), filled-length (f .in-pairs))
+
+  pub messages-in : (x .messages * 4 ≤ length oldMessages) × (length messages ≡ length oldMessages)
+  messages-in = (omega (arith, message-count, f .in-messages .room), filled-length (f .in-messages))
+
+  -- one more
+  module _ (h : x .at < length s) (y : State) where
+    pub filling-pair : (p : Pair) → oneItem kv (roomsOf oldMessages oldPairs) (x .at) (f .met) s ≡ done (withPair (f .met) p) (y .at)
+        → Stands kv s y (withPair (f .met) p) → x .pairs * 5 + 5 ≤ length oldPairs
+        → (tail : List ℕ) → tail ≡ leaves (written (pairBehind base p)) (take (length pairs - x .pairs * 5) (drop (x .pairs * 5) pairs))
+        → Filling kv s base oldMessages oldPairs y messages (putMid (x .pairs * 5) (length pairs - x .pairs * 5) pairs tail)
+    filling-pair p item st room tail l =
+        record {
+          met = withPair (f .met) p;
+          stands = st;
+          goes = goes-on (f .goes) h (withPair (f .met) p) (y .at) item;
+          in-messages = f .in-messages;
+          in-pairs = filled-more (f .in-pairs) p (x .pairs * 5) pair-count room tail l;
+        }
+
+    pub filling-message : (start len count : ℕ)
+        → oneItem kv (roomsOf oldMessages oldPairs) (x .at) (f .met) s ≡ done (withMessage (f .met) (span start len) count) (y .at)
+        → Stands kv s y (withMessage (f .met) (span start len) count) → x .messages * 4 + 4 ≤ length oldMessages
+        → (tail : List ℕ)
+        → tail
+        ≡ leaves (written (messageNumbers (record { start = base + start; len = len; first = x .pairs; count = count })))
+        (take (length messages - x .messages * 4) (drop (x .messages * 4) messages))
+        → Filling kv s base oldMessages oldPairs y (putMid (x .messages * 4) (length messages - x .messages * 4) messages tail) pairs
+    filling-message start len count item st room tail l =
+        record {
+          met = withMessage (f .met) (span start len) count;
+          stands = st;
+          goes = goes-on (f .goes) h _ _ item;
+          in-messages =
+              filled-more (f .in-messages) (record { start = start; len = len; first = length (f .met .pairs); count = count }) (x .messages * 4) message-count room tail (rw (f .stands .pairs) l);
+          in-pairs = f .in-pairs;
+        }
+
+  -- the same by what a step that went on says of it
+  module _ (h : x .at < length s) (y : State) (d : Contents) (st : Stands kv s y d) where
+    pub taken-pair : kv || ltb 0 (x .left) ≡ true
+        → onePair kv (roomsOf oldMessages oldPairs) (x .at) (f .met) s ≡ done d (y .at)
+        → (tail : List ℕ)
+        → ((p : Pair) (end : ℕ) → pairFrom (x .at) s ≡ done p end
+        → tail ≡ leaves (written (pairBehind base p)) (take (length pairs - x .pairs * 5) (drop (x .pairs * 5) pairs)))
+        → Filling kv s base oldMessages oldPairs y messages (putMid (x .pairs * 5) (length pairs - x .pairs * 5) pairs tail)
+    taken-pair t e tail l =
+        let rooms = roomsOf oldMessages oldPairs in
+        let p = pair-says kv rooms (x .at) (f .met) s d (y .at) e in
+        let q = f .stands .pairs in
+        let r = p .room in
+        filling-pair h y (p .pair)
+        (item-pair kv rooms (x .at) (f .met) s (ap (λ (n : ℕ). kv || ltb 0 n) (f .stands .left) ∙ t) ∙ e ∙ ap (λ (c : Contents). done c (y .at)) (sym (p .is)))
+        (rw (p .is) st) (omega arith) tail (l (p .pair) (y .at) (p .from))
+
+    pub taken-message : kv || ltb 0 (x .left) ≡ false
+        → oneMessage (roomsOf oldMessages oldPairs) (x .at) (f .met) s ≡ done d (y .at)
+        → (tail : List ℕ)
+        → ((start len place : ℕ) → stringFrom (x .at) s ≡ done (span start len) place
+        → tail
+        ≡ leaves (written (messageNumbers (record { start = base + start; len = len; first = x .pairs; count = getD s place 0 })))
+        (take (length messages - x .messages * 4) (drop (x .messages * 4) messages)))
+        → Filling kv s base oldMessages oldPairs y (putMid (x .messages * 4) (length messages - x .messages * 4) messages tail) pairs
+    taken-message t e tail l = by-name (m .name) (m .from) (m .is)
+      where
+        m : MessageTaken (roomsOf oldMessages oldPairs) (x .at) (f .met) s d (y .at)
+        m = message-says (roomsOf oldMessages oldPairs) (x .at) (f .met) s d (y .at) e
+
+        by-name : (name : Span) → stringFrom (x .at) s ≡ done name (m .place) → withMessage (f .met) name (getD s (m .place) 0) ≡ d
+            → Filling kv s base oldMessages oldPairs y (putMid (x .messages * 4) (length messages - x .messages * 4) messages tail) pairs
+        by-name (span start len) from is =
+            let q = f .stands .messages in
+            let r = m .room in
+            filling-message h y start len (getD s (m .place) 0)
+            (item-message kv (roomsOf oldMessages oldPairs) (x .at) (f .met) s (ap (λ (n : ℕ). kv || ltb 0 n) (f .stands .left) ∙ t) ∙ e ∙ ap (λ (c : Contents). done c (y .at)) (sym is))
+            (rw is st) (omega arith) tail (l start len (m .place) from)
+
+  -- at the end: arguments are missing, or all is filled in
+  module _ (h : length s ≤ x .at) where
+    pub filling-short : (x .left ≡ 0 → ⊥) → payload kv (roomsOf oldMessages oldPairs) s ≡ refused 3 (x .at)
+    filling-short ne = sym (goes-end (f .goes) h) ∙ ended-short (x .at) (f .met) (λ e. ne (sym (f .stands .left) ∙ e))
+
+    pub filling-done : x .left ≡ 0 → payload kv (roomsOf oldMessages oldPairs) s ≡ done (f .met) (x .at)
+    filling-done e = sym (goes-end (f .goes) h) ∙ ended-done (x .at) (f .met) (f .stands .left ∙ e)
+
+    pub filling-fills : x .left ≡ 0
+        → Fills (behind movedContents base (payload kv (roomsOf oldMessages oldPairs) s)) oldMessages messages oldPairs pairs
+    filling-fills e = rw (filling-done e) all
+      where
+        all : Fills (behind movedContents base (done (f .met) (x .at))) oldMessages messages oldPairs pairs
+        all =
+            record {
+              messages = f .in-messages .holds ∙ ap (λ (l : List ℕ). leaves (written l) oldMessages) (sym (joined-map messageNumbers (movedMessage base) (f .met .messages)));
+              pairs = f .in-pairs .holds ∙ ap (λ (l : List ℕ). leaves (written l) oldPairs) (sym (joined-map pairNumbers (movedPair base) (f .met .pairs)));
+            }
+
+-- ---- a payload that is accepted
+
 module _ {kv : Bool} {s : List ℕ} {base : ℕ} {oldMessages oldPairs : List ℕ} {x : State} {messages pairs : List ℕ}
     (f : Filling kv s base oldMessages oldPairs x messages pairs) (ok : Accepted kv (roomsOf oldMessages oldPairs) s) where
   -- what was asked in the code's terms
@@ -151,22 +257,18 @@ module _ {kv : Bool} {s : List ℕ} {base : ℕ} {oldMessages oldPairs : List �
     pair-room = let r = pair-next .taken .room in let e = f .stands .pairs in omega arith
 
     pub pair-tail : 5 ≤ length (take (length pairs - x .pairs * 5) (drop (x .pairs * 5) pairs))
-    pair-tail = filled-tail (f .in-pairs) (pair-next .taken .pair) (x .pairs * 5) (pairs-wide base (f .met .pairs) ∙ ap (λ (n : ℕ). n * 5) (f .stands .pairs)) pair-room
+    pair-tail = tail-room (x .pairs * 5) 5 pairs (omega (arith, pair-room, pairs-in f))
 
     pub pair-filled : (tail : List ℕ) (y : State)
         → y ≡ afterPair x (pair-next .end)
         → tail ≡ leaves (written (pairBehind base (pair-next .taken .pair))) (take (length pairs - x .pairs * 5) (drop (x .pairs * 5) pairs))
         → Filling kv s base oldMessages oldPairs y messages (putMid (x .pairs * 5) (length pairs - x .pairs * 5) pairs tail)
     pair-filled tail y e l =
+        let p = pair-next .taken in
         rw e
-        (record {
-          met = withPair (f .met) (pair-next .taken .pair);
-          stands = stands-pair (f .stands) (pair-next .taken .pair) (pair-next .end) (pair-next .taken .from);
-          goes = goes-on (f .goes) h (withPair (f .met) (pair-next .taken .pair)) (pair-next .end) (pair-next .item ∙ ap (λ (d : Contents). done d (pair-next .end)) (sym (pair-next .taken .is)));
-          in-messages = f .in-messages;
-          in-pairs =
-              filled-more (f .in-pairs) (pair-next .taken .pair) (x .pairs * 5) (pairs-wide base (f .met .pairs) ∙ ap (λ (n : ℕ). n * 5) (f .stands .pairs)) pair-room tail l;
-        })
+        (filling-pair f h (afterPair x (pair-next .end)) (p .pair)
+        (pair-next .item ∙ ap (λ (d : Contents). done d (pair-next .end)) (sym (p .is)))
+        (stands-pair (f .stands) (p .pair) (pair-next .end) (p .from)) pair-room tail l)
 
   -- a message comes next, and there is room for it
   module _ (h : x .at < length s) (t : kv || ltb 0 (x .left) ≡ false) where
@@ -193,15 +295,8 @@ module _ {kv : Bool} {s : List ℕ} {base : ℕ} {oldMessages oldPairs : List �
         let m = message-says (roomsOf oldMessages oldPairs) (x .at) (f .met) s d n (sym (item-message kv (roomsOf oldMessages oldPairs) (x .at) (f .met) s (next-message t)) ∙ e) in
         apart d n e (m .name) (m .place) (m .from) (m .byte) (m .room) (m .is) (m .ends))
 
-    -- as a record of the table
-    abbrev pub messageHere : MessageThere s (x .at) → Message
-    messageHere m = record { start = m .start; len = m .len; first = length (f .met .pairs); count = getD s (m .place) 0 }
-
-    count : length (joined (messageBehind base) (f .met .messages)) ≡ x .messages * 4
-    count = messages-wide base (f .met .messages) ∙ ap (λ (n : ℕ). n * 4) (f .stands .messages)
-
     pub message-tail : 4 ≤ length (take (length messages - x .messages * 4) (drop (x .messages * 4) messages))
-    message-tail = filled-tail (f .in-messages) (messageHere (message-next .there)) (x .messages * 4) count (message-next .room)
+    message-tail = tail-room (x .messages * 4) 4 messages (omega (arith, message-next .room, messages-in f))
 
     pub message-filled : (tail : List ℕ) (y : State)
         → y ≡ afterMessage x (message-next .there .place + 1) (getD s (message-next .there .place) 0)
@@ -211,27 +306,17 @@ module _ {kv : Bool} {s : List ℕ} {base : ℕ} {oldMessages oldPairs : List �
         → Filling kv s base oldMessages oldPairs y (putMid (x .messages * 4) (length messages - x .messages * 4) messages tail) pairs
     message-filled tail y e l =
         let m = message-next .there in
+        let y = afterMessage x (m .place + 1) (getD s (m .place) 0) in
         rw e
-        (record {
-          met = withMessage (f .met) (span (m .start) (m .len)) (getD s (m .place) 0);
-          stands = stands-message (f .stands) (message-list kv (x .left) t) (m .start) (m .len) (m .place) (getD s (m .place) 0) (m .from) (m .byte);
-          goes = goes-on (f .goes) h _ _ (message-next .item);
-          in-messages = filled-more (f .in-messages) (messageHere m) (x .messages * 4) count (message-next .room) tail (rw (f .stands .pairs) l);
-          in-pairs = f .in-pairs;
-        })
+        (filling-message f h y (m .start) (m .len) (getD s (m .place) 0) (message-next .item)
+        (stands-message (f .stands) (message-list kv (x .left) t) (m .start) (m .len) (m .place) (getD s (m .place) 0) (m .from) (m .byte))
+        (message-next .room) tail l)
 
   -- at the end all is filled in
   pub filling-all : length s ≤ x .at
       → Fills (behind movedContents base (payload kv (roomsOf oldMessages oldPairs) s)) oldMessages messages oldPairs pairs
   filling-all h =
       ⊎-elim
-      (λ z. not-both (ok .is) (sym (goes-end (f .goes) h) ∙ ended-short (x .at) (f .met) (λ e. omega (arith, e, z))))
-      (λ z. rw (sym (goes-end (f .goes) h) ∙ ended-done (x .at) (f .met) (omega (arith, z))) all)
-      (lt-or-le 0 (f .met .left))
-    where
-      all : Fills (behind movedContents base (done (f .met) (x .at))) oldMessages messages oldPairs pairs
-      all =
-          record {
-            messages = f .in-messages .holds ∙ ap (λ (l : List ℕ). leaves (written l) oldMessages) (sym (joined-map messageNumbers (movedMessage base) (f .met .messages)));
-            pairs = f .in-pairs .holds ∙ ap (λ (l : List ℕ). leaves (written l) oldPairs) (sym (joined-map pairNumbers (movedPair base) (f .met .pairs)));
-          }
+      (λ z. not-both (ok .is) (filling-short f h (λ e. omega (arith, e, z))))
+      (λ z. filling-fills f h (omega (arith, z)))
+      (lt-or-le 0 (x .left))

@@ -1,8 +1,9 @@
--- Laws about reading: a pair, pairs one behind the other, payloads to their end, tables that are filled, frames; and that no second
+-- Laws about reading: a pair, pairs one behind the other, payloads to their end, tables that are filled, frames, small payloads; and that no second
 -- result meets a promise.
 pub mod Pairs
 pub mod Runs
 pub mod Walk
 pub mod Filling
 pub mod Frames
+pub mod Copied
 pub mod Unique

@@ -1,5 +1,5 @@
 -- Laws about reading a payload: what each step comes to, what an accepted one says, and how the reading goes on to the end.
-use mathlib.Core.Path.{_≡_, refl, sym, ap, _∙_}
+use mathlib.Core.Path.{_≡_, refl, sym, ap, ap₂, _∙_}
 use mathlib.Core.Bool.{Bool, true, false, cond, not, _&&_, _||_}
 use mathlib.Core.Logic.{⊎-elim}
 use mathlib.Core.List.{List, [], _∷_, _++_}
@@ -8,6 +8,7 @@ use native.Mathlib.Omega.{arith}
 use lib.Dec.{ltb, eqb}
 use lib.ListN.{length, drop, getD, length-drop, length-append}
 use borrow.Author.Tests.{lt-ltb, le-ltb, eq-eqb, ne-eqb}
+use Rattle.answer.specs.declared.Refusal.{Refusal}
 use Rattle.answer.specs.Answer.{Answer, done, refused, next, behind}
 use Rattle.answer.specs.Order.{inOrder}
 use Rattle.answer.proofs.Cases.{lt-or-le, bool-cases, true-false, answer-cases, not-both}
@@ -16,6 +17,7 @@ use Rattle.types.proofs.Reading.{string-accepted, string-place}
 use Rattle.frame.specs.declared.Pair.{Pair}
 use Rattle.parser.specs.declared.Rooms.{Rooms}
 use Rattle.parser.specs.declared.State.{State}
+use Rattle.parser.specs.declared.Step.the-variants as v
 use Rattle.parser.specs.Pair.{pair, pairFrom}
 use Rattle.parser.specs.Payload.{Contents, withPair, withMessage, met, onePair, movedSpan, stringFrom, oneMessage, oneItem, ended, toEnd, payload}
 use Rattle.parser.specs.Inner.{afterPair, afterMessage, Run, Stands}
@@ -47,6 +49,7 @@ module _ (kv : Bool) (rooms : Rooms) (at : ℕ) (c : Contents) (s : List ℕ) wh
   pub record PairTaken (d : Contents) (end : ℕ) : Type 0 where
     pub pair : Pair
     pub from : pairFrom at s ≡ done pair end
+    pub new : kv && met s (c .pairs) pair ≡ false
     pub room : length (c .pairs) < rooms .pairs
     pub is : withPair c pair ≡ d
 
@@ -58,7 +61,7 @@ module _ (kv : Bool) (rooms : Rooms) (at : ℕ) (c : Contents) (s : List ℕ) wh
       (λ t. not-both e (pair-met p n f t))
       (λ t.
       ⊎-elim
-      (λ h. let o = done-same (sym (pair-taken p n f t h) ∙ e) in record { pair = p; from = f ∙ ap (done p) (o .1); room = h; is = o .0 })
+      (λ h. let o = done-same (sym (pair-taken p n f t h) ∙ e) in record { pair = p; from = f ∙ ap (done p) (o .1); new = t; room = h; is = o .0 })
       (λ h. not-both e (pair-full p n f t h))
       (lt-or-le (length (c .pairs)) (rooms .pairs))))
       (λ n place r. not-both e (pair-refused n place r))
@@ -207,6 +210,10 @@ module _ {kv : Bool} {rooms : Rooms} {s : List ℕ} {at : ℕ} {c : Contents} {a
 
 -- ---- how far a pass is
 
+-- a step does not go on and refuse
+pub step-apart : {G : Type 0} {x : State} {r : Refusal} → v.On x ≡ v.Refused r → G
+step-apart e = let z : _≡_ {A = ℕ} 0 1 = cc in absurd (omega arith)
+
 pub stands-none : (kv : Bool) (s : List ℕ) → Stands kv s (record { at = 0; left = 0; messages = 0; pairs = 0 }) (record { messages = []; pairs = []; left = 0 })
 stands-none kv s = record { place = omega arith; messages = refl; pairs = refl; left = refl; few = omega arith; run = λ t. refl }
 
@@ -321,3 +328,87 @@ end-in kv rooms s (suc k) at c h =
 pub payload-ends : (kv : Bool) (rooms : Rooms) (s : List ℕ) → ends (payload kv rooms s) ≤ length s
 unfolding payload
 payload-ends kv rooms s = end-in kv rooms s (length s) 0 _ (omega arith)
+
+-- ---- other rooms
+
+ended-same : {f : Contents} {n : ℕ} (at : ℕ) (c : Contents) → ended at c ≡ done f n → (length (c .messages) ≤ length (f .messages)) × (length (c .pairs) ≤ length (f .pairs))
+ended-same at c e =
+    ⊎-elim
+    (λ l. not-both e (ended-short at c (λ z. omega (arith, z, l))))
+    (λ l. rw (sym (done-same (sym (ended-done at c (omega (arith, l))) ∙ e) .0)) (omega arith))
+    (lt-or-le 0 (c .left))
+
+-- a record more is one more
+item-grows : (kv : Bool) (rooms : Rooms) (at : ℕ) (c : Contents) (s : List ℕ) (d : Contents) (n : ℕ) → oneItem kv rooms at c s ≡ done d n
+    → (length (c .messages) ≤ length (d .messages)) × (length (c .pairs) ≤ length (d .pairs))
+item-grows kv rooms at c s d n e =
+    bool-cases (kv || ltb 0 (c .left))
+    (λ t.
+    let p = pair-says kv rooms at c s d n (sym (item-pair kv rooms at c s t) ∙ e) in
+    rw (sym (p .is)) (omega (arith, one-more (c .pairs) (p .pair))))
+    (λ t. by-name (message-says rooms at c s d n (sym (item-message kv rooms at c s t) ∙ e)))
+  where
+    more : (name : Span) (count : ℕ) → withMessage c name count ≡ d → (length (c .messages) ≤ length (d .messages)) × (length (c .pairs) ≤ length (d .pairs))
+    more (span start len) count is = rw (sym is) (omega (arith, one-more (c .messages) (record { start = start; len = len; first = length (c .pairs); count = count })))
+
+    by-name : MessageTaken rooms at c s d n → (length (c .messages) ≤ length (d .messages)) × (length (c .pairs) ≤ length (d .pairs))
+    by-name m = more (m .name) (getD s (m .place) 0) (m .is)
+
+-- where the others have room for what comes next, it comes out the same
+item-fits : (kv : Bool) (rooms others : Rooms) (at : ℕ) (c : Contents) (s : List ℕ) (d : Contents) (n : ℕ) → oneItem kv rooms at c s ≡ done d n
+    → length (d .messages) ≤ others .messages → length (d .pairs) ≤ others .pairs → oneItem kv others at c s ≡ done d n
+item-fits kv rooms others at c s d n e hm hp =
+    bool-cases (kv || ltb 0 (c .left))
+    (λ t.
+    let p = pair-says kv rooms at c s d n (sym (item-pair kv rooms at c s t) ∙ e) in
+    item-pair kv others at c s t
+    ∙ pair-taken kv others at c s (p .pair) n (p .from) (p .new) (omega (arith, one-more (c .pairs) (p .pair), ap (λ (x : Contents). length (x .pairs)) (p .is), hp))
+    ∙ ap (λ (x : Contents). done x n) (p .is))
+    (λ t. item-message kv others at c s t ∙ by-message (message-says rooms at c s d n (sym (item-message kv rooms at c s t) ∙ e)))
+  where
+    room : (name : Span) (count : ℕ) → withMessage c name count ≡ d → length (c .messages) < others .messages
+    room (span start len) count is =
+        omega (arith, one-more (c .messages) (record { start = start; len = len; first = length (c .pairs); count = count }), ap (λ (x : Contents). length (x .messages)) is, hm)
+
+    by-message : MessageTaken rooms at c s d n → oneMessage others at c s ≡ done d n
+    by-message m =
+        message-taken others at c s (m .name) (m .place) (m .from) (m .byte) (room (m .name) (getD s (m .place) 0) (m .is))
+        ∙ ap₂ done (m .is) (m .ends)
+
+module _ (kv : Bool) (rooms : Rooms) (s : List ℕ) (end : Contents) (n : ℕ) where
+  grows : (k at : ℕ) (c : Contents) → toEnd kv rooms k at c s ≡ done end n → (length (c .messages) ≤ length (end .messages)) × (length (c .pairs) ≤ length (end .pairs))
+  unfolding toEnd
+  grows zero at c e = ended-same at c e
+  grows (suc k) at c e =
+      ⊎-elim
+      (λ l.
+      let f = rw (lt-ltb at (length s) l) at e in
+      answer-cases (oneItem kv rooms at c s)
+      (λ d m g. let o = item-grows kv rooms at c s d m g in omega (arith, o, grows k m d (rw g at f)))
+      (λ m place r. not-both (rw r at f) refl))
+      (λ l. ended-same at c (rw (le-ltb at (length s) l) at e))
+      (lt-or-le at (length s))
+
+  fits : (others : Rooms) → length (end .messages) ≤ others .messages → length (end .pairs) ≤ others .pairs
+      → (k at : ℕ) (c : Contents) → toEnd kv rooms k at c s ≡ done end n → toEnd kv others k at c s ≡ done end n
+  unfolding toEnd
+  fits others hm hp zero at c e = e
+  fits others hm hp (suc k) at c e =
+      ⊎-elim
+      (λ l.
+      let f = rw (lt-ltb at (length s) l) at e in
+      rw (lt-ltb at (length s) l)
+      (answer-cases (oneItem kv rooms at c s)
+      (λ d m g.
+      let h = rw g at f in
+      let o = grows k m d h in
+      rw (item-fits kv rooms others at c s d m g (omega (arith, o, hm)) (omega (arith, o, hp))) (fits others hm hp k m d h))
+      (λ m place r. not-both (rw r at f) refl)))
+      (λ l. rw (le-ltb at (length s) l) (rw (le-ltb at (length s) l) at e))
+      (lt-or-le at (length s))
+
+  -- Law: what is accepted is accepted the same by all tables that have room for it.
+  pub payload-fits : (others : Rooms) → length (end .messages) ≤ others .messages → length (end .pairs) ≤ others .pairs
+      → payload kv rooms s ≡ done end n → payload kv others s ≡ done end n
+  unfolding payload
+  payload-fits others hm hp e = fits others hm hp (length s) 0 _ e

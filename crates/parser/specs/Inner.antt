@@ -1,10 +1,10 @@
 -- What only private contracts cite. No public promise rests on anything in this file.
 use mathlib.Core.Path.{_≡_}
-use mathlib.Core.Bool.{Bool, true}
+use mathlib.Core.Bool.{Bool, true, false}
 use mathlib.Core.List.{List, [], _∷_}
 use Prim.Native.Nat.{ℕ, _+_, _-_, _≤_, _<_}
 use lib.ListN.{length, getD}
-use Rattle.answer.specs.Answer.{Answer, done, refused, written, leaves}
+use Rattle.answer.specs.Answer.{Answer, done, refused, behind, written, leaves}
 use Rattle.types.specs.Value.{span}
 use Rattle.frame.specs.declared.Pair.{Pair}
 use Rattle.frame.specs.Records.{messageNumbers, pairNumbers}
@@ -13,13 +13,15 @@ use Rattle.parser.specs.declared.Metadata.{Metadata}
 use Rattle.parser.specs.declared.MetadataRead.{MetadataRead}
 use Rattle.parser.specs.declared.MetadataRead.the-variants as m
 use Rattle.parser.specs.declared.FrameRead.{FrameRead}
+use Rattle.parser.specs.declared.Once.{Once}
+use Rattle.parser.specs.declared.Once.the-variants as o
 use Rattle.parser.specs.declared.State.{State}
 use Rattle.parser.specs.declared.Step.{Step}
 use Rattle.parser.specs.declared.Step.the-variants as v
 use Rattle.parser.specs.Pair.{movedPair, pairFrom}
-use Rattle.parser.specs.Payload.{Contents, stringFrom, payload}
+use Rattle.parser.specs.Payload.{Contents, stringFrom, payload, movedContents}
 use Rattle.parser.specs.Frame.{answered, wholeFrame}
-use Rattle.parser.specs.Promise.{frameSaid, frameTells, roomsOf, contentsRead, Fills}
+use Rattle.parser.specs.Promise.{payloadTells, frameSaid, frameTells, roomsOf, contentsRead, Fills}
 
 -- how far a pass is behind a pair, and behind a message with so many arguments
 abbrev pub afterPair : State → ℕ → State
@@ -79,6 +81,31 @@ pub record Accepted (kv : Bool) (rooms : Rooms) (s : List ℕ) : Type 0 where
   pub contents : Contents
   pub end : ℕ
   pub is : payload kv rooms s ≡ done contents end
+
+-- ---- the one pass
+
+-- Where a step went on, what it read stands at the front of old, which is new afterwards.
+abbrev pub PutsPair : List ℕ → ℕ → State → Step → List ℕ → List ℕ → Type 0
+PutsPair s base x r old new =
+    (y : State) → r ≡ v.On y → (p : Pair) (end : ℕ) → pairFrom (x .at) s ≡ done p end → new ≡ leaves (written (pairNumbers (movedPair base p))) old
+
+abbrev pub PutsMessage : List ℕ → ℕ → State → Step → List ℕ → List ℕ → Type 0
+PutsMessage s base x r old new =
+    (y : State) → r ≡ v.On y → (start len place : ℕ) → stringFrom (x .at) s ≡ done (span start len) place
+    → new ≡ leaves (written (messageNumbers (record { start = base + start; len = len; first = x .pairs; count = getD s place 0 }))) old
+
+-- A payload that is accepted is filled in.
+abbrev pub FillsAccepted : ℕ → List ℕ → List ℕ → List ℕ → List ℕ → List ℕ → Type 0
+FillsAccepted base s oldMessages newMessages oldPairs newPairs =
+    (c : Contents) (end : ℕ) → payload false (roomsOf oldMessages oldPairs) s ≡ done c end
+    → Fills (behind movedContents base (payload false (roomsOf oldMessages oldPairs) s)) oldMessages newMessages oldPairs newPairs
+
+-- what reading in one pass finds and leaves
+abbrev pub ReadsOnce : ℕ → List ℕ → Once → List ℕ → List ℕ → List ℕ → List ℕ → Type 0
+ReadsOnce base s (o.Read messages pairs used) oldMessages newMessages oldPairs newPairs =
+    (done (messages, pairs) used ≡ payloadTells (payload false (roomsOf oldMessages oldPairs) s))
+    × Fills (behind movedContents base (payload false (roomsOf oldMessages oldPairs) s)) oldMessages newMessages oldPairs newPairs
+ReadsOnce base s o.Left oldMessages newMessages oldPairs newPairs = (newMessages ≡ oldMessages) × (newPairs ≡ oldPairs)
 
 -- ---- the frame
 

@@ -1,4 +1,5 @@
 // The second pass over a payload that is accepted: it fills the tables, and asks nothing again.
+use crate::Once;
 use crate::PairRead;
 use crate::PayloadRead;
 use crate::Rooms;
@@ -9,12 +10,14 @@ use crate::look::look;
 use crate::look::pair_next;
 use crate::pair::moved_pair;
 use crate::pair::read_pair;
+use crate::small::read_once;
 use frame::MESSAGE_WIDTH;
 use frame::Message;
 use frame::PAIR_WIDTH;
 use frame::Pair;
 use types::Text;
 ghost use mathlib.Core.Path.{_≡_};
+ghost use mathlib.Core.Bool.{false};
 ghost use Prim.Native.Nat.{_+_, _≤_, _<_, _^_};
 ghost use lib.ListN.{length};
 ghost use Rattle.answer.specs.Answer.{written, leaves, behind};
@@ -24,7 +27,7 @@ ghost use Rattle.parser.specs.Promise.{roomsOf, Fills, payloadSaid, payl
 ghost use Rattle.parser.specs.Inner.{PairThere, MessageThere, FillsPair, FillsMessage, Accepted};
 
 // Writes the five numbers of a pair.
-fn put_pair(pair: Pair, table: &mut [u64])
+pub(crate) fn put_pair(pair: Pair, table: &mut [u64])
     requires { ⌜ pairWidth ≤ length (now table) ⌝ }
     ensures { λ _. ⌜ now (table .exit) ≡ leaves (written (pairNumbers pair)) (now (table .entry)) ⌝ }
 {
@@ -36,7 +39,7 @@ fn put_pair(pair: Pair, table: &mut [u64])
 }
 
 // Writes the four numbers of a message.
-fn put_message(message: Message, table: &mut [u64])
+pub(crate) fn put_message(message: Message, table: &mut [u64])
     requires { ⌜ messageWidth ≤ length (now table) ⌝ }
     ensures { λ _. ⌜ now (table .exit) ≡ leaves (written (messageNumbers message)) (now (table .entry)) ⌝ }
 {
@@ -146,6 +149,35 @@ fn look_and_fill(
     }
 }
 
+// Reads a list of messages: in one pass where it is small, else in two.
+fn messages_into(
+    payload: &[u8],
+    base: usize,
+    messages: &mut [u64],
+    pairs: &mut [u64],
+) -> PayloadRead
+    requires { ⌜ base + length (now payload) < 2 ^ 63 ⌝ }
+    ensures { λ r. ⌜ payloadSaid r ≡ payloadTells (payloadOf false (roomsOf (now (messages .entry)) (now (pairs .entry))) (now (payload .entry))) ⌝ }
+    ensures { λ r. ⌜ Fills (behind movedContents base (payloadOf false (roomsOf (now (messages .entry)) (now (pairs .entry))) (now (payload .entry)))) (now (messages .entry)) (now (messages .exit)) (now (pairs .entry)) (now (pairs .exit)) ⌝ }
+{
+    match read_once(payload, base, messages, pairs) {
+        Once::Read {
+            messages: message_count,
+            pairs: pair_count,
+            used,
+        } => {
+            return PayloadRead::Done {
+                messages: message_count,
+                pairs: pair_count,
+                used,
+            };
+        },
+        Once::Left => {
+            return look_and_fill(payload, base, false, messages, pairs);
+        },
+    }
+}
+
 // The same, with a copy of both passes for each kind of payload: neither then asks again at each record which kind it is.
 pub(crate) fn into_tables(
     payload: &[u8],
@@ -161,7 +193,7 @@ pub(crate) fn into_tables(
     if kv {
         return look_and_fill(payload, base, true, messages, pairs);
     }
-    look_and_fill(payload, base, false, messages, pairs)
+    messages_into(payload, base, messages, pairs)
 }
 
 // Reads a payload that stands alone: a KV list, or a list of messages.

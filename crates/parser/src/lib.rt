@@ -6,6 +6,7 @@ mod fill;
 mod head;
 mod look;
 mod pair;
+mod small;
 
 use answer::Refusal;
 pub use fill::read_payload;
@@ -73,4 +74,14 @@ pub(crate) enum Step {
 pub(crate) enum MetadataRead {
     Done { metadata: Metadata, start: usize },
     Refused(Refusal),
+}
+
+// What reading a payload in one pass finds: its counts and bytes, where it was read so; else nothing has changed.
+pub(crate) enum Once {
+    Read {
+        messages: usize,
+        pairs: usize,
+        used: usize,
+    },
+    Left,
 }

@@ -1,4 +1,4 @@
--- `parser::fill::into_tables` meets its contract: either copy is told the kind that it was picked by.
+-- `parser::fill::into_tables` meets its contract: each kind of payload has its own way.
 -- Assumes nothing.
 use borrow.Author.Needs.{needs}
 use Rattle.parser.proofs.fill.into_tables.Statement.{statement}
@@ -16,8 +16,8 @@ same-length-2 c = search needs
 returns : tie.Need-returns
 returns c = let k = c .before .before .before .before in rw (k .before .before .before .if1 .taken) (k .look-and-fill .ensures)
 
-look-and-fill-requires-2 : tie.Need-look-and-fill-requires-2
-look-and-fill-requires-2 c κs = search needs
+messages-into-requires : tie.Need-messages-into-requires
+messages-into-requires c κs = search needs
 
 same-length-3 : tie.Need-same-length-3
 same-length-3 c = search needs
@@ -26,7 +26,7 @@ same-length-4 : tie.Need-same-length-4
 same-length-4 c = search needs
 
 returns-2 : tie.Need-returns-2
-returns-2 c = let k = c .before .before .before .before in rw (k .before .before .before .if1 .left) (k .look-and-fill2 .ensures)
+returns-2 c = let k = c .before .before .before .before in rw (k .before .before .before .if1 .left) (k .messages-into .ensures)
 
 pub into-tables-spec : {M : Type 1} → statement M
 into-tables-spec =
@@ -36,7 +36,7 @@ into-tables-spec =
     same-length
     same-length-2
     returns
-    look-and-fill-requires-2
+    messages-into-requires
     same-length-3
     same-length-4
     returns-2)

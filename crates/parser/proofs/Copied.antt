@@ -1,0 +1,77 @@
+-- Laws about a payload whose records were read into other tables: what is copied from there is what the payload holds.
+use mathlib.Core.Path.{_≡_, sym, ap, ap₂, _∙_}
+use mathlib.Core.Bool.{false}
+use mathlib.Core.List.{List, _++_, map}
+use Prim.Native.Nat.{ℕ, _+_, _*_, _/_, _≤_}
+use native.Mathlib.Omega.{arith}
+use lib.ListN.{length, take, drop, length-append}
+use lib.Seq.{take-at}
+use Rattle.answer.specs.Answer.{Answer, done, behind, written, leaves}
+use Rattle.answer.specs.Table.{joined}
+use Rattle.frame.specs.declared.Pair.{Pair}
+use Rattle.frame.specs.declared.Message.{Message}
+use Rattle.frame.specs.Records.{messageNumbers, pairNumbers}
+use Rattle.parser.specs.Pair.{movedPair}
+use Rattle.parser.specs.Payload.{Contents, payload, movedMessage, movedContents}
+use Rattle.parser.specs.Promise.{Counts, countsOf, payloadTells, roomsOf, Fills}
+use Rattle.parser.specs.Inner.{FillsAccepted}
+use Rattle.parser.proofs.Walk.{payload-fits}
+use Rattle.parser.proofs.Filling.{joined-map, pairs-wide, messages-wide}
+use Rattle.parser.proofs.Frames.{tells-done}
+
+-- the front of a table that was filled
+front : (numbers old new : List ℕ) (n : ℕ) → length numbers ≡ n → new ≡ leaves (written numbers) old → (take n new ≡ numbers) × (n ≤ length new)
+front numbers old new n count e = (
+  ap (take n) e ∙ take-at numbers (drop (length numbers) old) n count,
+  omega (arith, count, ap length e ∙ length-append numbers (drop (length numbers) old)),
+)
+
+module _ (s : List ℕ) (base : ℕ) (ownMessages newMessages ownPairs newPairs : List ℕ) (m p used : ℕ)
+    (says : done (m, p) used ≡ payloadTells (payload false (roomsOf ownMessages ownPairs) s))
+    (fills : FillsAccepted base s ownMessages newMessages ownPairs newPairs) where
+  pub found : (c : Contents) × (payload false (roomsOf ownMessages ownPairs) s ≡ done c used) × (countsOf c ≡ (m, p))
+  found = tells-done (payload false (roomsOf ownMessages ownPairs) s) (m, p) used says
+
+  filled : Fills (behind movedContents base (done (found .0) used)) ownMessages newMessages ownPairs newPairs
+  filled = rw (found .1) at (fills (found .0) used (found .1))
+
+  message-numbers : length (joined messageNumbers (map (movedMessage base) (found .0 .messages))) ≡ m * 4
+  message-numbers =
+      ap length (joined-map messageNumbers (movedMessage base) (found .0 .messages))
+      ∙ messages-wide base (found .0 .messages)
+      ∙ ap (λ (k : Counts). k .0 * 4) (found .2)
+
+  pair-numbers : length (joined pairNumbers (map (movedPair base) (found .0 .pairs))) ≡ p * 5
+  pair-numbers =
+      ap length (joined-map pairNumbers (movedPair base) (found .0 .pairs))
+      ∙ pairs-wide base (found .0 .pairs)
+      ∙ ap (λ (k : Counts). k .1 * 5) (found .2)
+
+  -- the records stand at the front of these tables
+  pub own-messages : (take (m * 4) newMessages ≡ joined messageNumbers (map (movedMessage base) (found .0 .messages))) × (m * 4 ≤ length newMessages)
+  own-messages = front _ ownMessages newMessages (m * 4) message-numbers (filled .messages)
+
+  pub own-pairs : (take (p * 5) newPairs ≡ joined pairNumbers (map (movedPair base) (found .0 .pairs))) × (p * 5 ≤ length newPairs)
+  own-pairs = front _ ownPairs newPairs (p * 5) pair-numbers (filled .pairs)
+
+  -- and are copied to the front of others that have room for them
+  module _ (messages pairs : List ℕ) (hm : m ≤ length messages / 4) (hp : p ≤ length pairs / 5) where
+    same : payload false (roomsOf messages pairs) s ≡ done (found .0) used
+    same =
+        payload-fits false (roomsOf ownMessages ownPairs) s (found .0) used (roomsOf messages pairs)
+        (omega (arith, hm, ap (λ (k : Counts). k .0) (found .2)))
+        (omega (arith, hp, ap (λ (k : Counts). k .1) (found .2)))
+        (found .1)
+
+    pub copied-says : done (m, p) used ≡ payloadTells (payload false (roomsOf messages pairs) s)
+    copied-says = ap (λ (k : Counts). done k used) (sym (found .2)) ∙ ap payloadTells (sym same)
+
+    pub copied-fills : (afterMessages afterPairs : List ℕ)
+        → afterMessages ≡ leaves (written (take (m * 4) newMessages)) messages → afterPairs ≡ leaves (written (take (p * 5) newPairs)) pairs
+        → Fills (behind movedContents base (payload false (roomsOf messages pairs) s)) messages afterMessages pairs afterPairs
+    copied-fills afterMessages afterPairs em ep =
+        rw same
+        (record {
+          messages = em ∙ ap (λ (l : List ℕ). leaves (written l) messages) (own-messages .0);
+          pairs = ep ∙ ap (λ (l : List ℕ). leaves (written l) pairs) (own-pairs .0);
+        })
