@@ -1,7 +1,8 @@
 // What HAProxy sends, read (SPOE.txt, section 3.2): a pair, a payload, a whole frame.
 //
-// No public call has a `requires`: each does its own refusing. A first pass over a payload finds the answer and writes nothing; only
-// what is accepted is filled in, by a second pass.
+// No public call has a `requires`: each does its own refusing. A first pass over a payload finds the answer and writes nothing (`look`);
+// only what is accepted is filled in, by a second pass (`fill`). A small list of messages is read in one pass, into tables of its own
+// (`small`).
 mod fill;
 mod head;
 mod look;
