@@ -6,4 +6,5 @@ pub mod Walk
 pub mod Filling
 pub mod Frames
 pub mod Copied
+pub mod Kept
 pub mod Unique

@@ -1,0 +1,238 @@
+-- Demand 3: a reading repeated with bytes appended, a limit no lower and tables no smaller keeps an accepted frame whole, and a refusal's
+-- number and place, except 2 under a higher limit and 10 with a larger table; and a wait is given exactly where bytes are missing.
+use mathlib.Core.Path.{_≡_, refl, sym, ap, ap₂, _∙_}
+use mathlib.Core.Bool.{Bool, true, false, not, _&&_, _||_}
+use mathlib.Core.Logic.{_⊎_, inl, inr, ⊎-elim}
+use mathlib.Core.List.{List, [], _∷_, _++_}
+use Prim.Native.Nat.{ℕ, zero, suc, _+_, _-_, _≤_, _<_}
+use native.Mathlib.Omega.{arith}
+use lib.Dec.{ltb, eqb}
+use lib.ListN.{length, take, drop, getD, length-append}
+use lib.Seq.{getD-take, take-append-le}
+use borrow.Author.Tests.{lt-ltb, le-ltb, eqb-true, eqb-false}
+use Rattle.answer.specs.Answer.{Answer, done, refused, next, behind}
+use Rattle.answer.proofs.Cases.{lt-or-le, bool-cases, answer-cases, not-both}
+use Rattle.frame.specs.Head.{fourNumber}
+use Rattle.parser.specs.declared.Rooms.{Rooms}
+use Rattle.parser.specs.declared.Metadata.{Metadata}
+use Rattle.parser.specs.Pair.{pairFrom}
+use Rattle.parser.specs.Payload.{Contents, met, stringFrom, onePair, oneMessage, oneItem, toEnd, payload, movedContents}
+use Rattle.parser.specs.Frame.{metadata, wholeFrame, Reading, wait, answered, frameRead}
+use Rattle.parser.proofs.Pairs.{refused-same, done-same}
+use Rattle.parser.proofs.Walk.{pair-refused, pair-met, pair-full, pair-taken, message-refused, message-short, message-full, message-taken, item-pair, item-message}
+use Rattle.parser.proofs.Frames.{whole-refused, whole-payload, frame-start, frame-over, frame-wait, frame-whole}
+
+-- ---- larger tables
+
+-- every answer but 10, which a larger table may change
+abbrev pub NotFull : {A : Type 0} → Answer A → Type 0
+NotFull a = (place : ℕ) → a ≡ refused 10 place → ⊥
+
+-- tables no smaller
+pub record Larger (rooms others : Rooms) : Type 0 where
+  pub messages : rooms .messages ≤ others .messages
+  pub pairs : rooms .pairs ≤ others .pairs
+
+module _ (kv : Bool) (rooms others : Rooms) (larger : Larger rooms others) (s : List ℕ) where
+  pair-kept : (at : ℕ) (c : Contents) → NotFull (onePair kv rooms at c s) → onePair kv others at c s ≡ onePair kv rooms at c s
+  pair-kept at c no10 =
+      answer-cases (pairFrom at s)
+      (λ p n f.
+      bool-cases (kv && met s (c .pairs) p)
+      (λ t. pair-met kv others at c s p n f t ∙ sym (pair-met kv rooms at c s p n f t))
+      (λ t.
+      ⊎-elim
+      (λ h. pair-taken kv others at c s p n f t (omega (arith, h, larger .pairs)) ∙ sym (pair-taken kv rooms at c s p n f t h))
+      (λ h. absurd (no10 n (pair-full kv rooms at c s p n f t h)))
+      (lt-or-le (length (c .pairs)) (rooms .pairs))))
+      (λ n place r. pair-refused kv others at c s n place r ∙ sym (pair-refused kv rooms at c s n place r))
+
+  message-kept : (at : ℕ) (c : Contents) → NotFull (oneMessage rooms at c s) → oneMessage others at c s ≡ oneMessage rooms at c s
+  message-kept at c no10 =
+      answer-cases (stringFrom at s)
+      (λ name n f.
+      ⊎-elim
+      (λ h.
+      ⊎-elim
+      (λ l. message-taken others at c s name n f h (omega (arith, l, larger .messages)) ∙ sym (message-taken rooms at c s name n f h l))
+      (λ l. absurd (no10 (n + 1) (message-full rooms at c s name n f h l)))
+      (lt-or-le (length (c .messages)) (rooms .messages)))
+      (λ h. message-short others at c s name n f h ∙ sym (message-short rooms at c s name n f h))
+      (lt-or-le n (length s)))
+      (λ n place r. message-refused others at c s n place r ∙ sym (message-refused rooms at c s n place r))
+
+  item-kept : (at : ℕ) (c : Contents) → NotFull (oneItem kv rooms at c s) → oneItem kv others at c s ≡ oneItem kv rooms at c s
+  item-kept at c no10 =
+      bool-cases (kv || ltb 0 (c .left))
+      (λ t.
+      item-pair kv others at c s t
+      ∙ pair-kept at c (λ place e. no10 place (item-pair kv rooms at c s t ∙ e))
+      ∙ sym (item-pair kv rooms at c s t))
+      (λ t.
+      item-message kv others at c s t
+      ∙ message-kept at c (λ place e. no10 place (item-message kv rooms at c s t ∙ e))
+      ∙ sym (item-message kv rooms at c s t))
+
+  end-kept : (k at : ℕ) (c : Contents) → NotFull (toEnd kv rooms k at c s) → toEnd kv others k at c s ≡ toEnd kv rooms k at c s
+  unfolding toEnd
+  end-kept zero at c no10 = refl
+  end-kept (suc k) at c no10 =
+      ⊎-elim
+      (λ l.
+      let full = rw (lt-ltb at (length s) l) at no10 in
+      rw (lt-ltb at (length s) l)
+      (answer-cases (oneItem kv rooms at c s)
+      (λ d n e.
+      let same = item-kept at c (λ place f. not-both e f) ∙ e in
+      rw (same, e) (end-kept k n d (rw e at full)))
+      (λ n place e.
+      let same = item-kept at c (λ q f. full q (rw e (sym e ∙ f))) ∙ e in
+      rw (same, e))))
+      (λ l. rw (le-ltb at (length s) l))
+      (lt-or-le at (length s))
+
+  pub payload-kept : NotFull (payload kv rooms s) → payload kv others s ≡ payload kv rooms s
+  unfolding payload
+  payload-kept no10 = end-kept (length s) 0 _ no10
+
+-- a payload in its frame
+in-frame-full : (m : Metadata) (start : ℕ) (a : Answer Contents)
+    → NotFull {A = Metadata × Contents} (next (behind movedContents start a) (λ (c : Contents) (end : ℕ). done (m, c) end)) → NotFull a
+in-frame-full m start (done c n) no10 place e = not-both refl e
+in-frame-full m start (refused n p) no10 place e =
+    let q = refused-same e in no10 (start + place) (ap₂ (λ (x y : ℕ). refused x (start + y)) (q .0) (q .1))
+
+whole-kept : (rooms others : Rooms) → Larger rooms others → (f : List ℕ) → NotFull (wholeFrame rooms f) → wholeFrame others f ≡ wholeFrame rooms f
+whole-kept rooms others larger f no10 =
+    answer-cases (metadata f)
+    (λ m start e.
+    let kv = not (eqb (m .kind) 3) in
+    let no : NotFull (payload kv rooms (drop start f)) = in-frame-full m start (payload kv rooms (drop start f)) (λ place q. no10 place (whole-payload rooms f m start e ∙ q)) in
+    whole-payload others f m start e
+    ∙ ap (λ (a : Answer Contents). next (behind movedContents start a) (λ (c : Contents) (end : ℕ). done (m, c) end)) (payload-kept kv rooms others larger (drop start f) no)
+    ∙ sym (whole-payload rooms f m start e))
+    (λ n place e. whole-refused others f n place e ∙ sym (whole-refused rooms f n place e))
+
+-- ---- bytes appended
+
+-- the four length bytes stay what they are
+byte-kept : (s t : List ℕ) → 4 ≤ length s → (i : ℕ) → i < 4 → getD (s ++ t) i 0 ≡ getD s i 0
+byte-kept s t h i l = sym (getD-take 4 (s ++ t) i 0 l) ∙ ap (λ (x : List ℕ). getD x i 0) (take-append-le 4 s t h) ∙ getD-take 4 s i 0 l
+
+four-kept : (s t : List ℕ) → 4 ≤ length s → fourNumber (s ++ t) ≡ fourNumber s
+unfolding fourNumber
+four-kept s t h = rw (byte-kept s t h 0 (omega arith), byte-kept s t h 1 (omega arith), byte-kept s t h 2 (omega arith), byte-kept s t h 3 (omega arith))
+
+-- ---- waits
+
+-- Where a reading stands: the length bytes are missing, the frame is over the limit, it is not whole, or it is whole.
+by-cut : {G : Type 0} (limit : ℕ) (s : List ℕ)
+    → (length s < 4 → G)
+    → (4 ≤ length s → limit < fourNumber s → G)
+    → (4 ≤ length s → fourNumber s ≤ limit → length s < 4 + fourNumber s → G)
+    → (4 ≤ length s → fourNumber s ≤ limit → 4 + fourNumber s ≤ length s → G)
+    → G
+by-cut limit s short over part whole =
+    ⊎-elim short
+    (λ h.
+    ⊎-elim (λ l. over h l)
+    (λ l. ⊎-elim (λ w. part h l w) (λ w. whole h l w) (lt-or-le (length s) (4 + fourNumber s)))
+    (lt-or-le limit (fourNumber s)))
+    (lt-or-le (length s) 4)
+
+wait-same : {A : Type 0} {n m : ℕ} → _≡_ {A = Reading A} (wait n) (wait m) → n ≡ m
+wait-same e = cc
+
+wait-answered : {A G : Type 0} {n : ℕ} {a : Answer A} → _≡_ {A = Reading A} (wait n) (answered a) → G
+wait-answered e = let z : _≡_ {A = ℕ} 0 1 = cc in absurd (omega arith)
+
+answered-same : {A : Type 0} {a b : Answer A} → answered a ≡ answered b → a ≡ b
+answered-same e = cc
+
+-- what a wait says: the length bytes are missing, or the rest of a frame within the limit
+abbrev pub Missing : ℕ → List ℕ → ℕ → Type 0
+Missing limit s n =
+    ((length s < 4) × (n ≡ 4 - length s))
+    ⊎ ((4 ≤ length s) × (fourNumber s ≤ limit) × (length s < 4 + fourNumber s) × (n ≡ 4 + fourNumber s - length s))
+
+-- Waits: a wait is given exactly when fewer than four bytes are there, and then for the rest of the four; or when the length is within the limit
+-- and the frame is not whole, and then for exactly the rest of it.
+pub waits : (limit : ℕ) (rooms : Rooms) (s : List ℕ) (n : ℕ)
+    → (frameRead limit rooms s ≡ wait n → Missing limit s n) × (Missing limit s n → frameRead limit rooms s ≡ wait n)
+waits limit rooms s n = (there, back)
+  where
+    there : frameRead limit rooms s ≡ wait n → Missing limit s n
+    there e =
+        by-cut limit s
+        (λ h. inl (h, wait-same (sym e ∙ frame-start limit rooms s h)))
+        (λ h l. wait-answered (sym e ∙ frame-over limit rooms s h l))
+        (λ h l w. inr (h, l, w, wait-same (sym e ∙ frame-wait limit rooms s h l w)))
+        (λ h l w. wait-answered (sym e ∙ frame-whole limit rooms s h l w))
+
+    back : Missing limit s n → frameRead limit rooms s ≡ wait n
+    back m =
+        ⊎-elim
+        (λ x. frame-start limit rooms s (x .0) ∙ ap wait (sym (x .1)))
+        (λ x. frame-wait limit rooms s (x .0) (x .1) (x .2) ∙ ap wait (sym (x .3)))
+        m
+
+-- Waits once: with the bytes that were asked for, from the fourth byte on, it is answered.
+pub waits-once : (limit : ℕ) (rooms : Rooms) (s t : List ℕ) (n : ℕ) → 4 ≤ length s → frameRead limit rooms s ≡ wait n → n ≤ length t
+    → (a : Answer (Metadata × Contents)) × (frameRead limit rooms (s ++ t) ≡ answered a)
+waits-once limit rooms s t n h e m =
+    ⊎-elim
+    (λ x. absurd (omega (arith, x .0, h)))
+    (λ x.
+    let same = four-kept s t h in
+    let all = length-append s t in (
+      _,
+      frame-whole limit rooms (s ++ t) (omega (arith, all, h)) (rw same (x .1)) (rw same (omega (arith, all, x .3, m))),
+    ))
+    (waits limit rooms s n .0 e)
+
+-- ---- kept
+
+-- with bytes appended, under a limit no lower, and with tables no smaller
+module _ (limit higher : ℕ) (up : limit ≤ higher) (rooms others : Rooms) (larger : Larger rooms others) (s t : List ℕ) where
+  whole-again : 4 ≤ length s → fourNumber s ≤ limit → 4 + fourNumber s ≤ length s
+      → frameRead higher others (s ++ t) ≡ answered (wholeFrame others (take (4 + fourNumber s) s))
+  whole-again h l w =
+      let same = four-kept s t h in
+      let all = length-append s t in
+      frame-whole higher others (s ++ t) (omega (arith, all, h)) (rw same (omega (arith, l, up))) (rw same (omega (arith, all, w)))
+      ∙ ap (λ (n : ℕ). answered (wholeFrame others (take (4 + n) (s ++ t)))) same
+      ∙ ap (λ (f : List ℕ). answered (wholeFrame others f)) (take-append-le (4 + fourNumber s) s t w)
+
+  -- Kept, an accepted frame: the same length, type, flags, ids, and the same records in the same order.
+  pub accepted-kept : (x : Metadata × Contents) (used : ℕ) → frameRead limit rooms s ≡ answered (done x used)
+      → frameRead higher others (s ++ t) ≡ answered (done x used)
+  accepted-kept x used e =
+      by-cut limit s
+      (λ h. wait-answered (sym (frame-start limit rooms s h) ∙ e))
+      (λ h l. not-both refl (answered-same (sym e ∙ frame-over limit rooms s h l)))
+      (λ h l w. wait-answered (sym (frame-wait limit rooms s h l w) ∙ e))
+      (λ h l w.
+      let is = answered-same (sym (frame-whole limit rooms s h l w) ∙ e) in
+      whole-again h l w ∙ ap answered (whole-kept rooms others larger (take (4 + fourNumber s) s) (λ place q. not-both is q) ∙ is))
+
+  -- Kept, a refusal: its number and its place, except 2 under a higher limit and 10 with a larger table.
+  pub refusal-kept : (number place : ℕ) → frameRead limit rooms s ≡ answered (refused number place)
+      → (number ≡ 2 → limit ≡ higher) → (number ≡ 10 → rooms ≡ others)
+      → frameRead higher others (s ++ t) ≡ answered (refused number place)
+  refusal-kept number place e two ten =
+      by-cut limit s
+      (λ h. wait-answered (sym (frame-start limit rooms s h) ∙ e))
+      (λ h l.
+      let is = refused-same (answered-same (sym (frame-over limit rooms s h l) ∙ e)) in
+      frame-over higher others (s ++ t) (omega (arith, length-append s t, h)) (rw (four-kept s t h) (omega (arith, l, two (sym (is .0)))))
+      ∙ ap₂ (λ (n p : ℕ). answered (refused n p)) (is .0) (is .1))
+      (λ h l w. wait-answered (sym (frame-wait limit rooms s h l w) ∙ e))
+      (λ h l w.
+      let is = answered-same (sym (frame-whole limit rooms s h l w) ∙ e) in
+      whole-again h l w ∙ ap answered (same (take (4 + fourNumber s) s) is))
+    where
+      same : (f : List ℕ) → wholeFrame rooms f ≡ refused number place → wholeFrame others f ≡ refused number place
+      same f is =
+          bool-cases (eqb number 10)
+          (λ b. ap (λ (r : Rooms). wholeFrame r f) (sym (ten (eqb-true number 10 b))) ∙ is)
+          (λ b. whole-kept rooms others larger f (λ p q. eqb-false number 10 b (refused-same (sym is ∙ q) .0)) ∙ is)
