@@ -55,7 +55,8 @@ movedSpan n (span start len) = span (n + start) len
 abbrev pub stringFrom : ℕ → List ℕ → Answer Span
 stringFrom at s = behind movedSpan at (string (drop at s))
 
--- The message that stands at a place: its name, and its count byte, behind which there is to be room for it.
+-- The message that stands at a place: its name, and its count byte, behind which there is to be room for it. A count byte is missing where
+-- the name ends with the payload.
 unfoldable pub oneMessage : Rooms → ℕ → Contents → List ℕ → Answer Contents
 oneMessage rooms at c s =
     next (stringFrom at s)

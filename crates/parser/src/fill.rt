@@ -178,7 +178,7 @@ fn messages_into(
     }
 }
 
-// The same, with a copy of both passes for each kind of payload: neither then asks again at each record which kind it is.
+// Reads a payload of either kind. Each kind has its own copy of both passes, so that neither asks at each record which kind it is.
 pub(crate) fn into_tables(
     payload: &[u8],
     base: usize,

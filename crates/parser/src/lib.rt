@@ -65,7 +65,7 @@ pub(crate) struct State {
     pub pairs: usize,
 }
 
-// What a step of the first pass finds.
+// What a step of a pass finds: how far the pass is behind it, or why it is refused.
 pub(crate) enum Step {
     On(State),
     Refused(Refusal),

@@ -154,6 +154,7 @@ fn look_message(payload: &[u8], kv: bool, rooms: Rooms, state: State) -> Step
     }
 }
 
+// A step that is refused.
 pub(crate) fn refused_at(number: u64, place: usize) -> Step
     ensures { λ r. ⌜ r ≡ Step.Refused (record { number = number; place = place }) ⌝ }
 {
