@@ -3,11 +3,11 @@ use mathlib.Core.Path.{_≡_, refl, sym, ap, _∙_}
 use mathlib.Core.List.{List, [], _∷_, _++_, append-assoc}
 use Prim.Native.Nat.{ℕ, _+_, _*_, _/_, _%_, _^_, _≤_, _<_}
 use native.Mathlib.Omega.{arith}
-use lib.ListN.{length, take, drop, getD, length-append}
+use lib.ListN.{length, take, drop, getD, length-append, List·getD-append}
 use lib.Seq.{take-at, drop-at}
 use Rattle.varint.specs.Number.{numberBytes}
 use Rattle.frame.specs.declared.Head.{Head}
-use Rattle.frame.specs.Head.{fourBytes, flagsOf, headBytes, frameBytes}
+use Rattle.frame.specs.Head.{fourBytes, fourNumber, flagsOf, headBytes, frameBytes}
 
 pub four-long : (n : ℕ) → length (fourBytes n) ≡ 4
 unfolding fourBytes
@@ -44,13 +44,9 @@ head-parts behind h = simp append-assoc
 
 -- ---- a whole frame
 
--- four bytes as a number, the highest first
-abbrev pub fourNumber : List ℕ → ℕ
-fourNumber s = 2 ^ 24 * getD s 0 0 + 2 ^ 16 * getD s 1 0 + 2 ^ 8 * getD s 2 0 + getD s 3 0
-
 -- The four bytes of a number below 2^32, read in network byte order, are the number.
 pub four-says : (n : ℕ) → n < 2 ^ 32 → fourNumber (fourBytes n) ≡ n
-unfolding fourBytes
+unfolding fourBytes fourNumber
 four-says n h =
     let low : n ≡ 2 ^ 8 * (n / 2 ^ 8) + n % 256 = omega arith in
     let mid : n / 2 ^ 8 ≡ 2 ^ 8 * (n / 2 ^ 16) + n / 2 ^ 8 % 256 = omega arith in
@@ -58,8 +54,16 @@ four-says n h =
     let top : n / 2 ^ 24 % 256 ≡ n / 2 ^ 24 = omega arith in
     sum (n / 2 ^ 24) (n / 2 ^ 16) (n / 2 ^ 8) n (n / 2 ^ 24 % 256) (n / 2 ^ 16 % 256) (n / 2 ^ 8 % 256) (n % 256) low mid high top
   where
-    sum : (d c b n w x y z : ℕ) → n ≡ 2 ^ 8 * b + z → b ≡ 2 ^ 8 * c + y → c ≡ 2 ^ 8 * d + x → w ≡ d → 2 ^ 24 * w + 2 ^ 16 * x + 2 ^ 8 * y + z ≡ n
+    sum : (d c b n w x y z : ℕ) → n ≡ 2 ^ 8 * b + z → b ≡ 2 ^ 8 * c + y → c ≡ 2 ^ 8 * d + x → w ≡ d → w * 2 ^ 24 + x * 2 ^ 16 + y * 2 ^ 8 + z ≡ n
     sum d c b n w x y z p q r t = omega arith
+
+-- Bytes behind the four do not matter.
+byte-kept : (s t : List ℕ) → 4 ≤ length s → (i : ℕ) → i < 4 → getD (s ++ t) i 0 ≡ getD s i 0
+byte-kept s t h i l = List·getD-append s t 0 i (omega arith)
+
+pub four-kept : (s t : List ℕ) → 4 ≤ length s → fourNumber (s ++ t) ≡ fourNumber s
+unfolding fourNumber
+four-kept s t h = rw (byte-kept s t h 0 (omega arith), byte-kept s t h 1 (omega arith), byte-kept s t h 2 (omega arith), byte-kept s t h 3 (omega arith))
 
 -- Where a frame's parts stand: the length of the rest in the first four bytes, the type in the next, the flags in four more, and
 -- then the two numbers and the payload. The rest is within the limit.

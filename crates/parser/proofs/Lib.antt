@@ -7,4 +7,5 @@ pub mod Filling
 pub mod Frames
 pub mod Copied
 pub mod Kept
+pub mod Back
 pub mod Unique
