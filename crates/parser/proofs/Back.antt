@@ -1,27 +1,39 @@
--- Laws about reading what was written: a pair, a message's name, and a whole frame around its payload. Bytes behind them do not matter.
+-- Laws about reading what was written: a pair, and a whole frame around its payload. Bytes behind them do not matter.
 use mathlib.Core.Path.{_≡_, refl, sym, ap, ap₂, _∙_}
 use mathlib.Core.Bool.{Bool, true, false, cond, not}
-use mathlib.Core.List.{List, [], _∷_, _++_, append-assoc}
-use Prim.Native.Nat.{ℕ, _+_, _*_, _^_, _≤_, _<_}
+use mathlib.Core.List.{List, [], _++_, append-assoc}
+use Prim.Native.Nat.{ℕ, zero, suc, _+_, _-_, _^_, _≤_, _<_}
 use native.Mathlib.Omega.{arith}
-use lib.ListN.{length, take, drop, length-append}
-use lib.Seq.{drop-drop, drop-at}
-use Rattle.answer.specs.Answer.{Answer, done, refused, next, behind}
-use Rattle.types.specs.Value.{Span, span, string, Record, value, points, shape, moved, typed}
+use lib.Dec.{eqb}
+use lib.ListN.{length, take, drop, getD, length-append, length-drop, take-append-drop}
+use lib.Seq.{drop-drop, drop-at, take-at, getD-drop, getD-take, length-take-le}
+use Rattle.answer.specs.Answer.{done}
+use Rattle.answer.specs.Table.{some}
+use Rattle.varint.specs.Number.{number, numberBytes}
+use Rattle.varint.proofs.Reading.{accepted, reads-back}
+use Rattle.types.specs.Value.{span, string, Record, value, points, shape, moved, typed}
 use Rattle.types.specs.Form.{part, stringBytes, valueBytes, writableRecord, ranged}
 use Rattle.types.specs.Promise.{recordOf}
 use Rattle.types.proofs.Reading.{typed-accepted-kept}
-use Rattle.types.proofs.Roundtrip.{Meaning, means, meaning, ahead, string-reads-back, ReadsBack, read-back}
+use Rattle.types.proofs.Roundtrip.{Meaning, means, meaning, ahead, string-reads-back, read-back}
 use Rattle.frame.specs.declared.Pair.{Pair}
-use Rattle.frame.specs.declared.Message.{Message}
+use Rattle.frame.specs.declared.Head.{Head}
+use Rattle.frame.specs.Head.{fourBytes, fourNumber, flagsOf}
 use Rattle.frame.specs.Records.{keyOf}
-use Rattle.frame.proofs.Meaning.{pairMeaning, messageMeaning}
-use Rattle.parser.specs.Pair.{pairOf, movedPair, pair, pairFrom}
+use Rattle.frame.proofs.Laws.{four-says, four-kept, Framed}
+use Rattle.frame.proofs.Meaning.{pairMeaning}
+use Rattle.parser.specs.declared.Rooms.{Rooms}
+use Rattle.parser.specs.declared.Metadata.{Metadata}
+use Rattle.parser.specs.Pair.{pairOf, movedPair, pair}
+use Rattle.parser.specs.Payload.{payload}
+use Rattle.parser.specs.Frame.{frameTypes, ids, metadata, wholeFrame, answered, frameRead}
 use Rattle.parser.proofs.Pairs.{done-same, pair-whole}
+use Rattle.parser.proofs.Frames.{ids-on, last-done, metadata-ids, whole-payload, frame-whole, inFrame}
 
 -- ---- what is moved means the same
 
-part-moved : (s : List ℕ) (n a b : ℕ) → part s (n + a) b ≡ part (drop n s) a b
+-- Law: a part behind n other bytes is the part without them.
+pub part-moved : (s : List ℕ) (n a b : ℕ) → part s (n + a) b ≡ part (drop n s) a b
 part-moved s n a b = ap (take b) (sym (drop-drop a n s))
 
 value-moved : (s : List ℕ) (n : ℕ) (v : Record) → meaning s (moved n v) ≡ meaning (drop n s) v
@@ -41,6 +53,7 @@ pair-moved s n p = ap₂ (λ (k : List ℕ) (v : Meaning). (k, v)) (part-moved s
 pub record PairBack (buffer k : List ℕ) (v : Record) (r t : List ℕ) : Type 0 where
   pub found : Pair
   pub reads : pair ((stringBytes k ++ valueBytes buffer v) ++ r) ≡ done found (length (stringBytes k ++ valueBytes buffer v))
+  pub key : keyOf ((stringBytes k ++ valueBytes buffer v) ++ r) found ≡ k
   pub same : pairMeaning ((stringBytes k ++ valueBytes buffer v) ++ (r ++ t)) found ≡ (k, meaning buffer v)
 
 module _ (buffer k : List ℕ) (v : Record) (small : length k < 2 ^ 64) (fields : writableRecord v ≡ true) (range : ranged buffer v ≡ true) (r t : List ℕ) where
@@ -73,6 +86,7 @@ module _ (buffer k : List ℕ) (v : Record) (small : length k < 2 ^ 64) (fields 
         reads =
             pair-whole ((key ++ form) ++ r) (ahead k) (length k) (length key) (ap string (key-first r) ∙ s .0) (value kind a b) (length form) (ap typed (key-behind r) ∙ e)
             ∙ ap (done p) (sym (length-append key form));
+        key = ap (λ (l : List ℕ). part l (ahead k) (length k)) (key-first r) ∙ s .1;
         same =
             ap₂ (λ (x : List ℕ) (y : Meaning). (x, y))
             (ap (λ (l : List ℕ). part l (ahead k) (length k)) (key-first (r ++ t)) ∙ q .1)
@@ -84,3 +98,101 @@ module _ (buffer k : List ℕ) (v : Record) (small : length k < 2 ^ 64) (fields 
   -- Law: it does.
   pub pair-back : PairBack buffer k v r t
   pair-back = let b = read-back buffer r v fields range in whole (b .found) (b .reads)
+
+-- ---- a frame around its payload
+
+-- the metadata that a head with FIN alone reads as
+abbrev pub metadataOf : Head → Metadata
+metadataOf h = record { kind = h .kind; flags = 1; stream = h .stream; frame = h .frame }
+
+-- HAPROXY-HELLO, HAPROXY-DISCONNECT or NOTIFY, with FIN alone and two numbers of 64 bits
+pub record Readable (h : Head) : Type 0 where
+  pub least : 1 ≤ h .kind
+  pub most : h .kind ≤ 3
+  pub fin : h .fin ≡ true
+  pub abort : h .abort ≡ false
+  pub stream : h .stream < 2 ^ 64
+  pub frame : h .frame < 2 ^ 64
+
+-- Such a frame, with t behind it, is read as its metadata, and then as its payload where that starts.
+pub record FrameBack (h : Head) (p bytes : List ℕ) (limit : ℕ) (rooms : Rooms) (t : List ℕ) : Type 0 where
+  pub start : ℕ
+  pub there : drop start bytes ≡ p
+  pub long : start + length p ≡ length bytes
+  pub reads : frameRead limit rooms (bytes ++ t) ≡ answered (inFrame (metadataOf h) start (payload (not (eqb (h .kind) 3)) rooms p))
+
+typed-so : (k : ℕ) → 1 ≤ k → k ≤ 3 → some (eqb k) frameTypes ≡ true
+unfolding some
+typed-so zero h l = absurd (omega arith)
+typed-so (suc zero) h l = refl
+typed-so (suc (suc zero)) h l = refl
+typed-so (suc (suc (suc zero))) h l = refl
+typed-so (suc (suc (suc (suc k)))) h l = absurd (omega arith)
+
+-- four bytes at the front, of which the number is known
+four-front : (s : List ℕ) (n : ℕ) → 4 ≤ length s → fourNumber (take 4 s) ≡ n → fourNumber s ≡ n
+four-front s n h e =
+    ap fourNumber (sym (take-append-drop 4 s)) ∙ four-kept (take 4 s) (drop 4 s) (omega (arith, length-take-le 4 s h)) ∙ e
+
+module _ (h : Head) (limit : ℕ) (p bytes : List ℕ) (f : Framed h limit p bytes) (r : Readable h) where
+  abbrev first : List ℕ
+  first = numberBytes (h .stream)
+
+  abbrev second : List ℕ
+  second = numberBytes (h .frame)
+
+  abbrev start : ℕ
+  start = 9 + length first + length second
+
+  number-first : number (drop 9 bytes) ≡ done (h .stream) (length first)
+  number-first = ap number (f .rest) ∙ reads-back (h .stream) (second ++ p) (r .stream)
+
+  behind-first : drop (9 + length first) bytes ≡ second ++ p
+  behind-first = sym (drop-drop (length first) 9 bytes) ∙ ap (drop (length first)) (f .rest) ∙ drop-at first (second ++ p) (length first) refl
+
+  number-second : number (drop (9 + length first) bytes) ≡ done (h .frame) (length second)
+  number-second = ap number behind-first ∙ reads-back (h .frame) p (r .frame)
+
+  behind-second : drop start bytes ≡ p
+  behind-second = sym (drop-drop (length second) (9 + length first) bytes) ∙ ap (drop (length second)) behind-first ∙ drop-at second p (length second) refl
+
+  long : (9 < length bytes) × (start + length p ≡ length bytes)
+  long =
+      let all = length-append first (second ++ p) in
+      let rest = length-append second p in
+      let cut = length-drop 9 bytes in
+      let is : length (drop 9 bytes) ≡ length (first ++ (second ++ p)) = ap length (f .rest) in
+      let one = accepted (drop 9 bytes) (h .stream) (length first) number-first .0 in
+      (omega arith, omega arith)
+
+  kind-is : getD bytes 4 0 ≡ h .kind
+  kind-is = sym (getD-drop 4 bytes 0 0) ∙ sym (getD-take 1 (drop 4 bytes) 0 0 (omega arith)) ∙ ap (λ (l : List ℕ). getD l 0 0) (f .type)
+
+  flags-are : fourNumber (drop 5 bytes) ≡ 1
+  flags-are =
+      four-front (drop 5 bytes) 1 (omega (arith, length-drop 5 bytes, long .0))
+      (ap fourNumber (f .flags) ∙ ap₂ (λ (a b : Bool). fourNumber (fourBytes (flagsOf a b))) (r .fin) (r .abort) ∙ four-says 1 (omega arith))
+
+  metadata-back : metadata bytes ≡ done (metadataOf h) start
+  metadata-back =
+      metadata-ids bytes (omega (arith, long .0)) (rw kind-is (typed-so (h .kind) (r .least) (r .most))) (omega (arith, long .0)) flags-are
+      ∙ ap₂ (λ (k n : ℕ). ids k n bytes) kind-is flags-are
+      ∙ ids-on (h .kind) 1 bytes (h .stream) (length first) number-first
+      ∙ last-done (h .kind) 1 (h .stream) (9 + length first) bytes (h .frame) (length second) number-second (omega (arith, r .most))
+
+  pub frame-back : (higher : ℕ) → limit ≤ higher → (rooms : Rooms) (t : List ℕ) → FrameBack h p bytes higher rooms t
+  frame-back higher up rooms t =
+      let says : fourNumber bytes ≡ length (drop 4 bytes) = four-front bytes _ (omega (arith, long .0)) (f .says) in
+      let same = four-kept bytes t (omega (arith, long .0)) in
+      let cut = length-drop 4 bytes in
+      let all = length-append bytes t in
+      record {
+        start = start;
+        there = behind-second;
+        long = long .1;
+        reads =
+            frame-whole higher rooms (bytes ++ t) (omega (arith, long .0)) (omega (arith, f .fits)) (omega (arith, long .0))
+            ∙ ap (λ (l : List ℕ). answered (wholeFrame rooms l)) (take-at bytes t (4 + fourNumber (bytes ++ t)) (omega (arith, long .0)))
+            ∙ ap answered (whole-payload rooms bytes (metadataOf h) start metadata-back)
+            ∙ ap (λ (l : List ℕ). answered (inFrame (metadataOf h) start (payload (not (eqb (h .kind) 3)) rooms l))) behind-second;
+      }

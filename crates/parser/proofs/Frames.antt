@@ -189,7 +189,7 @@ tells-ends (refused n place) = refl
 pub fills-nothing : (a : Answer Contents) (n place : ℕ) → a ≡ refused n place → (messages pairs : List ℕ) → Fills a messages messages pairs pairs
 fills-nothing a n place e messages pairs = rw e (record { messages = refl; pairs = refl })
 
-length-map : {A B : Type 0} (f : A → B) (xs : List A) → length (map f xs) ≡ length xs
+pub length-map : {A B : Type 0} (f : A → B) (xs : List A) → length (map f xs) ≡ length xs
 length-map f [] = refl
 length-map f (x ∷ xs) = ap (λ (n : ℕ). suc n) (length-map f xs)
 

@@ -7,12 +7,13 @@ use mathlib.Core.List.{List, [], _∷_, _++_}
 use Prim.Native.Nat.{ℕ, zero, suc, _+_, _-_, _≤_, _<_}
 use native.Mathlib.Omega.{arith}
 use lib.Dec.{ltb, eqb}
-use lib.ListN.{length, take, drop, getD, length-append}
-use lib.Seq.{getD-take, take-append-le}
+use lib.ListN.{length, take, drop, length-append}
+use lib.Seq.{take-append-le}
 use borrow.Author.Tests.{lt-ltb, le-ltb, eqb-true, eqb-false}
 use Rattle.answer.specs.Answer.{Answer, done, refused, next, behind}
 use Rattle.answer.proofs.Cases.{lt-or-le, bool-cases, answer-cases, not-both}
 use Rattle.frame.specs.Head.{fourNumber}
+use Rattle.frame.proofs.Laws.{four-kept}
 use Rattle.parser.specs.declared.Rooms.{Rooms}
 use Rattle.parser.specs.declared.Metadata.{Metadata}
 use Rattle.parser.specs.Pair.{pairFrom}
@@ -113,20 +114,10 @@ whole-kept rooms others larger f no10 =
     ∙ sym (whole-payload rooms f m start e))
     (λ n place e. whole-refused others f n place e ∙ sym (whole-refused rooms f n place e))
 
--- ---- bytes appended
-
--- the four length bytes stay what they are
-byte-kept : (s t : List ℕ) → 4 ≤ length s → (i : ℕ) → i < 4 → getD (s ++ t) i 0 ≡ getD s i 0
-byte-kept s t h i l = sym (getD-take 4 (s ++ t) i 0 l) ∙ ap (λ (x : List ℕ). getD x i 0) (take-append-le 4 s t h) ∙ getD-take 4 s i 0 l
-
-four-kept : (s t : List ℕ) → 4 ≤ length s → fourNumber (s ++ t) ≡ fourNumber s
-unfolding fourNumber
-four-kept s t h = rw (byte-kept s t h 0 (omega arith), byte-kept s t h 1 (omega arith), byte-kept s t h 2 (omega arith), byte-kept s t h 3 (omega arith))
-
 -- ---- waits
 
 -- Where a reading stands: the length bytes are missing, the frame is over the limit, it is not whole, or it is whole.
-by-cut : {G : Type 0} (limit : ℕ) (s : List ℕ)
+pub by-cut : {G : Type 0} (limit : ℕ) (s : List ℕ)
     → (length s < 4 → G)
     → (4 ≤ length s → limit < fourNumber s → G)
     → (4 ≤ length s → fourNumber s ≤ limit → length s < 4 + fourNumber s → G)
@@ -143,10 +134,10 @@ by-cut limit s short over part whole =
 wait-same : {A : Type 0} {n m : ℕ} → _≡_ {A = Reading A} (wait n) (wait m) → n ≡ m
 wait-same e = cc
 
-wait-answered : {A G : Type 0} {n : ℕ} {a : Answer A} → _≡_ {A = Reading A} (wait n) (answered a) → G
+pub wait-answered : {A G : Type 0} {n : ℕ} {a : Answer A} → _≡_ {A = Reading A} (wait n) (answered a) → G
 wait-answered e = let z : _≡_ {A = ℕ} 0 1 = cc in absurd (omega arith)
 
-answered-same : {A : Type 0} {a b : Answer A} → answered a ≡ answered b → a ≡ b
+pub answered-same : {A : Type 0} {a b : Answer A} → answered a ≡ answered b → a ≡ b
 answered-same e = cc
 
 -- what a wait says: the length bytes are missing, or the rest of a frame within the limit

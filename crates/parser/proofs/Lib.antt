@@ -1,11 +1,13 @@
--- Laws about reading: a pair, pairs one behind the other, payloads to their end, tables that are filled, frames, small payloads; and that no second
--- result meets a promise.
+-- Laws about reading: a pair, pairs one behind the other, payloads to their end, tables that are filled, frames, small payloads; that no second
+-- result meets a promise; and what the readings keep, their order, and what was written.
 pub mod Pairs
 pub mod Runs
 pub mod Walk
 pub mod Filling
 pub mod Frames
 pub mod Copied
-pub mod Kept
-pub mod Back
 pub mod Unique
+pub mod Kept
+pub mod Entries
+pub mod Order
+pub mod Back

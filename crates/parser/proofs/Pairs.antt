@@ -57,10 +57,12 @@ module _ (s : List ℕ) where
 
 -- ---- what an accepted pair says of the bytes
 
--- The pair takes at least two bytes and no more than are there; its key lies inside them, and so does its value where it points.
+-- The pair takes at least two bytes and no more than are there; its key lies inside them, behind its length number, and so does its value where it
+-- points.
 pub record Inside (there : ℕ) (p : Pair) (used : ℕ) : Type 0 where
   pub some : 2 ≤ used
   pub most : used ≤ there
+  pub first : 1 ≤ p .start
   pub key : p .start + p .len ≤ used
   pub value : 6 ≤ p .value .kind → p .value .kind < 10 → p .value .a + p .value .b ≤ used
 
@@ -88,6 +90,7 @@ pair-accepted s p used e =
         record {
           some = omega arith;
           most = omega (arith, length-drop u s);
+          first = omega arith;
           key = omega arith;
           value = λ h l. rw (points-yes kind h l) (let o = v .4 (points-yes kind h l) in omega arith);
         }

@@ -24,6 +24,17 @@ from-next s at p next e =
     omega (arith, i .some, i .most, length-drop at s))
     (λ n place r. not-both e (ap (behind movedPair at) r))
 
+-- Law: its key starts behind that place, and before where it ends.
+pub from-key : (s : List ℕ) (at : ℕ) (p : Pair) (next : ℕ) → pairFrom at s ≡ done p next → (at < p .start) × (p .start ≤ next)
+from-key s at p next e =
+    answer-cases (pair (drop at s))
+    (λ q used d.
+    let i = pair-accepted (drop at s) q used d in
+    let o = done-same (sym (ap (behind movedPair at) d) ∙ e) in
+    let start : at + q .start ≡ p .start = ap (λ (x : Pair). x .start) (o .0) in
+    omega (arith, i .first, i .key, o .1))
+    (λ n place r. not-both e (ap (behind movedPair at) r))
+
 -- Law: pairs end where they start or behind it.
 pub run-on : (s : List ℕ) (at : ℕ) (ps : List Pair) (end : ℕ) → Run s at ps end → at ≤ end
 run-on s at [] end r = omega (arith, r)

@@ -36,7 +36,7 @@ payload-same (l.Done m n u) (l.Refused q) e = let z : _≡_ {A = ℕ} 0 1 = cc i
 payload-same (l.Refused r) (l.Done m n u) e = let z : _≡_ {A = ℕ} 0 1 = cc in absurd (omega arith)
 payload-same (l.Refused r) (l.Refused q) e = ap l.Refused (refusal-same r q (cc) (cc))
 
-frame-same : (a b : FrameRead) → frameSaid a ≡ frameSaid b → a ≡ b
+pub frame-same : (a b : FrameRead) → frameSaid a ≡ frameSaid b → a ≡ b
 frame-same (f.Done x m n u) (f.Done x′ m′ n′ u′) e =
     let k = done-same {A = Metadata × Counts} {x = (x, (m, n))} {y = (x′, (m′, n′))} {m = u} {k = u′} (cc) in
     let w = ap (λ (y : Metadata × Counts). y .0) (k .0) in

@@ -1,3 +1,5 @@
--- The ways to keep what a call promises, and that no second result meets it.
+-- The ways to keep what a call promises; that no second result meets it; and, since here both sides are known, that what is written is read back.
 pub mod Telling
 pub mod Unique
+pub mod Walked
+pub mod ReadBack

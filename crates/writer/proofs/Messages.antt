@@ -84,6 +84,10 @@ module _ (buffer : List ℕ) (total : ℕ) (messages : List ℕ) (count : ℕ) (
   passes : (i : ℕ) → i < count → Passed buffer total (runStart messages i) (eqb (i + 1) count) (messageAt messages i)
   passes i h = message-passed buffer total (runStart messages i) (eqb (i + 1) count) (messageAt messages i) (sym (message-number buffer total messages count i) ∙ s .each i h)
 
+  -- Law: each starts where the one before ended.
+  pub runs-start : (i : ℕ) → i < count → messageAt messages i .first ≡ runStart messages i
+  runs-start i h = passes i h .starts
+
   -- each run ends where the next starts, and the last at the last pair, so every run ends among the pairs
   run-inside : (k i : ℕ) → i + 1 + k ≡ count → messageAt messages i .first + messageAt messages i .count ≤ total
   run-inside zero i e = omega (arith, passes i (omega arith) .ends (eq-eqb (i + 1) count (omega arith)))

@@ -1,0 +1,266 @@
+-- What is written is read back: KV frames and NOTIFY frames.
+use mathlib.Core.Path.{_≡_, refl, sym, ap, _∙_}
+use mathlib.Core.Bool.{Bool, true, false, not, _||_}
+use mathlib.Core.List.{List, [], _∷_, _++_, map, append-nil}
+use Prim.Native.Nat.{ℕ, zero, suc, _+_, _-_, _^_, _≤_, _<_}
+use native.Mathlib.Omega.{arith}
+use lib.Dec.{eqb}
+use lib.ListN.{length, drop, getD, length-drop, List·getD-map}
+use lib.Seq.{drop-drop, drop-append-le}
+use borrow.Author.Tests.{eq-eqb, ne-eqb, eqb-true, eqb-false}
+use Rattle.answer.specs.Answer.{Answer, done, behind}
+use Rattle.answer.specs.Table.{records, some}
+use Rattle.answer.specs.Inner as inner
+use Rattle.answer.proofs.Cases.{bool-cases, true-false, both-true}
+use Rattle.answer.proofs.Records.{records-none}
+use Rattle.frame.specs.declared.Head.{Head}
+use Rattle.frame.specs.declared.Pair.{Pair}
+use Rattle.frame.specs.declared.Message.{Message}
+use Rattle.frame.specs.Records.{pairAt, messageAt, sameKey}
+use Rattle.frame.proofs.Laws.{Framed}
+use Rattle.frame.proofs.Meaning.{pairMeaning, messageMeaning}
+use Rattle.parser.specs.declared.Rooms.{Rooms}
+use Rattle.parser.specs.Pair.{movedPair}
+use Rattle.parser.specs.Payload.{Contents, payload, movedMessage, movedContents}
+use Rattle.parser.specs.Frame.{answered, frameRead}
+use Rattle.parser.proofs.Frames.{inFrame, length-map}
+use Rattle.parser.proofs.Back.{metadataOf, Readable, FrameBack, frame-back}
+use Rattle.writer.specs.Pair.{pairRefusal, kvRefusal}
+use Rattle.writer.specs.Message.{runStart, messageRefusal}
+use Rattle.writer.specs.Frame.{finAlone, kvAllowed, pairsBytes, kvAnswer, messagesBytes, notifyAnswer}
+use Rattle.writer.proofs.Pairs.{formed-at, kv-passed, kv-met}
+use Rattle.writer.proofs.Messages.{runs-start, runs-inside, last-ends}
+use Rattle.writer.proofs.Answers.{kv-other}
+use Rattle.writer.proofs.Laws.{Wrote, kv-accepted, kv-wrote, notify-accepted, notify-passed-records, notify-wrote}
+use Rattle.spop.proofs.Walked as walk
+
+-- These bytes are accepted as a frame of n bytes with this head, and its messages and pairs mean what those of a buffer mean, in the same order.
+pub record ReadBack (h : Head) (n : ℕ) (buffer : List ℕ) (messages : List Message) (pairs : List Pair) (limit : ℕ) (rooms : Rooms) (input : List ℕ) : Type 0 where
+  pub contents : Contents
+  pub accepted : frameRead limit rooms input ≡ answered (done (metadataOf h, contents) n)
+  pub messages-same : map (messageMeaning input) (contents .messages) ≡ map (messageMeaning buffer) messages
+  pub pairs-same : map (pairMeaning input) (contents .pairs) ≡ map (pairMeaning buffer) pairs
+
+map-twice : {A B C : Type 0} (f : B → C) (g : A → B) (xs : List A) → map f (map g xs) ≡ map (λ x. f (g x)) xs
+map-twice f g [] = refl
+map-twice f g (x ∷ xs) = ap (λ (l : List _). f (g x) ∷ l) (map-twice f g xs)
+
+-- A frame that was written, whose payload reads back, does.
+module _ (buffer messages pairs : List ℕ) (h : Head) (limit : ℕ) (p bytes : List ℕ) (n : ℕ) (w : Wrote h limit p bytes n) (small : limit < 2 ^ 32)
+    (ok : Readable h) (higher : ℕ) (up : limit ≤ higher) (rooms : Rooms) (t : List ℕ) where
+  framed : Framed h limit p bytes
+  framed = w .parts small
+
+  back : FrameBack h p bytes higher rooms t
+  back = frame-back h limit p bytes framed ok higher up rooms t
+
+  stands : (i : ℕ) → i ≤ length p → drop (back .start + i) (bytes ++ t) ≡ drop i p ++ t
+  stands i l =
+      drop-append-le (back .start + i) bytes t (omega (arith, back .long))
+      ∙ ap (λ (x : List ℕ). x ++ t) (sym (drop-drop i (back .start) bytes) ∙ ap (drop i) (back .there))
+
+  short : length p < 2 ^ 64
+  short = omega (arith, back .long, framed .fits, length-drop 4 bytes)
+
+  abbrev walked : walk.Payload
+  walked =
+      record {
+        buffer = buffer;
+        messages = messages;
+        pairs = pairs;
+        kv = not (eqb (h .kind) 3);
+        rooms = rooms;
+        s = p;
+        short = short;
+        input = bytes ++ t;
+        base = back .start;
+        t = t;
+        stands = stands;
+      }
+
+  read-back : (i j : ℕ) → walk.Reads walked i j 0 [] → ReadBack h n buffer (records (messageAt messages) 0 j) (records (pairAt pairs) 0 i) higher rooms (bytes ++ t)
+  read-back i j r =
+      record {
+        contents = movedContents (back .start) (r .contents);
+        accepted =
+            back .reads
+            ∙ ap (λ (x : Answer Contents). answered (inFrame (metadataOf h) (back .start) x)) (walk.reads-end walked i j r)
+            ∙ ap (λ (m : ℕ). answered (done (metadataOf h, movedContents (back .start) (r .contents)) m)) (back .long ∙ sym (w .count));
+        messages-same = map-twice (messageMeaning (bytes ++ t)) (movedMessage (back .start)) (r .contents .messages) ∙ r .names;
+        pairs-same = map-twice (pairMeaning (bytes ++ t)) (movedPair (back .start)) (r .contents .pairs) ∙ r .arguments;
+      }
+
+-- ---- by index
+
+-- message i of what was read, and argument j of message i
+abbrev pub noMessage : Message
+noMessage = record { start = 0; len = 0; first = 0; count = 0 }
+
+abbrev pub noPair : Pair
+noPair = record { start = 0; len = 0; value = record { kind = 0; a = 0; b = 0 } }
+
+abbrev pub messageOf : Contents → ℕ → Message
+messageOf c i = getD (c .messages) i noMessage
+
+abbrev pub argumentOf : Contents → ℕ → ℕ → Pair
+argumentOf c i j = getD (c .pairs) (messageOf c i .first + j) noPair
+
+-- what stands in a list does not go by what is taken where nothing stands
+there : {A : Type 0} (l : List A) (i : ℕ) (d e : A) → i < length l → getD l i d ≡ getD l i e
+there [] i d e h = absurd (omega arith)
+there (x ∷ l) zero d e h = refl
+there (x ∷ l) (suc i) d e h = there l i d e (omega arith)
+
+record-at : {A : Type 0} (at : ℕ → A) (n first i : ℕ) (d : A) → i < n → getD (records at first n) i d ≡ at (first + i)
+unfolding records
+record-at at zero first i d h = absurd (omega arith)
+record-at at (suc n) first zero d h = ap at (omega arith)
+record-at at (suc n) first (suc i) d h = record-at at n (suc first) i d (omega arith) ∙ ap at (omega arith)
+
+-- where some things mean what so many records mean, thing i means what record i means
+record-same : {A C : Type 0} (f g : A → C) (at : ℕ → A) (d : A) (n : ℕ) (xs : List A) → map f xs ≡ map g (records at 0 n) → (i : ℕ) → i < n → f (getD xs i d) ≡ g (at i)
+record-same f g at d n xs e i h =
+    let here : 0 + i ≡ i = omega arith in
+    sym (List·getD-map f xs i d)
+    ∙ ap (λ (l : List _). getD l i (f d)) e
+    ∙ there (map g (records at 0 n)) i (f d) (g d) (omega (arith, length-map g (records at 0 n), walk.records-length at n 0))
+    ∙ List·getD-map g (records at 0 n) i d
+    ∙ ap g (record-at at n 0 i d h ∙ ap at here)
+
+-- ---- KV frames
+
+-- what finAlone says
+fin-alone : (h : Head) → finAlone h ≡ true → (h .fin ≡ true) × (h .abort ≡ false)
+fin-alone h e = let b = both-true (h .fin) (not (h .abort)) e in (b .0, turned (h .abort) (b .1))
+  where
+    turned : (x : Bool) → not x ≡ true → x ≡ false
+    turned true e = sym e
+    turned false e = refl
+
+-- the types of KV frames below 101 are 1 and 2
+kv-kinds : (h : Head) → kvAllowed h ≡ true → h .kind < 101 → (1 ≤ h .kind) × (h .kind ≤ 2)
+kv-kinds h e l =
+    bool-cases (eqb (h .kind) 1) (λ t. let k = eqb-true (h .kind) 1 t in omega arith)
+    (λ a. bool-cases (eqb (h .kind) 2) (λ t. let k = eqb-true (h .kind) 2 t in omega arith)
+    (λ b. true-false e (kv-other h (eqb-false (h .kind) 1 a) (eqb-false (h .kind) 2 b) (λ z. omega arith) (λ z. omega arith))))
+
+-- An accepted call: its head has FIN alone, its limit is a number of 32 bits and its ids are numbers of 64, as the call's parameters are. It is read
+-- under a limit no lower, and with t behind it.
+module _ (h : Head) (limit : ℕ) (buffer bytes : List ℕ) (n : ℕ) (stream : h .stream < 2 ^ 64) (frame : h .frame < 2 ^ 64) (small : limit < 2 ^ 32)
+    (higher : ℕ) (up : limit ≤ higher) (rooms : Rooms) (t : List ℕ) where
+  readable : finAlone h ≡ true → 1 ≤ h .kind → h .kind ≤ 3 → Readable h
+  readable fin least most =
+      record {
+        least = least;
+        most = most;
+        fin = fin-alone h fin .0;
+        abort = fin-alone h fin .1;
+        stream = stream;
+        frame = frame;
+      }
+
+  module _ (pairs : List ℕ) (count : ℕ) (is : kvAnswer h limit buffer pairs count ≡ done bytes n) (below : h .kind < 101) (fin : finAlone h ≡ true)
+      (room : count ≤ rooms .pairs) where
+    abbrev list : List ℕ
+    list = pairsBytes buffer pairs count
+
+    kinds : (1 ≤ h .kind) × (h .kind ≤ 2)
+    kinds = kv-kinds h (kv-accepted h limit buffer pairs count bytes n is .0) below
+
+    ok : Readable h
+    ok = readable fin (kinds .0) (omega (arith, kinds .1))
+
+    wrote : Wrote h limit list bytes n
+    wrote = kv-wrote h limit buffer pairs count bytes n is
+
+    passed : inner.Sound (kvRefusal buffer pairs) count
+    passed = kv-accepted h limit buffer pairs count bytes n is .2
+
+    fresh : (i : ℕ) → i < count → some (sameKey buffer (pairAt pairs i)) (records (pairAt pairs) 0 i) ≡ false
+    fresh i l =
+        bool-cases (some (sameKey buffer (pairAt pairs i)) (records (pairAt pairs) 0 i))
+        (λ e. let nine = kv-met buffer pairs i (kv-passed buffer pairs i (passed .each i l)) e in absurd (omega (arith, passed .each i l)))
+        (λ e. e)
+
+    abbrev placed : walk.Payload
+    placed = walked buffer [] pairs h limit list bytes n wrote small ok higher up rooms t
+
+    sound : (i : ℕ) → i < count → walk.Sound placed i
+    sound i l =
+        let f = formed-at buffer pairs i (kv-passed buffer pairs i (passed .each i l)) in
+        record { fields = f .fields; range = f .range; fresh = λ k. fresh i l }
+
+    all-read : walk.Reads placed count 0 0 []
+    all-read =
+        let here : 0 + count ≡ count = omega arith in
+        let none : 0 - count ≡ 0 = omega arith in
+        walk.reads-as placed here refl none refl
+        (walk.reads-run placed count sound room count 0 0 0 [] (omega arith) (λ k. true-false (rw (ne-eqb (h .kind) 3 (λ z. omega (arith, kinds .1))) refl) k)
+        (walk.reads-as placed refl refl refl (sym (append-nil list)) (walk.reads-none placed)))
+
+    -- Law: each KV frame of type 1 or 2 with FIN alone that is written, followed by any bytes, reads back under a limit no lower and with room for its
+    -- pairs.
+    pub kv-read-back : ReadBack h n buffer [] (records (pairAt pairs) 0 count) higher rooms (bytes ++ t)
+    kv-read-back =
+        rw (sym (records-none (messageAt []) 0)) (read-back buffer [] pairs h limit list bytes n wrote small ok higher up rooms t count 0 all-read)
+
+  -- ---- NOTIFY frames
+
+  module _ (messages : List ℕ) (count : ℕ) (pairs : List ℕ) (total : ℕ) (is : notifyAnswer h limit buffer messages count pairs total ≡ done bytes n)
+      (notify : h .kind ≡ 3) (rows : count ≤ rooms .messages) (room : total ≤ rooms .pairs) where
+    abbrev list-of-messages : List ℕ
+    list-of-messages = messagesBytes buffer messages count pairs
+
+    accepted-so : (finAlone h ≡ true) × (not (eqb count 0) || eqb total 0 ≡ true)
+    accepted-so = let o = notify-accepted h limit buffer messages count pairs total bytes n is in (o .0, o .3)
+
+    notify-ok : Readable h
+    notify-ok = readable (accepted-so .0) (omega (arith, notify)) (omega (arith, notify))
+
+    notified : Wrote h limit list-of-messages bytes n
+    notified = notify-wrote h limit buffer messages count pairs total bytes n is
+
+    abbrev lies : walk.Payload
+    lies = walked buffer messages pairs h limit list-of-messages bytes n notified small notify-ok higher up rooms t
+
+    messages-passed : inner.Sound (messageRefusal buffer total messages count) count
+    messages-passed = notify-passed-records h limit buffer messages count pairs total bytes n is .0
+
+    pairs-passed : inner.Sound (pairRefusal buffer pairs) total
+    pairs-passed = notify-passed-records h limit buffer messages count pairs total bytes n is .1
+
+    no-list : not (eqb (h .kind) 3) ≡ false
+    no-list = rw (eq-eqb (h .kind) 3 notify)
+
+    sound-arguments : (i : ℕ) → i < total → walk.Sound lies i
+    sound-arguments i l =
+        let f = formed-at buffer pairs i (pairs-passed .each i l) in
+        record { fields = f .fields; range = f .range; fresh = λ k. true-false k no-list }
+
+    both-read : walk.Reads lies total count 0 []
+    both-read =
+        let here : 0 + count ≡ count = omega arith in
+        walk.reads-as lies (ap (runStart messages) here ∙ last-ends buffer total messages count messages-passed (accepted-so .1)) here refl refl
+        (walk.reads-messages lies total sound-arguments room no-list count (runs-start buffer total messages count messages-passed)
+        (runs-inside buffer total messages count messages-passed) rows count 0 (omega arith)
+        (walk.reads-none lies))
+
+    -- Law: the same of each NOTIFY frame that is written, with room for its messages and its pairs.
+    pub notify-read-back : ReadBack h n buffer (records (messageAt messages) 0 count) (records (pairAt pairs) 0 total) higher rooms (bytes ++ t)
+    notify-read-back = read-back buffer messages pairs h limit list-of-messages bytes n notified small notify-ok higher up rooms t total count both-read
+
+    -- Law: argument j of message i of what was written is argument j of message i of what is read, and the message has its name, its first pair and its
+    -- count.
+    pub notify-arguments : (i j : ℕ) → i < count → j < messageAt messages i .count
+        → (messageMeaning (bytes ++ t) (messageOf (notify-read-back .contents) i) ≡ messageMeaning buffer (messageAt messages i))
+        × (pairMeaning (bytes ++ t) (argumentOf (notify-read-back .contents) i j) ≡ pairMeaning buffer (pairAt pairs (messageAt messages i .first + j)))
+    notify-arguments i j h l =
+        let c = notify-read-back .contents in
+        let m = messageAt messages i in
+        let name = record-same (messageMeaning (bytes ++ t)) (messageMeaning buffer) (messageAt messages) noMessage count (c .messages) (notify-read-back .messages-same) i h in
+        let run = runs-inside buffer total messages count messages-passed i h in
+        let first : messageOf c i .first + j ≡ m .first + j = ap (λ (x : List ℕ × ℕ × ℕ). x .1 + j) name in (
+          name,
+          ap (λ (k : ℕ). pairMeaning (bytes ++ t) (getD (c .pairs) k noPair)) first
+              ∙ record-same (pairMeaning (bytes ++ t)) (pairMeaning buffer) (pairAt pairs) noPair total (c .pairs) (notify-read-back .pairs-same) (m .first + j) (omega arith),
+        )
