@@ -1,33 +1,62 @@
--- Worked examples of docs/RULES.md on numbers, values, frames that are read and frame sizes, as one statement over a list. The program runs
--- the same ones.
+-- Worked examples of docs/RULES.md on numbers, values, frames that are read and frame sizes, and of docs/PROMISES.md on what is kept and what is
+-- read back, as one statement over a list. The program runs the same ones.
 use mathlib.Core.Path.{_≡_, refl}
-use mathlib.Core.List.{List, [], _∷_}
+use mathlib.Core.Bool.{Bool, true, false, _&&_}
+use mathlib.Core.List.{List, [], _∷_, _++_}
 use Prim.Native.Nat.{ℕ, _+_, _-_, _^_}
+use lib.Dec.{ltb, leb}
 use lib.ListN.{length}
-use Rattle.answer.specs.Answer.{Answer, done, refused}
-use Rattle.answer.specs.Order.{inOrder}
-use Rattle.answer.specs.Table.{some}
+use Rattle.answer.specs.Answer.{Answer, done, refused, written}
+use Rattle.answer.specs.Order.{inOrder, firstRefused}
+use Rattle.answer.specs.Table.{records, joined, some}
 use Rattle.varint.specs.Number.{worth, more, number, groups, numberBytes}
-use Rattle.utf8.specs.Text.{rows, follow, inRange, front, rowFor, step, bySteps, lossy, same, sameText}
+use Rattle.utf8.specs.Text.{rows, follow, inRange, front, rowFor, step, bySteps, isUtf8, lossy, same, sameText}
 use Rattle.types.specs.Value.{Record, value, string, typed, shape, signExtended}
+use Rattle.types.specs.Form.{stringBytes, valueBytes}
+use Rattle.frame.specs.declared.Head.{Head}
 use Rattle.frame.specs.declared.Pair.{Pair}
 use Rattle.frame.specs.declared.Message.{Message}
-use Rattle.frame.specs.Head.{fourNumber}
+use Rattle.frame.specs.Head.{fourBytes, fourNumber, headBytes, frameBytes}
+use Rattle.frame.specs.Records.{messageAt, pairAt}
 use Rattle.parser.specs.declared.Rooms.{Rooms}
 use Rattle.parser.specs.declared.Metadata.{Metadata}
 use Rattle.parser.specs.Pair.{pair}
 use Rattle.parser.specs.Payload.{Contents, onePair, oneMessage, toEnd, payload}
 use Rattle.parser.specs.Frame.{Reading, wait, answered, lastId, ids, metadata, wholeFrame, frameRead}
+use Rattle.writer.specs.Pair.{pairBytes, pairRefusal, newKey, kvRefusal}
+use Rattle.writer.specs.Message.{nameBytes, messageBytes, messageRefusal}
+use Rattle.writer.specs.Frame.{headOf, limited, finAlone, kvAllowed, kvAnswer, notifyAnswer}
 use Rattle.hello.specs.Hello.{frameSize}
 
+-- how a frame is read once more: under a limit, with rooms, and with these bytes behind it
+pub record Again : Type 0 where
+  pub limit : ℕ
+  pub rooms : Rooms
+  pub behind : List ℕ
+
 -- what an example says: a number is these bytes, written and read; some bytes are read so, as a number, as a value, or as a frame under a
--- limit and with rooms; two frame sizes settle so
+-- limit and with rooms; two frame sizes settle so; a frame is read so, and once more with no less; a frame is written so, from records in a
+-- buffer, and read back so
 pub data Example : Type 0 where
   is : ℕ → List ℕ → Example
   reads : List ℕ → Answer ℕ → Example
   values : List ℕ → Answer Record → Example
   frames : ℕ → Rooms → List ℕ → Reading (Metadata × Contents) → Example
   sizes : ℕ → ℕ → Answer Unit → Example
+  kept : ℕ → Rooms → List ℕ → Again → Reading (Metadata × Contents) → Example
+  kvBack : Head → ℕ → List ℕ → List ℕ → ℕ → List ℕ → Again → Reading (Metadata × Contents) → Example
+  notifyBack : Head → ℕ → List ℕ → List ℕ → ℕ → List ℕ → ℕ → List ℕ → Again → Reading (Metadata × Contents) → Example
+
+-- what the laws on kept readings, and on frames that are read back, ask for
+abbrev pub noLess : ℕ → Rooms → Again → Bool
+noLess limit rooms again =
+    leb limit (again .limit) && (leb (rooms .messages) (again .rooms .messages) && leb (rooms .pairs) (again .rooms .pairs))
+
+abbrev pub asParameters : Head → ℕ → Bool
+asParameters h limit = ltb (h .stream) (2 ^ 64) && (ltb (h .frame) (2 ^ 64) && ltb limit (2 ^ 32))
+
+abbrev pub readAgain : List ℕ → Again → Reading (Metadata × Contents)
+readAgain bytes again = frameRead (again .limit) (again .rooms) (bytes ++ again .behind)
 
 abbrev pub Holds : Example → Type 0
 Holds (is n bytes) = (numberBytes n ≡ bytes) × (number bytes ≡ done n (length bytes))
@@ -35,6 +64,13 @@ Holds (reads bytes answer) = number bytes ≡ answer
 Holds (values bytes answer) = typed bytes ≡ answer
 Holds (frames limit rooms bytes answer) = frameRead limit rooms bytes ≡ answer
 Holds (sizes theirs ours answer) = frameSize theirs ours ≡ answer
+Holds (kept limit rooms bytes again answer) = (noLess limit rooms again ≡ true) × (frameRead limit rooms bytes ≡ answer) × (readAgain bytes again ≡ answer)
+Holds (kvBack h limit buffer pairs count bytes again answer) =
+    (asParameters h limit && (ltb (h .kind) 101 && finAlone h) ≡ true) × (noLess limit (record { messages = 0; pairs = count }) again ≡ true)
+    × (kvAnswer h limit buffer pairs count ≡ written bytes) × (readAgain bytes again ≡ answer)
+Holds (notifyBack h limit buffer messages count pairs total bytes again answer) =
+    (asParameters h limit ≡ true) × (noLess limit (record { messages = count; pairs = total }) again ≡ true)
+    × (notifyAnswer h limit buffer messages count pairs total ≡ written bytes) × (readAgain bytes again ≡ answer)
 
 abbrev pub All : List Example → Type 0
 All [] = Unit
@@ -72,6 +108,20 @@ aMessage start len first count = record { start = start; len = len; first = firs
 
 abbrev pub aPair : ℕ → ℕ → ℕ → ℕ → ℕ → Pair
 aPair start len kind a b = record { start = start; len = len; value = record { kind = kind; a = a; b = b } }
+
+-- ---- the laws
+
+abbrev pub room : ℕ → ℕ → Rooms
+room messages pairs = record { messages = messages; pairs = pairs }
+
+abbrev pub listing : List ℕ
+listing =
+    framed 0x19 3 1 (0x01 ∷ 0x02 ∷ 0x05 ∷ 0x64 ∷ 0x65 ∷ 0x6C ∷ 0x61 ∷ 0x79 ∷ 0x02
+    ∷ 0x04 ∷ 0x73 ∷ 0x6C ∷ 0x6F ∷ 0x74 ∷ 0x03 ∷ 0x07 ∷ 0x02 ∷ 0x6F ∷ 0x6B ∷ 0x11 ∷ [])
+
+-- two pairs of which the second has no room in one
+abbrev pub twoKeys : List ℕ
+twoKeys = framed 0x0F 1 1 (0x00 ∷ 0x00 ∷ 0x02 ∷ 0x41 ∷ 0x42 ∷ 0x00 ∷ 0x02 ∷ 0x41 ∷ 0x43 ∷ 0x00 ∷ [])
 
 -- ---- the list
 
@@ -122,29 +172,48 @@ examples =
     (accepted 2 0 0 [] (aPair 12 1 3 7 0 ∷ aPair 16 1 8 19 3 ∷ []) 22)
     ∷ frame (framed 0x0F 1 1 (0x00 ∷ 0x00 ∷ 0x02 ∷ 0x41 ∷ 0xFF ∷ 0x00 ∷ 0x02 ∷ 0x41 ∷ 0xFE ∷ 0x00 ∷ [])) (stops 9 19)
     ∷ frameInOne (framed 0x0F 1 1 (0x00 ∷ 0x00 ∷ 0x02 ∷ 0x41 ∷ 0xFF ∷ 0x00 ∷ 0x02 ∷ 0x41 ∷ 0xFE ∷ 0x00 ∷ [])) (stops 9 19)
-    ∷ frameInOne (framed 0x0F 1 1 (0x00 ∷ 0x00 ∷ 0x02 ∷ 0x41 ∷ 0x42 ∷ 0x00 ∷ 0x02 ∷ 0x41 ∷ 0x43 ∷ 0x00 ∷ [])) (stops 10 19)
+    ∷ frameInOne twoKeys (stops 10 19)
+    ∷ frame twoKeys (accepted 1 0 0 [] (aPair 12 2 0 0 0 ∷ aPair 16 2 0 0 0 ∷ []) 19)
     -- lists of messages
     ∷ frame (framed 0x09 3 1 (0x01 ∷ 0x02 ∷ 0x02 ∷ 0x6D ∷ [])) (stops 3 12)
     ∷ frame (framed 0x09 3 1 (0x01 ∷ 0x02 ∷ 0x01 ∷ 0x6D ∷ [])) (stops 3 13)
     ∷ frame (framed 0x0A 3 1 (0x01 ∷ 0x02 ∷ 0x01 ∷ 0x6D ∷ 0x01 ∷ [])) (stops 3 14)
     ∷ frame (framed 0x10 3 1 (0x01 ∷ 0x02 ∷ 0x01 ∷ 0x6D ∷ 0x00 ∷ 0x01 ∷ 0x6E ∷ 0x00 ∷ 0x01 ∷ 0x6F ∷ 0x00 ∷ [])) (stops 10 20)
-    ∷ frame (framed 0x19 3 1 (0x01 ∷ 0x02 ∷ 0x05 ∷ 0x64 ∷ 0x65 ∷ 0x6C ∷ 0x61 ∷ 0x79 ∷ 0x02
-    ∷ 0x04 ∷ 0x73 ∷ 0x6C ∷ 0x6F ∷ 0x74 ∷ 0x03 ∷ 0x07 ∷ 0x02 ∷ 0x6F ∷ 0x6B ∷ 0x11 ∷ []))
-    (accepted 3 1 2 (aMessage 12 5 0 2 ∷ []) (aPair 19 4 3 7 0 ∷ aPair 26 2 1 1 0 ∷ []) 29)
+    ∷ frame listing (accepted 3 1 2 (aMessage 12 5 0 2 ∷ []) (aPair 19 4 3 7 0 ∷ aPair 26 2 1 1 0 ∷ []) 29)
     ∷ frame (framed 0x12 3 1 (0x01 ∷ 0x02 ∷ 0x01 ∷ 0x6D ∷ 0x02 ∷ 0x01 ∷ 0x61 ∷ 0x03 ∷ 0x07 ∷ 0x01 ∷ 0x61 ∷ 0x03 ∷ 0x08 ∷ []))
     (accepted 3 1 2 (aMessage 12 1 0 2 ∷ []) (aPair 15 1 3 7 0 ∷ aPair 19 1 3 8 0 ∷ []) 22)
     -- frame sizes
     ∷ sizes 255 256 (refused 13 0)
     ∷ sizes 256 255 (refused 13 0)
     ∷ sizes 256 256 (done tt 256)
+    -- what is kept: a frame; a refusal; 2 under the same limit, and 10 with the same rooms
+    ∷ kept 25 (room 1 2) listing (record { limit = 26; rooms = room 2 3; behind = 0x00 ∷ 0x00 ∷ [] })
+    (accepted 3 1 2 (aMessage 12 5 0 2 ∷ []) (aPair 19 4 3 7 0 ∷ aPair 26 2 1 1 0 ∷ []) 29)
+    ∷ kept 10 (room 0 1) (framed 0x0A 1 1 (0x00 ∷ 0x00 ∷ 0x01 ∷ 0x41 ∷ 0x0A ∷ [])) (record { limit = 11; rooms = room 1 2; behind = 0x00 ∷ [] }) (stops 8 14)
+    ∷ kept 24 (room 1 1) listing (record { limit = 24; rooms = room 2 3; behind = 0x00 ∷ [] }) (stops 2 4)
+    ∷ kept 15 (room 2 1) twoKeys (record { limit = 16; rooms = room 2 1; behind = 0x00 ∷ [] }) (stops 10 19)
+    -- what is read back: two pairs; two messages, with two arguments and with one
+    ∷ kvBack (headOf 2 true false 0 0) 18 (0x41 ∷ 0x42 ∷ 0x32 ∷ 0x2E ∷ 0x30 ∷ []) (0 ∷ 1 ∷ 3 ∷ 7 ∷ 0 ∷ 1 ∷ 1 ∷ 8 ∷ 2 ∷ 3 ∷ []) 2
+    (framed 0x12 2 1 (0x00 ∷ 0x00 ∷ 0x01 ∷ 0x41 ∷ 0x03 ∷ 0x07 ∷ 0x01 ∷ 0x42 ∷ 0x08 ∷ 0x03 ∷ 0x32 ∷ 0x2E ∷ 0x30 ∷ []))
+    (record { limit = 19; rooms = room 0 2; behind = 0x00 ∷ 0x00 ∷ [] })
+    (accepted 2 0 0 [] (aPair 12 1 3 7 0 ∷ aPair 16 1 8 19 3 ∷ []) 22)
+    ∷ notifyBack (headOf 3 true false 1 2) 24 (0x6D ∷ 0x6E ∷ 0x61 ∷ 0x62 ∷ []) (0 ∷ 1 ∷ 0 ∷ 2 ∷ 1 ∷ 1 ∷ 2 ∷ 1 ∷ []) 2
+    (2 ∷ 1 ∷ 3 ∷ 7 ∷ 0 ∷ 3 ∷ 1 ∷ 3 ∷ 8 ∷ 0 ∷ 2 ∷ 1 ∷ 1 ∷ 1 ∷ 0 ∷ []) 3
+    (framed 0x18 3 1 (0x01 ∷ 0x02 ∷ 0x01 ∷ 0x6D ∷ 0x02 ∷ 0x01 ∷ 0x61 ∷ 0x03 ∷ 0x07 ∷ 0x01 ∷ 0x62 ∷ 0x03 ∷ 0x08
+    ∷ 0x01 ∷ 0x6E ∷ 0x01 ∷ 0x01 ∷ 0x61 ∷ 0x11 ∷ []))
+    (record { limit = 25; rooms = room 2 3; behind = 0x00 ∷ 0x00 ∷ [] })
+    (accepted 3 1 2 (aMessage 12 1 0 2 ∷ aMessage 23 1 2 1 ∷ []) (aPair 15 1 3 7 0 ∷ aPair 19 1 3 8 0 ∷ aPair 26 1 1 1 0 ∷ []) 28)
     ∷ []
 
 pub marked : All examples
 unfolding worth more number groups numberBytes string typed shape signExtended fourNumber inOrder some
     rows follow inRange front rowFor step bySteps lossy same sameText
     pair onePair oneMessage toEnd payload lastId ids metadata wholeFrame frameRead frameSize
+    isUtf8 firstRefused records joined stringBytes valueBytes fourBytes headBytes frameBytes messageAt pairAt pairBytes pairRefusal newKey kvRefusal
+    nameBytes messageBytes messageRefusal limited kvAllowed kvAnswer notifyAnswer
 marked =
     (refl, refl) and (refl, refl) and (refl, refl) and (refl, refl) and (refl, refl) and refl and refl and refl and refl and refl and
-    refl and refl and refl and refl and refl and refl and refl and refl and refl and refl and refl and refl and refl and refl and
-    refl and refl and refl and refl and refl and refl and refl and refl and refl and refl and refl and refl and refl and refl and
-    refl and refl and refl and refl and refl and refl and refl and refl and refl and tt
+    refl and refl and refl and refl and refl and refl and refl and refl and refl and refl and refl and refl and refl and refl and refl and
+    refl and refl and refl and refl and refl and refl and refl and refl and refl and refl and refl and refl and refl and refl and refl and
+    refl and refl and refl and refl and refl and refl and refl and refl and (refl, refl, refl) and (refl, refl, refl) and
+    (refl, refl, refl) and (refl, refl, refl) and (refl, refl, refl, refl) and (refl, refl, refl, refl) and tt

@@ -10,7 +10,13 @@ use parser::FrameRead;
 
 const LIMIT: u32 = 1_048_576;
 
-const OLD: u64 = 0xA5A5_A5A5_A5A5_A5A5;
+// The frame of the listing in docs/RULES.md, and one of two pairs.
+const LISTING: [u8; 29] =
+    *b"\x00\x00\x00\x19\x03\x00\x00\x00\x01\x01\x02\x05delay\x02\x04slot\x03\x07\x02ok\x11";
+
+const TWO_KEYS: [u8; 19] = *b"\x00\x00\x00\x0F\x01\x00\x00\x00\x01\x00\x00\x02AB\x00\x02AC\x00";
+
+pub(crate) const OLD: u64 = 0xA5A5_A5A5_A5A5_A5A5;
 
 pub(crate) fn frames() {
     lengths();
@@ -19,6 +25,7 @@ pub(crate) fn frames() {
     pairs();
     keys();
     messages();
+    kept();
 }
 
 // The length bytes, the limit, and whether the frame is there.
@@ -88,10 +95,12 @@ fn keys() {
     let twice = b"\x00\x00\x00\x0F\x01\x00\x00\x00\x01\x00\x00\x02A\xFF\x00\x02A\xFE\x00";
     stops(twice, 9, 19);
     stops_in_one(twice, 9, 19);
-    stops_in_one(
-        b"\x00\x00\x00\x0F\x01\x00\x00\x00\x01\x00\x00\x02AB\x00\x02AC\x00",
-        10,
-        19,
+    stops_in_one(&TWO_KEYS, 10, 19);
+    reads(
+        &TWO_KEYS,
+        &[0, 19, 1, 1, 0, 0, 0, 2],
+        &[OLD; 8],
+        &[12, 2, 0, 0, 0, 16, 2, 0, 0, 0, OLD, OLD, OLD, OLD, OLD],
     );
 }
 
@@ -111,7 +120,7 @@ fn messages() {
         20,
     );
     reads(
-        b"\x00\x00\x00\x19\x03\x00\x00\x00\x01\x01\x02\x05delay\x02\x04slot\x03\x07\x02ok\x11",
+        &LISTING,
         &[0, 29, 3, 1, 1, 2, 1, 2],
         &[12, 5, 0, 2, OLD, OLD, OLD, OLD],
         &[19, 4, 3, 7, 0, 26, 2, 1, 1, 0, OLD, OLD, OLD, OLD, OLD],
@@ -121,6 +130,116 @@ fn messages() {
         &[0, 22, 3, 1, 1, 2, 1, 2],
         &[12, 1, 0, 2, OLD, OLD, OLD, OLD],
         &[15, 1, 3, 7, 0, 19, 1, 3, 8, 0, OLD, OLD, OLD, OLD, OLD],
+    );
+}
+
+// With bytes behind them, under a limit no lower and with tables no smaller: a frame, and a refusal. 2 is kept under the same limit, and 10 with the
+// same tables.
+fn kept() {
+    frame_kept();
+    refusal_kept();
+    limit_kept();
+    room_kept();
+}
+
+fn frame_kept() {
+    let listing = [0, 29, 3, 1, 1, 2, 1, 2];
+    let mut messages = [OLD; 4];
+    let mut pairs = [OLD; 10];
+    under(
+        25,
+        &LISTING,
+        &mut messages,
+        &mut pairs,
+        &listing,
+        &[12, 5, 0, 2],
+        &[19, 4, 3, 7, 0, 26, 2, 1, 1, 0],
+    );
+    let mut more_messages = [OLD; 8];
+    let mut more_pairs = [OLD; 15];
+    under(
+        26,
+        b"\x00\x00\x00\x19\x03\x00\x00\x00\x01\x01\x02\x05delay\x02\x04slot\x03\x07\x02ok\x11\x00\x00",
+        &mut more_messages,
+        &mut more_pairs,
+        &listing,
+        &[12, 5, 0, 2, OLD, OLD, OLD, OLD],
+        &[19, 4, 3, 7, 0, 26, 2, 1, 1, 0, OLD, OLD, OLD, OLD, OLD],
+    );
+}
+
+fn refusal_kept() {
+    let eight = [8, 14, 0, 0, 0, 0, 0, 0];
+    let mut pairs = [OLD; 5];
+    under(
+        10,
+        b"\x00\x00\x00\x0A\x01\x00\x00\x00\x01\x00\x00\x01A\x0A",
+        &mut [],
+        &mut pairs,
+        &eight,
+        &[],
+        &[OLD; 5],
+    );
+    let mut messages = [OLD; 4];
+    let mut more_pairs = [OLD; 10];
+    under(
+        11,
+        b"\x00\x00\x00\x0A\x01\x00\x00\x00\x01\x00\x00\x01A\x0A\x00",
+        &mut messages,
+        &mut more_pairs,
+        &eight,
+        &[OLD; 4],
+        &[OLD; 10],
+    );
+}
+
+fn limit_kept() {
+    let two = [2, 4, 0, 0, 0, 0, 0, 0];
+    let mut messages = [OLD; 4];
+    let mut pairs = [OLD; 5];
+    under(
+        24,
+        &LISTING,
+        &mut messages,
+        &mut pairs,
+        &two,
+        &[OLD; 4],
+        &[OLD; 5],
+    );
+    let mut more_messages = [OLD; 8];
+    let mut more_pairs = [OLD; 15];
+    under(
+        24,
+        b"\x00\x00\x00\x19\x03\x00\x00\x00\x01\x01\x02\x05delay\x02\x04slot\x03\x07\x02ok\x11\x00",
+        &mut more_messages,
+        &mut more_pairs,
+        &two,
+        &[OLD; 8],
+        &[OLD; 15],
+    );
+}
+
+fn room_kept() {
+    let ten = [10, 19, 0, 0, 0, 0, 0, 0];
+    let mut messages = [OLD; 8];
+    let mut pairs = [OLD; 5];
+    under(
+        15,
+        &TWO_KEYS,
+        &mut messages,
+        &mut pairs,
+        &ten,
+        &[OLD; 8],
+        &[OLD; 5],
+    );
+    under(
+        16,
+        b"\x00\x00\x00\x0F\x01\x00\x00\x00\x01\x00\x00\x02AB\x00\x02AC\x00\x00",
+        &mut messages,
+        &mut pairs,
+        &ten,
+        &[OLD; 8],
+        &[OLD; 5],
     );
 }
 
@@ -147,16 +266,33 @@ fn stops(input: &[u8], number: u64, at: u64) {
 fn stops_in_one(input: &[u8], number: u64, at: u64) {
     let mut messages = [OLD; 8];
     let mut pairs = [OLD; 9];
-    let told = answer_to(input, &mut messages, &mut pairs);
+    let told = answer_to(LIMIT, input, &mut messages, &mut pairs);
     let right = same_numbers(&told, &[number, at, 0, 0, 0, 0, 0, 0]);
     verdict(right && same_numbers(&messages, &[OLD; 8]) && same_numbers(&pairs, &[OLD; 9]));
+}
+
+// Reads under a limit into the tables lent. The answer is to be as marked, and so are the tables afterwards.
+pub(crate) fn under(
+    limit: u32,
+    input: &[u8],
+    messages: &mut [u64],
+    pairs: &mut [u64],
+    marked: &[u64; 8],
+    marked_messages: &[u64],
+    marked_pairs: &[u64],
+) {
+    print_number(b"under ", limit as u64);
+    io::write_all(STDOUT_FILENO, b": ");
+    let told = answer_to(limit, input, messages, pairs);
+    let right = same_numbers(&told, marked);
+    verdict(right && same_numbers(messages, marked_messages) && same_numbers(pairs, marked_pairs));
 }
 
 // Reads with room for two messages and three pairs. The answer is to be as marked, and so are the tables afterwards.
 fn reads(input: &[u8], marked: &[u64; 8], marked_messages: &[u64; 8], marked_pairs: &[u64; 15]) {
     let mut messages = [OLD; 8];
     let mut pairs = [OLD; 15];
-    let told = answer_to(input, &mut messages, &mut pairs);
+    let told = answer_to(LIMIT, input, &mut messages, &mut pairs);
     let right = same_numbers(&told, marked);
     verdict(
         right && same_numbers(&messages, marked_messages) && same_numbers(&pairs, marked_pairs),
@@ -164,12 +300,12 @@ fn reads(input: &[u8], marked: &[u64; 8], marked_messages: &[u64; 8], marked_pai
 }
 
 // Reads the frame, says what was answered, and gives it in numbers.
-fn answer_to(input: &[u8], messages: &mut [u64], pairs: &mut [u64]) -> [u64; 8] {
+fn answer_to(limit: u32, input: &[u8], messages: &mut [u64], pairs: &mut [u64]) -> [u64; 8] {
     print_number(b"frame (room for ", pairs.len() as u64 / 5);
     io::write_all(STDOUT_FILENO, b") ");
     print_bytes(input);
     io::write_all(STDOUT_FILENO, b": ");
-    let answer = parser::read_frame(input, LIMIT, messages, pairs);
+    let answer = parser::read_frame(input, limit, messages, pairs);
     print_answer(answer);
     numbers_of(answer)
 }

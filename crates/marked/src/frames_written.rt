@@ -1,5 +1,7 @@
 // Frames, written whole, their records in order: two of pairs and one of actions, as an agent sends them, and one of messages, as HAProxy
-// does.
+// does. Then one of pairs and one of messages that are read back.
+use crate::frames_read;
+use crate::frames_read::OLD;
 use crate::show::print_bytes;
 use crate::show::refused;
 use crate::show::verdict;
@@ -11,6 +13,8 @@ pub(crate) fn frames() {
     agent_disconnect();
     ack();
     upload();
+    pairs_back();
+    messages_back();
 }
 
 fn agent_hello() {
@@ -104,6 +108,66 @@ fn upload() {
         answer,
         &out,
         b"\x00\x00\x00\x19\x03\x00\x00\x00\x01\x01\x02\x05delay\x02\x04slot\x03\x07\x02ok\x11",
+    );
+}
+
+// Read with two bytes behind it, in tables without a spare record.
+fn pairs_back() {
+    let pairs = [0, 1, 3, 7, 0, 1, 1, 8, 2, 3];
+    let mut out = [0u8; 64];
+    let answer = writer::write_kv(2, true, false, 0, 0, 18, b"AB2.0", &pairs, 2, &mut out);
+    written(
+        b"haproxy-disconnect: ",
+        answer,
+        &out,
+        b"\x00\x00\x00\x12\x02\x00\x00\x00\x01\x00\x00\x01A\x03\x07\x01B\x08\x032.0",
+    );
+    let mut room = [OLD; 10];
+    frames_read::under(
+        19,
+        &out[0..24],
+        &mut [],
+        &mut room,
+        &[0, 22, 2, 1, 0, 0, 0, 2],
+        &[],
+        &[12, 1, 3, 7, 0, 16, 1, 8, 19, 3],
+    );
+}
+
+// Two messages, with two arguments and with one.
+fn messages_back() {
+    let messages = [0, 1, 0, 2, 1, 1, 2, 1];
+    let pairs = [2, 1, 3, 7, 0, 3, 1, 3, 8, 0, 2, 1, 1, 1, 0];
+    let mut out = [0u8; 64];
+    let answer = writer::write_notify(
+        true,
+        false,
+        1,
+        2,
+        24,
+        b"mnab",
+        &messages,
+        2,
+        &pairs,
+        3,
+        &mut out,
+    );
+    written(
+        b"notify: ",
+        answer,
+        &out,
+        b"\x00\x00\x00\x18\x03\x00\x00\x00\x01\x01\x02\x01m\x02\x01a\x03\x07\x01b\x03\x08\x01n\x01\x01a\x11",
+    );
+    let mut rows = [OLD; 8];
+    let mut room = [OLD; 15];
+    frames_read::under(
+        25,
+        &out[0..30],
+        &mut rows,
+        &mut room,
+        &[0, 28, 3, 1, 1, 2, 2, 3],
+        &[12, 1, 0, 2, 23, 1, 2, 1],
+        &[15, 1, 3, 7, 0, 19, 1, 3, 8, 0, 26, 1, 1, 1, 0],
     );
 }
 

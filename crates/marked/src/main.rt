@@ -1,8 +1,8 @@
 // Runs worked examples of docs/RULES.md and says of each what it found: a line for each, which ends in "as marked" where the answer is the
 // one that is marked here.
 //
-// Those on numbers, values, frames that are read and frame sizes are also proved of the definitions, as one statement over a list, in
-// specs/Examples.antt. Those on texts and on frames that are written are only run.
+// Those on numbers, values, frames that are read, frames that are read back and frame sizes are also proved of the definitions, as one statement
+// over a list, in specs/Examples.antt. Those on texts and on the other frames that are written are only run.
 mod frames_read;
 mod frames_written;
 mod show;
