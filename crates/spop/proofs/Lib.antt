@@ -3,3 +3,4 @@ pub mod Telling
 pub mod Unique
 pub mod Walked
 pub mod ReadBack
+pub mod Examples

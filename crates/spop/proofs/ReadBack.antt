@@ -1,4 +1,5 @@
--- What is written is read back: KV frames and NOTIFY frames.
+-- What is written is read back: KV frames and NOTIFY frames, whole, and argument by argument. The proofs follow the reader over the payload's bytes
+-- (Walked), record by record as they were written.
 use mathlib.Core.Path.{_≡_, refl, sym, ap, _∙_}
 use mathlib.Core.Bool.{Bool, true, false, not, _||_}
 use mathlib.Core.List.{List, [], _∷_, _++_, map, append-nil}
@@ -144,8 +145,8 @@ kv-kinds h e l =
     (λ a. bool-cases (eqb (h .kind) 2) (λ t. let k = eqb-true (h .kind) 2 t in omega arith)
     (λ b. true-false e (kv-other h (eqb-false (h .kind) 1 a) (eqb-false (h .kind) 2 b) (λ z. omega arith) (λ z. omega arith))))
 
--- An accepted call: its head has FIN alone, its limit is a number of 32 bits and its ids are numbers of 64, as the call's parameters are. It is read
--- under a limit no lower, and with t behind it.
+-- A frame of n bytes that was written. Its ids are numbers of 64 bits and its limit is one of 32, as the calls' parameters are. It is read under a limit
+-- no lower, and with any bytes t behind it.
 module _ (h : Head) (limit : ℕ) (buffer bytes : List ℕ) (n : ℕ) (stream : h .stream < 2 ^ 64) (frame : h .frame < 2 ^ 64) (small : limit < 2 ^ 32)
     (higher : ℕ) (up : limit ≤ higher) (rooms : Rooms) (t : List ℕ) where
   readable : finAlone h ≡ true → 1 ≤ h .kind → h .kind ≤ 3 → Readable h
@@ -198,8 +199,7 @@ module _ (h : Head) (limit : ℕ) (buffer bytes : List ℕ) (n : ℕ) (stream : 
         (walk.reads-run placed count sound room count 0 0 0 [] (omega arith) (λ k. true-false (rw (ne-eqb (h .kind) 3 (λ z. omega (arith, kinds .1))) refl) k)
         (walk.reads-as placed refl refl refl (sym (append-nil list)) (walk.reads-none placed)))
 
-    -- Law: each KV frame of type 1 or 2 with FIN alone that is written, followed by any bytes, reads back under a limit no lower and with room for its
-    -- pairs.
+    -- Law: each KV frame of type 1 or 2 with FIN alone that `write_kv` writes reads back, with room for its pairs.
     pub kv-read-back : ReadBack h n buffer [] (records (pairAt pairs) 0 count) higher rooms (bytes ++ t)
     kv-read-back =
         rw (sym (records-none (messageAt []) 0)) (read-back buffer [] pairs h limit list bytes n wrote small ok higher up rooms t count 0 all-read)
@@ -245,7 +245,7 @@ module _ (h : Head) (limit : ℕ) (buffer bytes : List ℕ) (n : ℕ) (stream : 
         (runs-inside buffer total messages count messages-passed) rows count 0 (omega arith)
         (walk.reads-none lies))
 
-    -- Law: the same of each NOTIFY frame that is written, with room for its messages and its pairs.
+    -- Law: so does each NOTIFY frame that `write_notify` writes, with room for its messages and its pairs.
     pub notify-read-back : ReadBack h n buffer (records (messageAt messages) 0 count) (records (pairAt pairs) 0 total) higher rooms (bytes ++ t)
     notify-read-back = read-back buffer messages pairs h limit list-of-messages bytes n notified small notify-ok higher up rooms t total count both-read
 

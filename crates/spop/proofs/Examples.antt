@@ -1,0 +1,78 @@
+-- The laws on frames that are read back, each with an example to which it applies: so there are frames that meet every premise.
+use mathlib.Core.Path.{_≡_, refl}
+use mathlib.Core.Bool.{true, false}
+use mathlib.Core.List.{List, [], _∷_, _++_}
+use Prim.Native.Nat.{ℕ}
+use native.Mathlib.Omega.{arith}
+use Rattle.answer.specs.Answer.{done}
+use Rattle.answer.specs.Order.{inOrder, firstRefused}
+use Rattle.answer.specs.Table.{records, joined, some}
+use Rattle.varint.specs.Number.{groups, numberBytes}
+use Rattle.utf8.specs.Text.{rows, follow, inRange, front, rowFor, step, bySteps, isUtf8, lossy, same, sameText}
+use Rattle.types.specs.Value.{shape}
+use Rattle.types.proofs.Roundtrip.{means}
+use Rattle.types.specs.Form.{stringBytes, valueBytes}
+use Rattle.frame.specs.Head.{fourBytes, headBytes, frameBytes}
+use Rattle.frame.specs.Records.{messageAt, pairAt}
+use Rattle.frame.proofs.Meaning.{pairMeaning}
+use Rattle.parser.specs.declared.Rooms.{Rooms}
+use Rattle.writer.specs.Pair.{pairBytes, pairRefusal, newKey, kvRefusal}
+use Rattle.writer.specs.Message.{nameBytes, messageBytes, messageRefusal}
+use Rattle.writer.specs.Frame.{headOf, limited, kvAllowed, kvAnswer, notifyAnswer}
+use Rattle.spop.proofs.ReadBack.{ReadBack, kv-read-back, notify-read-back, argumentOf, notify-arguments}
+
+-- HAPROXY-DISCONNECT with A, which is 7, and B, which is the text 2.0
+abbrev pub text : List ℕ
+text = 0x41 ∷ 0x42 ∷ 0x32 ∷ 0x2E ∷ 0x30 ∷ []
+
+abbrev pub two : List ℕ
+two = 0 ∷ 1 ∷ 3 ∷ 7 ∷ 0 ∷ 1 ∷ 1 ∷ 8 ∷ 2 ∷ 3 ∷ []
+
+abbrev pub pairs-frame : List ℕ
+pairs-frame =
+    0 ∷ 0 ∷ 0 ∷ 18 ∷ 2 ∷ 0 ∷ 0 ∷ 0 ∷ 1 ∷ 0 ∷ 0 ∷ 0x01 ∷ 0x41 ∷ 0x03 ∷ 0x07 ∷ 0x01 ∷ 0x42 ∷ 0x08 ∷ 0x03 ∷ 0x32 ∷ 0x2E ∷ 0x30 ∷ []
+
+pub pairs-written : kvAnswer (headOf 2 true false 0 0) 18 text two 2 ≡ done pairs-frame 22
+unfolding groups numberBytes rows follow inRange front rowFor step bySteps isUtf8 lossy same sameText shape inOrder some firstRefused records joined
+    stringBytes valueBytes fourBytes headBytes frameBytes pairAt pairBytes pairRefusal newKey kvRefusal limited kvAllowed kvAnswer
+pairs-written = refl
+
+pub kv-example : ReadBack (headOf 2 true false 0 0) 22 text [] (records (pairAt two) 0 2) 19 (record { messages = 0; pairs = 2 }) (pairs-frame ++ (0 ∷ 0 ∷ []))
+kv-example =
+    kv-read-back (headOf 2 true false 0 0) 18 text pairs-frame 22 (omega arith) (omega arith) (omega arith) 19 (omega arith) _ (0 ∷ 0 ∷ []) two 2 pairs-written (omega arith) refl
+    (omega arith)
+
+-- NOTIFY of m, with a and b, and of n, with a
+abbrev pub names : List ℕ
+names = 0x6D ∷ 0x6E ∷ 0x61 ∷ 0x62 ∷ []
+
+abbrev pub both : List ℕ
+both = 0 ∷ 1 ∷ 0 ∷ 2 ∷ 1 ∷ 1 ∷ 2 ∷ 1 ∷ []
+
+abbrev pub three : List ℕ
+three = 2 ∷ 1 ∷ 3 ∷ 7 ∷ 0 ∷ 3 ∷ 1 ∷ 3 ∷ 8 ∷ 0 ∷ 2 ∷ 1 ∷ 1 ∷ 1 ∷ 0 ∷ []
+
+abbrev pub messages-frame : List ℕ
+messages-frame =
+    0 ∷ 0 ∷ 0 ∷ 24 ∷ 3 ∷ 0 ∷ 0 ∷ 0 ∷ 1 ∷ 0x01 ∷ 0x02 ∷ 0x01 ∷ 0x6D ∷ 0x02 ∷ 0x01 ∷ 0x61 ∷ 0x03 ∷ 0x07 ∷ 0x01 ∷ 0x62 ∷ 0x03 ∷ 0x08
+    ∷ 0x01 ∷ 0x6E ∷ 0x01 ∷ 0x01 ∷ 0x61 ∷ 0x11 ∷ []
+
+pub messages-written : notifyAnswer (headOf 3 true false 1 2) 24 names both 2 three 3 ≡ done messages-frame 28
+unfolding groups numberBytes rows follow inRange front rowFor step bySteps isUtf8 shape inOrder some firstRefused records joined
+    stringBytes valueBytes fourBytes headBytes frameBytes messageAt pairAt pairBytes pairRefusal nameBytes messageBytes messageRefusal limited notifyAnswer
+messages-written = refl
+
+abbrev pub again : Rooms
+again = record { messages = 2; pairs = 3 }
+
+-- Argument 0 of message 1 is a, which is true, and not one of the a and the b of message 0.
+abbrev pub read-again : ReadBack (headOf 3 true false 1 2) 28 names (records (messageAt both) 0 2) (records (pairAt three) 0 3) 25 again (messages-frame ++ (0 ∷ 0 ∷ []))
+read-again =
+    notify-read-back (headOf 3 true false 1 2) 24 names messages-frame 28 (omega arith) (omega arith) (omega arith) 25 (omega arith) again (0 ∷ 0 ∷ []) both 2 three 3
+    messages-written refl (omega arith) (omega arith)
+
+pub notify-example : pairMeaning (messages-frame ++ (0 ∷ 0 ∷ [])) (argumentOf (read-again .contents) 1 0) ≡ (0x61 ∷ [], means 1 1 [])
+unfolding messageAt pairAt shape
+notify-example =
+    notify-arguments (headOf 3 true false 1 2) 24 names messages-frame 28 (omega arith) (omega arith) (omega arith) 25 (omega arith) again (0 ∷ 0 ∷ []) both 2 three 3
+    messages-written refl (omega arith) (omega arith) 1 0 (omega arith) (omega arith) .1
