@@ -270,6 +270,9 @@ pub fn to_an_edge(random: &mut Random, length: usize, limit: &mut u32, room: &mu
 /// The longest buffer that is drawn.
 pub const LONGEST: usize = 28;
 
+/// More bytes than the head of a frame takes, or a message without its arguments, or a pair, in such a buffer.
+pub const ROW: usize = 64;
+
 /// Text, most of the time; a byte of it changed, or any bytes.
 pub fn contents(random: &mut Random) -> Vec<u8> {
     let length = random.index(LONGEST);

@@ -123,6 +123,7 @@ fn compare_read(call: &Call, port: &Wrote, length: usize) -> Result<(), Differen
         abort: call.abort,
         ids: [call.stream, call.frame],
         limit: call.limit,
+        spare: [0, 0],
         buffer: &call.buffer,
         messages: &[],
         pairs: &[],

@@ -3,12 +3,13 @@
 
 use crate::{
     answers::{self, Answer},
+    counts::ENOUGH,
     inputs::Random,
     port,
     reader::{
+        call::{Call, declared},
         classes::Met,
         model::{self, Read, Rooms, TABLE_FULL},
-        sides::Call,
         wire,
     },
     records::{self, REPEATED},
@@ -22,9 +23,6 @@ use spop::{
 use std::hint::black_box;
 
 // ---------------------------------------------------------------- the inputs
-
-/// From so many rounds on each class has to be met in them.
-const ENOUGH: u64 = 10_000;
 
 pub fn diff(random: &mut Random, rounds: u64) -> Result<String, Difference> {
     let (mut fixed, mut drawn) = (Met::default(), Met::default());
@@ -40,12 +38,10 @@ pub fn diff(random: &mut Random, rounds: u64) -> Result<String, Difference> {
     if rounds >= ENOUGH {
         drawn.all("random")?;
     }
-    for (name, count) in drawn.classes {
-        println!("{count:>12}  {name}");
-    }
+    drawn.frames.print();
     Ok(format!(
         "{} fixed frames and {} fixed pairs, {} random frames and {} random pairs in {rounds} rounds",
-        fixed.frames, fixed.pairs, drawn.frames, drawn.pairs
+        fixed.frames.inputs, fixed.pairs, drawn.frames.inputs, drawn.pairs
     ))
 }
 
@@ -224,7 +220,8 @@ fn round(met: &mut Met, random: &mut Random) -> Result<(), Difference> {
     met.pair(&wire::pair(random))
 }
 
-fn drawn(random: &mut Random) -> Call {
+/// A buffer, a limit and two tables.
+pub fn drawn(random: &mut Random) -> Call {
     let drawn = wire::drawn(random);
     let limit = match random.below(32) {
         0 => 0,
@@ -243,12 +240,6 @@ fn drawn(random: &mut Random) -> Call {
         ],
         input: drawn.bytes,
     }
-}
-
-fn declared(input: &[u8]) -> u32 {
-    input
-        .first_chunk()
-        .map_or(0, |field| u32::from_be_bytes(*field))
 }
 
 /// How many numbers a table has that is to hold so many records: enough most of the time, and some that are no record.

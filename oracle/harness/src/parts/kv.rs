@@ -4,8 +4,8 @@ use crate::{
     answers::Answer,
     inputs::{self, Random},
     port,
-    reader::back::Written,
-    records::{self, Frame, NOT_WRITABLE, OUTSIDE, Payload, REPEATED, Wrote, encoding},
+    reader::back::{Writer, Written},
+    records::{self, Frame, NOT_WRITABLE, OUTSIDE, Payload, REPEATED, ROW, Wrote, encoding},
     shrink::{self, Fields},
     text::Difference,
     timing,
@@ -16,11 +16,12 @@ use spop::{
 };
 use std::{collections::HashMap, hint::black_box};
 
-/// The most pairs that are drawn.
+/// The most pairs that are drawn, and below how many a few long lists stay.
 const MOST: usize = 6;
+const MANY: usize = 200;
 
 #[derive(Clone, Debug, PartialEq)]
-struct Call {
+pub struct Call {
     kind: u64,
     fin: bool,
     abort: bool,
@@ -33,7 +34,7 @@ struct Call {
     room: usize,
 }
 
-impl Call {
+impl Writer for Call {
     fn by_port(&self) -> Wrote {
         Wrote::by_port(self.room, |out, at| {
             port::write_kv(
@@ -50,6 +51,22 @@ impl Call {
         })
     }
 
+    fn records(&self) -> Written<'_> {
+        Written {
+            kind: self.kind,
+            fin: self.fin,
+            abort: self.abort,
+            ids: [self.stream, self.frame],
+            limit: self.limit,
+            spare: [0, 0],
+            buffer: &self.buffer,
+            messages: &[],
+            pairs: &self.pairs[..5 * self.count as usize],
+        }
+    }
+}
+
+impl Call {
     /// Refusals are a plain reading of the paper; the bytes are the Rust's, a pair's after the other.
     fn by_rust(&self) -> Wrote {
         Wrote::expected(self.expected(), self.limit, self.room)
@@ -152,26 +169,14 @@ fn compare(call: &Call) -> Result<Option<usize>, Difference> {
     let (port, rust) = (call.by_port(), call.by_rust());
     if port == rust {
         let length = port.length();
-        length.map_or(Ok(()), |length| compare_read(call, &port, length))?;
+        // The port reads its own frame: the pairs come back in order, or the flags or the type are refused.
+        length.map_or(Ok(()), |length| {
+            call.records().read_back(&port.area, length, call)
+        })?;
         return Ok(length);
     }
     let sides = [("port", &port), ("rust", &rust)];
     Err(records::difference("write_kv", call, sides))
-}
-
-/// The port reads its own frame: the pairs come back in order, or the flags or the type are refused.
-fn compare_read(call: &Call, port: &Wrote, length: usize) -> Result<(), Difference> {
-    let written = Written {
-        kind: call.kind,
-        fin: call.fin,
-        abort: call.abort,
-        ids: [call.stream, call.frame],
-        limit: call.limit,
-        buffer: &call.buffer,
-        messages: &[],
-        pairs: &call.pairs[..5 * call.count as usize],
-    };
-    written.read_back(&port.area, length, call)
 }
 
 pub fn diff(random: &mut Random, rounds: u64) -> Result<String, Difference> {
@@ -235,12 +240,7 @@ fn drawn(random: &mut Random) -> Call {
     let buffer = records::contents(random);
     let room = buffer.len() as u64;
     let rows = random.index(MOST + 1);
-    let mut pairs = Vec::new();
-    for _ in 0..rows {
-        let (start, length) = records::drawn_part(random, room);
-        pairs.extend([start, length]);
-        pairs.extend(records::drawn_value(random, room));
-    }
+    let mut pairs = drawn_pairs(random, rows, room);
     pairs.extend((0..random.index(5)).map(|_| random.below(3)));
     let kind = [1, 1, 2, 101, 102, 3, 103, 0, 256][random.index(9)];
     let plain = random.below(4) > 0;
@@ -275,6 +275,42 @@ fn drawn(random: &mut Random) -> Call {
             _ => 400,
         },
     }
+}
+
+fn drawn_pairs(random: &mut Random, rows: usize, room: u64) -> Vec<u64> {
+    let mut pairs = Vec::new();
+    for _ in 0..rows {
+        let (start, length) = records::drawn_part(random, room);
+        pairs.extend([start, length]);
+        pairs.extend(records::drawn_value(random, room));
+    }
+    pairs
+}
+
+/// A frame of type 1 or 2 with FIN alone, of those records out of some that can be written together.
+pub fn right(random: &mut Random) -> Call {
+    let mut call = Call {
+        kind: random.within(1, 2),
+        fin: true,
+        abort: false,
+        limit: 16_384,
+        ..drawn(random)
+    };
+    let rows = match random.below(32) {
+        0 => random.index(MANY),
+        _ => random.index(MOST + 2),
+    };
+    call.pairs.clear();
+    let mut earlier = Vec::new();
+    for record in drawn_pairs(random, rows, call.buffer.len() as u64).chunks_exact(5) {
+        if let Ok(pair) = call.pair(record, &earlier) {
+            earlier.push(pair);
+            call.pairs.extend(record);
+        }
+    }
+    call.count = earlier.len() as u64;
+    call.room = ROW * (1 + rows);
+    call
 }
 
 // ---------------------------------------------------------------- timing

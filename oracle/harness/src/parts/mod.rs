@@ -36,5 +36,6 @@ parts! {
     actions,
     notify,
     frames,
+    laws,
     hello,
 }

@@ -5,8 +5,8 @@ use crate::{
     answers::{self, Answer},
     inputs::{self, Random},
     port,
-    reader::back::Written,
-    records::{self, Frame, NOT_WRITABLE, OUTSIDE, TOO_MANY, Wrote},
+    reader::back::{Writer, Written},
+    records::{self, Frame, NOT_WRITABLE, OUTSIDE, ROW, TOO_MANY, Wrote},
     shrink::{self, Fields},
     text::{Difference, hex},
     timing,
@@ -22,14 +22,11 @@ use std::hint::black_box;
 const MESSAGES: u64 = 6;
 const ARGUMENTS: u64 = 8;
 
-/// More bytes than a message without its arguments takes, or one argument, in a buffer as it is drawn.
-const ROW: usize = 64;
-
 /// A name, and the arguments in their order.
 type Message = (String, Vec<(String, TypedData)>);
 
 #[derive(Clone, Debug, PartialEq)]
-struct Call {
+pub struct Call {
     fin: bool,
     abort: bool,
     stream: u64,
@@ -43,7 +40,7 @@ struct Call {
     room: usize,
 }
 
-impl Call {
+impl Writer for Call {
     fn by_port(&self) -> Wrote {
         Wrote::by_port(self.room, |out, at| {
             port::write_notify(
@@ -61,6 +58,22 @@ impl Call {
         })
     }
 
+    fn records(&self) -> Written<'_> {
+        Written {
+            kind: 3,
+            fin: self.fin,
+            abort: self.abort,
+            ids: [self.stream, self.frame],
+            limit: self.limit,
+            spare: [0, 0],
+            buffer: &self.buffer,
+            messages: &self.messages[..4 * self.message_count as usize],
+            pairs: &self.pairs[..5 * self.pair_count as usize],
+        }
+    }
+}
+
+impl Call {
     fn by_paper(&self) -> Wrote {
         let frame = self.stands_for().map(|messages| self.written(&messages));
         Wrote::expected(frame, self.limit, self.room)
@@ -193,7 +206,8 @@ fn compare(call: &Call) -> Result<Option<usize>, Difference> {
     }
     if let Some(length) = port.length() {
         compare_read(call, &port)?;
-        compare_read_by_port(call, &port, length)?;
+        // The port reads its own frame: messages and arguments come back in order.
+        call.records().read_back(&port.area, length, call)?;
     }
     Ok(port.length())
 }
@@ -215,21 +229,6 @@ fn compare_read(call: &Call, port: &Wrote) -> Result<(), Difference> {
         .row("", hex(&port.area))
         .row("tables", format!("{expected:?}"))
         .row("rust", format!("{read:?}")))
-}
-
-/// The port reads its own frame: messages and arguments come back in order.
-fn compare_read_by_port(call: &Call, port: &Wrote, length: usize) -> Result<(), Difference> {
-    let written = Written {
-        kind: 3,
-        fin: call.fin,
-        abort: call.abort,
-        ids: [call.stream, call.frame],
-        limit: call.limit,
-        buffer: &call.buffer,
-        messages: &call.messages[..4 * call.message_count as usize],
-        pairs: &call.pairs[..5 * call.pair_count as usize],
-    };
-    written.read_back(&port.area, length, call)
 }
 
 pub fn diff(random: &mut Random, rounds: u64) -> Result<String, Difference> {
@@ -343,7 +342,7 @@ fn drawn(random: &mut Random) -> Call {
 }
 
 /// Tables that can be written, but for runs of 256 or 257 pairs.
-fn right(random: &mut Random) -> Call {
+pub fn right(random: &mut Random) -> Call {
     let buffer = contents(random);
     let (mut messages, mut pairs) = (Vec::new(), Vec::new());
     let message_count = random.within(0, MESSAGES);

@@ -1,15 +1,23 @@
 //! Frames that a writer of the port made, read by the port.
 
 use super::{
-    lent::{Reading, stays},
+    lent::{Reading, keys_rise, stays},
     model::{ABORTED, AGENTS, UNKNOWN},
 };
 use crate::{
     answers::Answer,
-    records,
+    records::{self, Wrote},
+    shrink::{Call, Fields},
     text::{Difference, hex},
 };
 use std::fmt::Debug;
+
+/// A call of a writer of the port.
+pub trait Writer: Call + Debug {
+    fn by_port(&self) -> Wrote;
+    /// What its frame is made of, where one was written.
+    fn records(&self) -> Written<'_>;
+}
 
 /// What a writer of the port made a frame of.
 pub struct Written<'a> {
@@ -17,7 +25,9 @@ pub struct Written<'a> {
     pub fin: bool,
     pub abort: bool,
     pub ids: [u64; 2],
+    /// A limit to read it with, and how many numbers the tables of messages and pairs have behind its records then.
     pub limit: u32,
+    pub spare: [usize; 2],
     pub buffer: &'a [u8],
     /// The records that count, without what stands behind them in the tables.
     pub messages: &'a [u64],
@@ -25,14 +35,17 @@ pub struct Written<'a> {
 }
 
 impl Written<'_> {
-    /// Has the port read the frame at the front of `area`, in tables without room for a further record.
+    /// Has the port read the frame at the front of `area`.
     pub fn read_back(
         &self,
         area: &[u8],
         length: usize,
         call: &impl Debug,
     ) -> Result<(), Difference> {
-        let lengths = [self.messages.len(), self.pairs.len()];
+        let lengths = [
+            self.messages.len() + self.spare[0],
+            self.pairs.len() + self.spare[1],
+        ];
         let reading = Reading::by_port(area, self.limit, lengths);
         if self.is_right(&reading, area, length) {
             return Ok(());
@@ -55,6 +68,7 @@ impl Written<'_> {
             && self.same_pairs(&reading.pairs, area)
             && stays(&reading.messages, self.messages.len())
             && stays(&reading.pairs, self.pairs.len())
+            && keys_rise(&reading.pairs[..self.pairs.len()])
     }
 
     fn answer(&self, length: usize) -> Answer {
@@ -94,4 +108,73 @@ impl Written<'_> {
 fn same_bytes(one: &[u64], in_one: &[u8], other: &[u64], in_other: &[u8]) -> bool {
     let one = records::part(in_one, one[0], one[1]);
     one.is_ok() && one == records::part(in_other, other[0], other[1])
+}
+
+// ---------------------------------------------------------------- with more of everything
+
+/// A frame that is written, and read with any bytes behind it, a limit no lower and tables no smaller.
+#[derive(Clone, Debug, PartialEq)]
+pub struct Back<C> {
+    pub call: C,
+    pub behind: Vec<u8>,
+    /// How much higher the limit is, and how many numbers the tables of messages and pairs have behind the records.
+    pub raise: u64,
+    pub spare: [u64; 2],
+}
+
+impl<C: Writer> Back<C> {
+    /// Answers the length of the frame, where one was written.
+    pub fn check(&self) -> Result<Option<usize>, Difference> {
+        let wrote = self.call.by_port();
+        let Some(length) = wrote.length() else {
+            return Ok(None);
+        };
+        let Some(frame) = wrote.area.get(..length) else {
+            let rows = Difference::in_call("a frame longer than its output");
+            return Err(rows
+                .row("with", format!("{:?}", self.call))
+                .row("port", wrote.answer));
+        };
+        let written = self.call.records();
+        let written = Written {
+            limit: written.limit.saturating_add(self.raise as u32),
+            spare: self.spare.map(|count| count as usize),
+            ..written
+        };
+        let area = [frame, &self.behind].concat();
+        written
+            .read_back(&area, length, self)
+            .map(|()| Some(length))
+    }
+}
+
+impl<C: Writer> Call for Back<C> {
+    fn differing(&self) -> Option<[Answer; 2]> {
+        let answer = self.call.by_port().answer;
+        self.check().is_err().then_some([answer; 2])
+    }
+
+    fn length(&self) -> Option<usize> {
+        self.call.length()
+    }
+
+    fn with_less(&self) -> Vec<Self> {
+        let calls = self.call.with_less().into_iter().map(|call| Self {
+            call,
+            ..self.clone()
+        });
+        let shorter = [0, self.behind.len() / 2].map(|length| Self {
+            behind: self.behind[..length].to_vec(),
+            ..self.clone()
+        });
+        let shorter = shorter.into_iter().filter(|_| !self.behind.is_empty());
+        calls.chain(shorter).collect()
+    }
+
+    fn fields(&mut self) -> Fields<'_> {
+        let mut fields = self.call.fields();
+        fields.numbers.push(&mut self.raise);
+        fields.numbers.extend(&mut self.spare);
+        fields
+    }
 }

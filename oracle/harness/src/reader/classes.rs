@@ -1,32 +1,27 @@
-//! How often each kind of answer was met, so that inputs which have become too plain show.
+//! The kinds of answers, and how often each was met.
 
 use super::{
+    call::Call,
     model::{Pair, Read, Rooms, TABLE_FULL},
-    sides::{self, Call},
+    sides,
 };
 use crate::{
+    counts::{Class, Counts},
     records::{self, REPEATED},
     text::Difference,
 };
 use spop::{parser::parse_frame_with_limit, varint::decode_varint};
 
-const CLASSES: usize = 28;
-
-/// How often each class was met.
 #[derive(Default)]
 pub struct Met {
-    pub frames: u64,
+    pub frames: Counts,
     pub pairs: u64,
-    pub classes: [(&'static str, u64); CLASSES],
 }
 
 impl Met {
     pub fn frame(&mut self, call: &Call) -> Result<Read, Difference> {
         let read = sides::checked(call)?;
-        self.frames += 1;
-        for (met, (name, is)) in self.classes.iter_mut().zip(classes(call, &read)) {
-            *met = (name, met.1 + u64::from(is));
-        }
+        self.frames.add(&classes(call, &read));
         Ok(read)
     }
 
@@ -35,19 +30,13 @@ impl Met {
         sides::checked_pair(input)
     }
 
-    /// A class that was not met says that the inputs have become too plain.
     pub fn all(&self, inputs: &str) -> Result<(), Difference> {
-        match self.classes.iter().find(|(_, count)| *count == 0) {
-            None => Ok(()),
-            Some((name, _)) => Err(Difference::in_call("read_frame")
-                .row("inputs", inputs)
-                .row("not met", name)),
-        }
+        self.frames.all("read_frame", inputs)
     }
 }
 
 /// Which of the classes a call is of, with their names.
-fn classes(call: &Call, read: &Read) -> [(&'static str, bool); CLASSES] {
+fn classes(call: &Call, read: &Read) -> [Class; 28] {
     let is = |number| read.number == number;
     let kind = call.input.get(4).copied().unwrap_or_default();
     let rooms = Rooms::of(call.lengths);

@@ -72,6 +72,34 @@ impl Reading {
     pub fn is_untouched(&self) -> bool {
         stays(&self.head, 0) && stays(&self.messages, 0) && stays(&self.pairs, 0)
     }
+
+    pub fn number(&self) -> u64 {
+        match self.answer {
+            Answer::Paper { number, .. } => number,
+            Answer::Unlisted(..) => unreachable!("the port answers a number"),
+        }
+    }
+
+    /// The messages and pairs that the head counts, where all their numbers were written and none behind them.
+    pub fn records(&self) -> Option<[&[u64]; 2]> {
+        let messages = front(&self.messages, self.head[4], 4)?;
+        Some([messages, front(&self.pairs, self.head[5], 5)?])
+    }
+}
+
+fn front(table: &[u64], count: u64, width: usize) -> Option<&[u64]> {
+    let end = usize::try_from(count).ok()?.checked_mul(width)?;
+    let numbers = table.get(..end)?;
+    let mut places = numbers.iter().enumerate();
+    let written = places.all(|(place, number)| *number != untouched(place));
+    (written && stays(table, end) && end + BEHIND <= table.len()).then_some(numbers)
+}
+
+/// Whether the key of each pair starts behind that of the one before it.
+pub fn keys_rise(pairs: &[u64]) -> bool {
+    pairs
+        .chunks_exact(5)
+        .is_sorted_by(|one, next| one[0] < next[0])
 }
 
 fn put(table: &mut [u64], records: &[u64]) {

@@ -1,6 +1,8 @@
 //! Frames and pairs that are read: the sides that are compared, and what they are given.
 
+pub mod again;
 pub mod back;
+pub mod call;
 pub mod classes;
 pub mod lent;
 pub mod model;

@@ -26,7 +26,7 @@ pub type Pair = [u64; 5];
 pub type Message = [u64; 4];
 
 /// How many records the tables have room for.
-#[derive(Clone, Copy)]
+#[derive(Clone, Copy, PartialEq)]
 pub struct Rooms {
     pub messages: usize,
     pub pairs: usize,
