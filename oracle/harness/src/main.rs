@@ -3,6 +3,7 @@
 mod answers;
 mod counts;
 mod inputs;
+mod listing;
 mod parts;
 mod port;
 mod reader;
@@ -32,10 +33,10 @@ fn main() -> ExitCode {
 /// Answers nothing where the words are no command.
 fn run(words: &[&str]) -> Option<ExitCode> {
     match *words {
-        ["diff"] => diff("all", ROUNDS, SEED),
-        ["diff", part] => diff(part, ROUNDS, SEED),
-        ["diff", part, rounds] => diff(part, rounds.parse().ok()?, SEED),
-        ["diff", part, rounds, seed] => diff(part, rounds.parse().ok()?, seed.parse().ok()?),
+        ["diff"] => diff("all", None, SEED),
+        ["diff", part] => diff(part, None, SEED),
+        ["diff", part, rounds] => diff(part, Some(rounds.parse().ok()?), SEED),
+        ["diff", part, rounds, seed] => diff(part, Some(rounds.parse().ok()?), seed.parse().ok()?),
         ["bench"] => bench("all"),
         ["bench", part] => bench(part),
         ["vectors", folder] => Some(vectors(Path::new(folder))),
@@ -52,9 +53,13 @@ fn named(word: &str) -> Option<Vec<&'static Part>> {
 }
 
 /// A part ends at its first difference; the other parts still run.
-fn diff(word: &str, rounds: u64, seed: u64) -> Option<ExitCode> {
+fn diff(word: &str, rounds: Option<u64>, seed: u64) -> Option<ExitCode> {
     let mut equal = true;
     for part in named(word)? {
+        let rounds = match rounds {
+            Some(rounds) if word == part.name => rounds,
+            _ => rounds.unwrap_or(ROUNDS).min(part.most),
+        };
         // Each part starts from the seed, so that it says the same alone as among all.
         match (part.diff)(&mut Random::new(seed), rounds) {
             Ok(compared) => println!("{}: equal on {compared}, seed {seed}", part.name),

@@ -26,6 +26,26 @@ fn drop_some(best: &mut Vec<u8>, differs: &impl Fn(&[u8]) -> bool) -> bool {
     false
 }
 
+/// Takes out runs of items, all of them first and single ones last. Runs of one length do not overlap, so that there
+/// are about twice as many questions as items.
+pub fn runs<T: Clone>(start: &[T], differs: impl Fn(&[T]) -> bool) -> Vec<T> {
+    let mut best = start.to_vec();
+    let mut run = best.len();
+    while run > 0 {
+        let mut place = 0;
+        while place < best.len() {
+            let mut shorter = best.clone();
+            shorter.drain(place..best.len().min(place + run));
+            match differs(&shorter) {
+                true => best = shorter,
+                false => place += run,
+            }
+        }
+        run /= 2;
+    }
+    best
+}
+
 /// Gives the first byte that allows it the least value that still differs.
 fn lower_one(best: &mut [u8], differs: &impl Fn(&[u8]) -> bool) -> bool {
     for place in 0..best.len() {

@@ -40,6 +40,13 @@ pub fn alone(name: &str, mut port: impl FnMut()) {
     );
 }
 
+/// Prints the best time of so many processes.
+pub fn processes(name: &str, runs: usize, mut process: impl FnMut()) {
+    let times = (0..runs).map(|_| time(1, &mut process));
+    let best = times.min().unwrap_or_default().as_secs_f64() * 1000.0;
+    println!("{name:<32} {best:>9.2} milliseconds, the best of {runs} processes");
+}
+
 /// The best time of a call of each. They take turns, so that a slow spell of the machine meets both.
 fn best(calls: usize, mut one: impl FnMut(), mut other: impl FnMut()) -> [f64; 2] {
     let passes = passes_for_a_run(&mut other);

@@ -46,7 +46,8 @@ pub fn diff(random: &mut Random, rounds: u64) -> Result<String, Difference> {
 }
 
 /// The frame of the paper's listing.
-const LISTING: &[u8] = b"\0\0\0\x19\x03\0\0\0\x01\x01\x02\x05delay\x02\x04slot\x03\x07\x02ok\x11";
+pub const LISTING: &[u8] =
+    b"\0\0\0\x19\x03\0\0\0\x01\x01\x02\x05delay\x02\x04slot\x03\x07\x02ok\x11";
 
 /// Tables for 64 messages and 256 pairs.
 const ROOMY: [usize; 2] = [4 * 64, 5 * 256];
@@ -363,7 +364,7 @@ fn rust_read(input: &[u8]) -> IResult<&[u8], Box<dyn SpopFrame>> {
 
 // ---------------------------------------------------------------- the frames that are timed
 
-fn framed(kind: FrameType, ids: [u64; 2], payload: &[u8]) -> Vec<u8> {
+pub fn framed(kind: FrameType, ids: [u64; 2], payload: &[u8]) -> Vec<u8> {
     let mut frame = vec![kind.to_u8(), 0, 0, 0, 1];
     ids.iter()
         .for_each(|id| encode_varint_into(*id, &mut frame));
@@ -388,7 +389,7 @@ fn notify(ids: [u64; 2], arguments: &[(&str, TypedData)]) -> Vec<u8> {
 }
 
 /// Two slots and two delays. All numbers below 64 give frames of the same length.
-fn upload(number: u64) -> Vec<u8> {
+pub fn upload(number: u64) -> Vec<u8> {
     let arguments = [
         ("slot_a", TypedData::UInt32(3)),
         ("delay_a", TypedData::Int64(1_250 + number as i64)),
@@ -405,7 +406,7 @@ fn long_notify() -> Vec<u8> {
     notify([1, 2], &arguments)
 }
 
-fn hello() -> Vec<u8> {
+pub fn hello() -> Vec<u8> {
     let text = |text: &str| TypedData::String(text.into());
     let pairs = [
         ("supported-versions", text("2.0")),

@@ -338,7 +338,10 @@ fn notify_classes(back: &Back<notify::Call>, length: usize) -> Vec<Class> {
         ("no message", rows.is_empty()),
         ("one message", rows.len() == 1),
         ("several messages", rows.len() > 1),
-        ("a message without arguments, and one with some", empty_first),
+        (
+            "a message without arguments, and one with some",
+            empty_first,
+        ),
         ("an argument with the name of the one before it", repeated),
         ("255 arguments", rows.iter().any(|row| row[3] == 255)),
     ];
@@ -346,7 +349,7 @@ fn notify_classes(back: &Back<notify::Call>, length: usize) -> Vec<Class> {
     all
 }
 
-const KINDS: [&str; 10] = [
+pub const KINDS: [&str; 10] = [
     "null", "bool", "i32", "u32", "i64", "u64", "IPv4", "IPv6", "string", "binary",
 ];
 
@@ -365,7 +368,10 @@ fn classes_of_both<C: Writer>(back: &Back<C>, length: usize) -> Vec<Class> {
         ("bytes behind it", !back.behind.is_empty()),
         ("under the writer's limit", back.raise == 0),
         ("under a limit that is just enough", back.raise == 0 && just),
-        ("under a higher limit", back.raise > 0 && written.limit < u32::MAX),
+        (
+            "under a higher limit",
+            back.raise > 0 && written.limit < u32::MAX,
+        ),
         ("in tables without a spare record", back.spare == [0, 0]),
         ("in larger tables", back.spare[0] >= 4 && back.spare[1] >= 5),
     ];

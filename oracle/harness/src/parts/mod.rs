@@ -4,6 +4,8 @@ use crate::{inputs::Random, text::Difference};
 
 pub struct Part {
     pub name: &'static str,
+    /// The most rounds, but where the part is named with a number of them.
+    pub most: u64,
     /// Compares on the part's fixed inputs and on `rounds` random ones, up to the first difference.
     /// The answer says what was compared.
     pub diff: fn(&mut Random, rounds: u64) -> Result<String, Difference>,
@@ -14,12 +16,13 @@ pub struct Part {
 }
 
 macro_rules! parts {
-    ($($name:ident,)*) => {
-        $(mod $name;)*
+    ($($name:ident $(at most $most:literal)?,)*) => {
+        $(pub mod $name;)*
 
         pub const PARTS: &[Part] = &[
             $(Part {
                 name: stringify!($name),
+                most: [$($most,)? u64::MAX][0],
                 diff: $name::diff,
                 bench: $name::bench,
                 list: $name::list,
@@ -37,5 +40,6 @@ parts! {
     notify,
     frames,
     laws,
+    listing at most 1_000,
     hello,
 }

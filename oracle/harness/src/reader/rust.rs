@@ -28,7 +28,7 @@ pub enum Content {
 pub struct ByRust {
     pub answer: Answer,
     /// Type, flags and ids.
-    head: [u64; 4],
+    pub head: [u64; 4],
     pub content: Content,
 }
 
@@ -38,12 +38,16 @@ impl ByRust {
             Ok((rest, frame)) => Self::accepted(input, answers::accepted(input, rest), frame),
             Err(error) => match answers::refused(input, error) {
                 NOT_CONVERTED => Self::list(input),
-                answer => Self {
-                    answer,
-                    head: [0; 4],
-                    content: Content::Nothing,
-                },
+                answer => Self::refused(answer),
             },
+        }
+    }
+
+    pub fn refused(answer: Answer) -> Self {
+        Self {
+            answer,
+            head: [0; 4],
+            content: Content::Nothing,
         }
     }
 
@@ -69,11 +73,7 @@ impl ByRust {
     /// The list of a whole frame, by the functions that the Rust's reader of frames is made of.
     fn list(input: &[u8]) -> Self {
         let end = 4 + u32::from_be_bytes([input[0], input[1], input[2], input[3]]) as usize;
-        let unlisted = |what| Self {
-            answer: Answer::Unlisted(what, None),
-            head: [0; 4],
-            content: Content::Nothing,
-        };
+        let unlisted = |what| Self::refused(Answer::Unlisted(what, None));
         let Some((head, payload)) = head_by_rust(&input[..end]) else {
             return unlisted("a head that is refused on its own");
         };
@@ -109,7 +109,7 @@ impl ByRust {
 }
 
 /// Type, flags and ids, and the payload.
-fn head_by_rust(frame: &[u8]) -> Option<([u64; 4], &[u8])> {
+pub fn head_by_rust(frame: &[u8]) -> Option<([u64; 4], &[u8])> {
     let kind = FrameType::from_u8(frame[4]).ok()?;
     let flags = u32::from_be_bytes([frame[5], frame[6], frame[7], frame[8]]);
     let flags = FrameFlags::from_u32(flags).ok()?.to_be_bytes();

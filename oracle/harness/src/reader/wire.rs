@@ -56,7 +56,8 @@ pub fn drawn(random: &mut Random) -> Drawn {
     first
 }
 
-fn frame(random: &mut Random) -> Drawn {
+/// A frame of any type, right most of the time.
+pub fn frame(random: &mut Random) -> Drawn {
     let kind = match random.below(16) {
         0..5 => 1,
         5..7 => 2,
@@ -83,7 +84,7 @@ fn frame(random: &mut Random) -> Drawn {
 }
 
 /// Sets the length field to what stands behind it.
-fn fit(bytes: &mut [u8]) {
+pub fn fit(bytes: &mut [u8]) {
     let length = bytes.len().saturating_sub(4) as u32;
     set_length(bytes, length);
 }
@@ -247,7 +248,7 @@ fn number(random: &mut Random, bytes: &mut Vec<u8>) {
 // ---------------------------------------------------------------- damage
 
 /// Changes one thing. Where the length field follows the change, the damage shows behind the head of the frame.
-fn spoil(random: &mut Random, bytes: &mut Vec<u8>) {
+pub fn spoil(random: &mut Random, bytes: &mut Vec<u8>) {
     if bytes.len() < 9 {
         return inputs::append(random, bytes);
     }

@@ -1,0 +1,251 @@
+//! Inputs of the program: frames one behind the other, damaged, cut, with bytes behind them, and near its limits.
+
+use super::lines::{LIMIT, ROOMS, SEEN};
+use crate::{
+    inputs::{self, Random},
+    parts::frames::{framed, hello, upload},
+    reader::wire,
+    records,
+};
+use spop::{frame::FrameType, types::TypedData, varint::encode_varint_into};
+use std::net::{Ipv4Addr, Ipv6Addr};
+
+/// The most frames of an input that is not near the end of what is read, and the most messages and pairs of a frame.
+const FRAMES: u64 = 6;
+const MESSAGES: u64 = 5;
+const PAIRS: u64 = 6;
+
+/// Numbers of eleven bytes, and of ten that are too large.
+const TOO_LARGE: [&[u8]; 2] = [
+    b"\xf0\x80\x80\x80\x80\x80\x80\x80\x80\x80\0",
+    b"\xf0\x80\x80\x80\x80\x80\x80\x80\x80\x0f",
+];
+
+pub fn input(random: &mut Random) -> Vec<u8> {
+    let mut frames = match random.below(32) {
+        0 => Vec::new(),
+        1..5 => long(random),
+        _ => (0..random.within(1, FRAMES))
+            .map(|_| frame(random))
+            .collect(),
+    };
+    if random.below(3) == 0 && !frames.is_empty() {
+        let index = random.index(frames.len());
+        spoil(random, &mut frames[index]);
+    }
+    let mut bytes = frames.concat();
+    match random.below(6) {
+        0 if !bytes.is_empty() => inputs::cut(random, &mut bytes),
+        1 => inputs::append(random, &mut bytes),
+        _ => {}
+    }
+    bytes
+}
+
+// ---------------------------------------------------------------- frames
+
+/// As they come from a proxy, of every kind of value, odd ones, and at the end of a room.
+fn frame(random: &mut Random) -> Vec<u8> {
+    match random.below(16) {
+        0..3 => upload(random.below(1_000)),
+        3 => hello(),
+        4..8 => messages(random),
+        8..10 => list(random),
+        10..12 => full(random),
+        _ => wire::frame(random).bytes,
+    }
+}
+
+fn messages(random: &mut Random) -> Vec<u8> {
+    let mut payload = Vec::new();
+    for _ in 0..random.within(0, MESSAGES) {
+        let count = random.within(0, PAIRS);
+        message(random, count, &mut payload);
+    }
+    notify(random, &payload)
+}
+
+/// Each key has its number in it, so that none but the empty one is met twice.
+fn list(random: &mut Random) -> Vec<u8> {
+    let count = random.within(0, PAIRS);
+    let mut payload = Vec::new();
+    for index in 0..count {
+        add(&key(random, index), &mut payload);
+        value(random, &mut payload);
+    }
+    kv(random, &payload)
+}
+
+/// As many messages or pairs as there is room for, or one or two more; of a list the key that has no room may be met twice.
+fn full(random: &mut Random) -> Vec<u8> {
+    let mut payload = Vec::new();
+    let over = [0, 0, 1, 2][random.index(4)];
+    let pairs = ROOMS.pairs as u64 + over;
+    match random.below(3) {
+        0 => {
+            for _ in 0..ROOMS.messages as u64 + over {
+                let count = random.below(3);
+                message(random, count, &mut payload);
+            }
+            notify(random, &payload)
+        }
+        1 => {
+            let first = random.within(5, 250);
+            message(random, first, &mut payload);
+            message(random, pairs - first, &mut payload);
+            notify(random, &payload)
+        }
+        _ => {
+            let mut keys: Vec<u64> = (0..pairs).collect();
+            if random.below(3) == 0 {
+                keys.truncate(ROOMS.pairs);
+                keys.push(random.below(ROOMS.pairs as u64));
+            }
+            for key in keys {
+                add(format!("k{key}").as_bytes(), &mut payload);
+                value(random, &mut payload);
+            }
+            kv(random, &payload)
+        }
+    }
+}
+
+fn notify(random: &mut Random, payload: &[u8]) -> Vec<u8> {
+    framed(FrameType::Notify, ids(random), payload)
+}
+
+fn kv(random: &mut Random, payload: &[u8]) -> Vec<u8> {
+    let kind = match random.below(2) {
+        0 => FrameType::HaproxyHello,
+        _ => FrameType::HaproxyDisconnect,
+    };
+    framed(kind, ids(random), payload)
+}
+
+fn ids(random: &mut Random) -> [u64; 2] {
+    [inputs::number(random), inputs::number(random)]
+}
+
+/// At most 255 pairs.
+fn message(random: &mut Random, count: u64, bytes: &mut Vec<u8>) {
+    add(&key(random, count), bytes);
+    bytes.push(count as u8);
+    for _ in 0..count {
+        add(&key(random, count), bytes);
+        value(random, bytes);
+    }
+}
+
+fn key(random: &mut Random, number: u64) -> Vec<u8> {
+    match random.below(16) {
+        0 => Vec::new(),
+        1 => [&b"\xff"[..], number.to_string().as_bytes()].concat(),
+        _ => format!("arg{number}").into_bytes(),
+    }
+}
+
+/// A string of any bytes.
+fn add(content: &[u8], bytes: &mut Vec<u8>) {
+    encode_varint_into(content.len() as u64, bytes);
+    bytes.extend_from_slice(content);
+}
+
+/// A value of any kind. A string need not be UTF-8, so the Rust does not write it.
+fn value(random: &mut Random, bytes: &mut Vec<u8>) {
+    let value = match random.below(10) {
+        0 => TypedData::Null,
+        1 => TypedData::Bool(random.below(2) == 0),
+        2 => TypedData::Int32(signed(random) as i32),
+        3 => TypedData::UInt32(inputs::number(random) as u32),
+        4 => TypedData::Int64(signed(random)),
+        5 => TypedData::UInt64(inputs::number(random)),
+        6 => TypedData::IPv4(Ipv4Addr::from(random.next() as u32)),
+        7 => TypedData::IPv6(Ipv6Addr::from(u128::from(random.next()) << 57)),
+        8 => {
+            bytes.push(8);
+            return add(&records::contents(random), bytes);
+        }
+        _ => TypedData::Binary(records::contents(random)),
+    };
+    value.to_bytes(bytes);
+}
+
+fn signed(random: &mut Random) -> i64 {
+    let number = inputs::number(random) as i64;
+    match random.below(2) {
+        0 => number,
+        _ => number.wrapping_neg(),
+    }
+}
+
+// ---------------------------------------------------------------- long inputs
+
+/// A frame that is near the longest, or frames up to the end of what is read and beyond it.
+fn long(random: &mut Random) -> Vec<Vec<u8>> {
+    let mut frames = Vec::new();
+    if random.below(2) == 0 {
+        let length = LIMIT as usize - 1 + [0, 1, 1, 1, 2, 3][random.index(6)];
+        frames.push(padded(random, 4 + length));
+        frames.push(frame(random));
+        return frames;
+    }
+    let (mut left, last) = (SEEN, random.within(5_000, 20_000) as usize);
+    while left > last {
+        frames.push(match random.below(8) {
+            0 => messages(random),
+            _ => upload(left as u64),
+        });
+        left -= frames.last().map_or(0, Vec::len);
+    }
+    let length = match random.below(4) {
+        0..2 => left,
+        2 => left + random.index(3) - 1,
+        _ => left + random.index(5_000),
+    };
+    frames.push(padded(random, length));
+    if random.below(4) == 0 {
+        frames.push(frame(random));
+    }
+    frames
+}
+
+/// A frame of so many bytes, all but a few of which are a name, a key or a value. They are 2,400 or more, so that a
+/// number of three bytes has their count.
+fn padded(random: &mut Random, length: usize) -> Vec<u8> {
+    let kind = random.below(4);
+    let with = |count: usize| {
+        let content = vec![b'z'; count];
+        let (mut text, mut payload) = (Vec::new(), Vec::new());
+        add(&content, &mut text);
+        match kind {
+            0 => payload.extend([&text[..], &[0]].concat()),
+            1 => payload.extend([b"\x01m\x01", &text[..], &[0]].concat()),
+            2 => payload.extend([b"\x01m\x01\x01k\x08", &text[..]].concat()),
+            _ => payload.extend([b"\x01m\x01\x01k\x09", &text[..]].concat()),
+        }
+        framed(FrameType::Notify, [1, 2], &payload)
+    };
+    let more = with(length).len() - length;
+    with(length - more)
+}
+
+// ---------------------------------------------------------------- damage
+
+/// Changes one thing, at times so that a refusal follows which is rare else.
+fn spoil(random: &mut Random, frame: &mut Vec<u8>) {
+    match random.below(10) {
+        0 => {
+            let number = TOO_LARGE[random.index(2)];
+            frame.splice(9..9, number.iter().copied());
+            wire::fit(frame);
+        }
+        1 => {
+            let pair = [0, random.within(10, 15) as u8];
+            let before: &[u8] = if frame[4] == 3 { &[0, 1] } else { &[] };
+            frame.extend([before, &pair].concat());
+            wire::fit(frame);
+        }
+        2 => frame[8] |= 2,
+        _ => wire::spoil(random, frame),
+    }
+}
