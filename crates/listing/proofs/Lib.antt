@@ -1,0 +1,5 @@
+-- Laws about the listing: decimal digits, other texts, lines in pieces, and that no second result meets a promise.
+pub mod Decimal
+pub mod Text
+pub mod Pieces
+pub mod Unique

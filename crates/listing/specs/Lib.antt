@@ -1,0 +1,5 @@
+-- Numbers and bytes as text; the lines of a frame; what each call promises; and what only private contracts cite.
+pub mod Digits
+pub mod Lines
+pub mod Promise
+pub mod Inner
