@@ -3,11 +3,14 @@ use mathlib.Core.Path.{_≡_}
 use mathlib.Core.List.{List}
 use Prim.Native.Nat.{ℕ}
 use Rattle.answer.specs.declared.Written.{Written}
-use Rattle.answer.proofs.Same.{writes-unique}
+use Rattle.answer.proofs.Same.{writes-unique, one-only}
 use Rattle.frame.specs.declared.Message.{Message}
 use Rattle.frame.specs.declared.Pair.{Pair}
 use Rattle.parser.specs.declared.Metadata.{Metadata}
+use Rattle.listing.specs.declared.Place.{Place}
+use Rattle.listing.specs.declared.Step.{Step}
 use Rattle.listing.specs.Promise.{WriteFrameLine, WriteMessageLine, WritePairLine, WriteEndLine}
+use Rattle.listing.specs.Order.{WriteNextLine}
 
 module _ (r q : Written) (old new other : List ℕ) where
   pub write-frame-line-unique : (index bytes : ℕ) (m : Metadata)
@@ -25,3 +28,9 @@ module _ (r q : Written) (old new other : List ℕ) where
   pub write-end-line-unique : (used number at : ℕ)
       → WriteEndLine used number at r old new → WriteEndLine used number at q old other → (r ≡ q) × (new ≡ other)
   write-end-line-unique used number at p s = writes-unique p s
+
+pub write-next-line-unique : (f messages : List ℕ) (count : ℕ) (pairs : List ℕ) (total : ℕ) (place : Place) (r q : Step) (old new other : List ℕ)
+    → WriteNextLine f messages count pairs total place r old new → WriteNextLine f messages count pairs total place q old other
+    → (r ≡ q) × (new ≡ other)
+write-next-line-unique f messages count pairs total place r q old new other p s =
+    (one-only (p .says) (s .says), one-only (p .holds) (s .holds))
