@@ -3,4 +3,5 @@ pub mod Decimal
 pub mod Text
 pub mod Pieces
 pub mod Coming
+pub mod Accepted
 pub mod Unique
