@@ -36,7 +36,7 @@ abbrev pub Each : {A : Type 0} → (A → Type 0) → List A → Type 0
 Each P [] = Unit
 Each P (x ∷ xs) = P x × Each P xs
 
-each-more : {A : Type 0} (P : A → Type 0) (xs : List A) (x : A) → Each P xs → P x → Each P (xs ++ (x ∷ []))
+pub each-more : {A : Type 0} (P : A → Type 0) (xs : List A) (x : A) → Each P xs → P x → Each P (xs ++ (x ∷ []))
 each-more P [] x e h = (h, tt)
 each-more P (y ∷ xs) x e h = (e .0, each-more P xs x (e .1) h)
 

@@ -1,7 +1,10 @@
--- Laws about the listing: decimal digits, other texts, lines in pieces, which line comes next, and that no second result meets a promise.
+-- Laws about the listing: decimal digits and other texts; lines in pieces; which line comes next; what accepted frames are; that the listing
+-- loses nothing; and that no second result meets a promise.
 pub mod Decimal
 pub mod Text
 pub mod Pieces
 pub mod Coming
 pub mod Accepted
+pub mod Texts
+pub mod Lossless
 pub mod Unique
