@@ -1,5 +1,5 @@
 -- Laws about the listing: decimal digits and other texts; lines in pieces; which line comes next; what accepted frames are; that the listing
--- loses nothing; and that no second result meets a promise.
+-- loses nothing; that the steps are a frame's lines; and that no second result meets a promise.
 pub mod Decimal
 pub mod Text
 pub mod Pieces
@@ -7,4 +7,6 @@ pub mod Coming
 pub mod Accepted
 pub mod Texts
 pub mod Lossless
+pub mod Stepped
+pub mod Tables
 pub mod Unique

@@ -23,7 +23,7 @@ use Rattle.parser.specs.declared.Metadata.{Metadata}
 use Rattle.parser.specs.Payload.{Contents}
 use Rattle.parser.specs.Frame.{wholeFrame}
 use Rattle.listing.specs.Digits.{decimal, shown}
-use Rattle.listing.specs.Lines.{mark, piece, others, filled, frameForm, messageForm, pairForm, valueText, messageText, pairText, frameLine, messageLine, pairLine, pairLines, itemLines, frameLines}
+use Rattle.listing.specs.Lines.{mark, piece, others, filled, frameForm, messageForm, pairForm, endForm, valueText, frameLine, messageLine, pairLine, endLine, pairLines, itemLines, frameLines}
 use Rattle.listing.proofs.Accepted.{Each, Whole, Held, whole-held}
 use Rattle.listing.proofs.Texts.{Plain, decimal-apart, shown-apart, values-apart, decimal-plain, shown-plain, value-plain, texts-apart}
 
@@ -333,3 +333,27 @@ module _ (rooms others : Rooms) (f g : List ℕ) (m n : Metadata) (c d : Content
   -- Law: so two accepted frames with the same lines are.
   pub listing-apart : (index other : ℕ) → frameLines index f m c ≡ frameLines other g n d → SameFrame index other f g m n c d
   listing-apart index other e = listing-apart-then index other [] [] tt tt (ap (λ (l : List ℕ). l ++ []) e) .0
+
+-- ---- what follows one: another frame's line, or the last line
+
+pub frame-over : (index : ℕ) (m : Metadata) (bytes : ℕ) (t : List ℕ) → Over (frameLine index m bytes ++ t)
+unfolding frameLine filled
+frame-over index m bytes t = (λ z. omega arith, λ z. omega arith)
+
+pub end-over : (used number at : ℕ) → Over (endLine used number at)
+unfolding endLine filled
+end-over used number at = (λ z. omega arith, λ z. omega arith)
+
+-- Law: two last lines that are the same say the same.
+pub end-apart : (used number at taken other place : ℕ) → endLine used number at ≡ endLine taken other place → (used ≡ taken) × (number ≡ other) × (at ≡ place)
+unfolding endLine
+end-apart used number at taken other place e =
+    let o = filled-apart endForm refl _ _ [] [] refl refl (texts used number at) (texts taken other place) (ap (λ (l : List ℕ). l ++ []) e) in
+    let t1 = tail-eq-of-cons-eq (o .0) in (
+      decimal-apart used taken (head-eq-of-cons-eq (o .0)),
+      decimal-apart number other (head-eq-of-cons-eq t1),
+      decimal-apart at place (head-eq-of-cons-eq (tail-eq-of-cons-eq t1)),
+    )
+  where
+    texts : (a b c : ℕ) → Each Plain (decimal a ∷ decimal b ∷ decimal c ∷ [])
+    texts a b c = (decimal-plain a, (decimal-plain b, (decimal-plain c, tt)))
