@@ -46,11 +46,12 @@ each-map P Q f go (x ∷ xs) e = (go x (e .0), each-map P Q f go xs (e .1))
 
 -- ---- records that have a line
 
--- A pair whose numbers lie in their fields, and whose key and value lie in so many bytes; and a message whose name does.
+-- A pair whose numbers lie in their fields, and whose key and value lie in so many bytes, apart; and a message whose name does.
 pub record Whole (n : ℕ) (p : Pair) : Type 0 where
   pub fields : writableRecord (recordOf (p .value)) ≡ true
   pub key : p .start + p .len ≤ n
   pub range : points (shape (p .value .kind)) ≡ true → p .value .a + p .value .b ≤ n
+  pub both : points (shape (p .value .kind)) ≡ true → p .len + p .value .b ≤ n
 
 abbrev pub Named : ℕ → Message → Type 0
 Named n m = m .start + m .len ≤ n
@@ -74,6 +75,7 @@ whole-moved k n p h =
       fields = fields-moved (shape (p .value .kind)) k (p .value .a) (p .value .b) (h .fields);
       key = omega (arith, h .key);
       range = λ t. rw t (omega (arith, h .range t));
+      both = λ t. omega (arith, h .both t);
     }
 
 named-moved : (k n : ℕ) (m : Message) → Named n m → Named (k + n) (movedMessage k m)
@@ -97,6 +99,7 @@ pair-found s start len u key kind a b n d =
       fields = fields-moved (shape kind) u a b (in-fields (shape kind) a b (v .3));
       key = omega (arith, k);
       range = λ t. rw t (let o = v .4 t in omega (arith, k, v .1, length-drop u s));
+      both = λ t. let o = v .4 t in omega (arith, k, v .1, length-drop u s);
     }
 
 pair-read : (s : List ℕ) (p : Pair) (used : ℕ) → pair s ≡ done p used → Whole (length s) p

@@ -21,7 +21,8 @@ use Rattle.frame.specs.Records.{messageAt}
 use Rattle.listing.specs.declared.Place.{Place}
 use Rattle.listing.specs.declared.Step.{Step}
 use Rattle.listing.specs.declared.Step.the-variants as s
-use Rattle.listing.specs.Order.{pairNext, behindPair, behindMessage, pairAnswer, messageAnswer, Coming, line, none, coming, stepOf, comingSaid, Comes}
+use Rattle.listing.specs.Order.{pairNext, behindPair, behindMessage, pairAnswer, messageAnswer, Coming, line, none, coming}
+use Rattle.listing.specs.Promise.{stepOf, comingSaid, Comes}
 use Rattle.listing.specs.Inner.{stepFrom}
 use Rattle.listing.proofs.Pieces.{after-refused}
 

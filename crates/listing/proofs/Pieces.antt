@@ -18,7 +18,7 @@ use Rattle.frame.specs.declared.Message.{Message}
 use Rattle.frame.specs.declared.Pair.{Pair}
 use Rattle.listing.specs.Digits.{dash, decimal, signed, shown}
 use Rattle.listing.specs.Lines.{filled, messageForm, pairForm, hasSign, dataText, valueText}
-use Rattle.listing.specs.Promise.{messageChecks, pairChecks}
+use Rattle.listing.specs.Check.{messageChecks, pairChecks}
 
 -- ---- a value's text
 

@@ -9,8 +9,7 @@ use Rattle.frame.specs.declared.Pair.{Pair}
 use Rattle.parser.specs.declared.Metadata.{Metadata}
 use Rattle.listing.specs.declared.Place.{Place}
 use Rattle.listing.specs.declared.Step.{Step}
-use Rattle.listing.specs.Promise.{WriteFrameLine, WriteMessageLine, WritePairLine, WriteEndLine}
-use Rattle.listing.specs.Order.{WriteNextLine}
+use Rattle.listing.specs.Promise.{WriteFrameLine, WriteMessageLine, WritePairLine, WriteEndLine, WriteNextLine}
 
 module _ (r q : Written) (old new other : List ℕ) where
   pub write-frame-line-unique : (index bytes : ℕ) (m : Metadata)

@@ -1,6 +1,8 @@
--- Numbers and bytes as text; the lines of a frame, and which comes next; what each call promises; and what only private contracts cite.
+-- Numbers and bytes as text; the lines of a frame, what is refused, and which line comes next; what each call promises; and what only private
+-- contracts cite.
 pub mod Digits
 pub mod Lines
-pub mod Promise
+pub mod Check
 pub mod Order
+pub mod Promise
 pub mod Inner

@@ -1,19 +1,15 @@
 -- A frame's lines one by one: which comes next, where its records stand in two tables.
-use mathlib.Core.Path.{_≡_}
 use mathlib.Core.Bool.{Bool, cond, _&&_, _||_}
 use mathlib.Core.List.{List, [], _∷_}
 use Prim.Native.Nat.{ℕ, _+_, _-_}
 use lib.Dec.{ltb, leb}
-use lib.ListN.{length}
-use Rattle.answer.specs.Answer.{Answer, done, refused, written, within, leaves}
+use Rattle.answer.specs.Answer.{Answer, written}
 use Rattle.answer.specs.Order.{after}
 use Rattle.answer.specs.Table.{holds}
 use Rattle.frame.specs.Records.{messageWidth, pairWidth, messageAt, pairAt}
 use Rattle.listing.specs.declared.Place.{Place}
-use Rattle.listing.specs.declared.Step.{Step}
-use Rattle.listing.specs.declared.Step.the-variants as s
 use Rattle.listing.specs.Lines.{messageLine, pairLine}
-use Rattle.listing.specs.Promise.{messageChecks, pairChecks}
+use Rattle.listing.specs.Check.{messageChecks, pairChecks}
 
 -- ---- which
 
@@ -50,27 +46,3 @@ coming f messages count pairs total p =
     cond (pairNext count total p) (line (pairAnswer f pairs (p .pairs)) (behindPair p))
     (cond (ltb (p .messages) count) (line (messageAnswer f messages (p .messages)) (behindMessage p (messageAt messages (p .messages) .count)))
     none)
-
--- ---- the promise
-
--- what is said of it, and what is left of the lent bytes
-abbrev pub stepOf : Answer (List ℕ) → Place → Step
-stepOf (done bytes n) p = s.Line n p
-stepOf (refused number place) p = s.Refused (record { number = number; place = place })
-
-abbrev pub comingSaid : ℕ → Coming → Step
-comingSaid room (line a p) = stepOf (within room a) p
-comingSaid room none = s.End
-
-abbrev pub comingLeaves : Coming → List ℕ → List ℕ
-comingLeaves (line a p) old = leaves (within (length old) a) old
-comingLeaves none old = old
-
--- It says so, and the bytes lent to it, old before, are new afterwards.
-pub record Comes (c : Coming) (r : Step) (old new : List ℕ) : Type 0 where
-  pub says : r ≡ comingSaid (length old) c
-  pub holds : new ≡ comingLeaves c old
-
--- `write_next_line` promises that.
-abbrev pub WriteNextLine : List ℕ → List ℕ → ℕ → List ℕ → ℕ → Place → Step → List ℕ → List ℕ → Type 0
-WriteNextLine f messages count pairs total p r old new = Comes (coming f messages count pairs total p) r old new

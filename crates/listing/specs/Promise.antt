@@ -1,28 +1,41 @@
--- What each call promises.
-use mathlib.Core.List.{List, [], _∷_}
+-- What the calls' answers mean, and what each call promises.
+use mathlib.Core.Path.{_≡_}
+use mathlib.Core.List.{List}
 use Prim.Native.Nat.{ℕ}
 use lib.ListN.{length}
 use Rattle.answer.specs.declared.Written.{Written}
-use Rattle.answer.specs.Answer.{written, within}
+use Rattle.answer.specs.Answer.{Answer, done, refused, written, within, leaves}
 use Rattle.answer.specs.Writes.{Writes}
-use Rattle.answer.specs.Order.{Check, after}
-use Rattle.types.specs.Form.{inside, writableRecord, ranged}
-use Rattle.types.specs.Promise.{recordOf}
+use Rattle.answer.specs.Order.{after}
 use Rattle.frame.specs.declared.Pair.{Pair}
 use Rattle.frame.specs.declared.Message.{Message}
 use Rattle.parser.specs.declared.Metadata.{Metadata}
+use Rattle.listing.specs.declared.Place.{Place}
+use Rattle.listing.specs.declared.Step.{Step}
+use Rattle.listing.specs.declared.Step.the-variants as s
 use Rattle.listing.specs.Lines.{frameLine, messageLine, pairLine, endLine}
+use Rattle.listing.specs.Check.{messageChecks, pairChecks}
+use Rattle.listing.specs.Order.{Coming, line, none, coming}
 
--- What a record is refused with, in the order of a writer: numbers outside their fields, a name or key that lies outside the frame's bytes,
--- and a value that does.
-abbrev pub messageChecks : List ℕ → Message → List Check
-messageChecks f m = (16, inside f (m .start) (m .len)) ∷ []
+-- ---- what the next line says
 
-abbrev pub pairChecks : List ℕ → Pair → List Check
-pairChecks f p =
-    (14, writableRecord (recordOf (p .value)))
-    ∷ (16, inside f (p .start) (p .len))
-    ∷ (16, ranged f (recordOf (p .value))) ∷ []
+-- what is said of a line that comes, and what is left of the lent bytes
+abbrev pub stepOf : Answer (List ℕ) → Place → Step
+stepOf (done bytes n) p = s.Line n p
+stepOf (refused number place) p = s.Refused (record { number = number; place = place })
+
+abbrev pub comingSaid : ℕ → Coming → Step
+comingSaid room (line a p) = stepOf (within room a) p
+comingSaid room none = s.End
+
+abbrev pub comingLeaves : Coming → List ℕ → List ℕ
+comingLeaves (line a p) old = leaves (within (length old) a) old
+comingLeaves none old = old
+
+-- It says so, and the bytes lent to it, old before, are new afterwards.
+pub record Comes (c : Coming) (r : Step) (old new : List ℕ) : Type 0 where
+  pub says : r ≡ comingSaid (length old) c
+  pub holds : new ≡ comingLeaves c old
 
 -- ---- the promises: a line at the front of old, which is new afterwards
 
@@ -39,3 +52,7 @@ WritePairLine index f p r old new =
 
 abbrev pub WriteEndLine : ℕ → ℕ → ℕ → Written → List ℕ → List ℕ → Type 0
 WriteEndLine used number at r old new = Writes (within (length old) (written (endLine used number at))) r old new
+
+-- what comes at a place
+abbrev pub WriteNextLine : List ℕ → List ℕ → ℕ → List ℕ → ℕ → Place → Step → List ℕ → List ℕ → Type 0
+WriteNextLine f messages count pairs total p r old new = Comes (coming f messages count pairs total p) r old new

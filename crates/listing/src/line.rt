@@ -28,7 +28,8 @@ ghost use Rattle.types.specs.Inner.{Puts};
 ghost use Rattle.types.specs.Form.{inside};
 ghost use Rattle.types.specs.Promise.{recordOf};
 ghost use Rattle.listing.specs.Lines.{valueText, messageText, pairText};
-ghost use Rattle.listing.specs.Promise.{pairChecks, WriteFrameLine, WriteMessageLine, WritePairLine, WriteEndLine};
+ghost use Rattle.listing.specs.Check.{pairChecks};
+ghost use Rattle.listing.specs.Promise.{WriteFrameLine, WriteMessageLine, WritePairLine, WriteEndLine};
 ghost use Rattle.listing.specs.Inner.{Listed};
 
 // Writes the line of a frame: its index, type, stream and id, and how many bytes it takes.

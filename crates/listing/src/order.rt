@@ -15,7 +15,8 @@ ghost use mathlib.Core.Path.{_≡_};
 ghost use Prim.Native.Nat.{_+_, _-_, _*_, _≤_};
 ghost use lib.ListN.{length};
 ghost use Rattle.frame.specs.Records.{messageWidth, pairWidth, messageAt, pairAt};
-ghost use Rattle.listing.specs.Order.{pairNext, behindPair, behindMessage, pairAnswer, messageAnswer, line, Comes, WriteNextLine};
+ghost use Rattle.listing.specs.Order.{pairNext, behindPair, behindMessage, pairAnswer, messageAnswer, line};
+ghost use Rattle.listing.specs.Promise.{Comes, WriteNextLine};
 ghost use Rattle.listing.specs.Inner.{stepFrom};
 
 // Writes the line that comes at a place, of a frame with `count` messages and `total` pairs in its tables. The place of the first is all 0.

@@ -24,8 +24,8 @@ const MESSAGES: usize = 256;
 
 const PAIRS: usize = 1_280;
 
-// Bytes for a line. The longest has two digits for each byte of a frame, and fewer than 256 others.
-const LINE: usize = 131_328;
+// Bytes for a line. The longest has two digits for each of a frame's bytes, and 128 others at most.
+const LINE: usize = 131_200;
 
 // What became of the bytes that are left: a frame that takes so many, or why there is none, or nobody to write to.
 enum Listed {
@@ -138,6 +138,7 @@ fn list_records(
             Step::End => {
                 return true;
             },
+            // No line of a frame that was accepted is refused where LINE bytes are lent: the library's law `accepted-room`.
             Step::Refused(_) => {
                 return true;
             },

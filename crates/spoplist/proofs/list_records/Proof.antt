@@ -6,7 +6,8 @@ use mathlib.Core.Path.{_≡_, sym, ap, _∙_}
 use Prim.Native.Nat.{_+_, _-_, _≤_}
 use native.Mathlib.Omega.{arith}
 use lib.ListN.{length}
-use Rattle.listing.specs.Order.{coming, comingSaid}
+use Rattle.listing.specs.Order.{coming}
+use Rattle.listing.specs.Promise.{comingSaid}
 use Rattle.listing.proofs.Coming.{line-fits, line-less}
 use Rattle.spoplist.proofs.list_records.Statement.{statement}
 use Rattle.spoplist.proofs.list_records.Tie as tie

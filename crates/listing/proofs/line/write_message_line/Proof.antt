@@ -11,7 +11,7 @@ use Rattle.answer.proofs.Output.{writes-refusal}
 use Rattle.types.specs.Form.{inside}
 use Rattle.types.proofs.Writing.{part-lent}
 use Rattle.listing.specs.Lines.{messageLine}
-use Rattle.listing.specs.Promise.{messageChecks}
+use Rattle.listing.specs.Check.{messageChecks}
 use Rattle.listing.proofs.Pieces.{after-refused, after-none, message-outside, message-inside}
 use borrow.Author.Needs.{needs}
 use Rattle.listing.proofs.line.write_message_line.Statement.{statement}

@@ -11,7 +11,7 @@ use Rattle.answer.specs.Order.{first}
 use Rattle.answer.proofs.Output.{writes-refusal}
 use Rattle.types.proofs.Writing.{part-lent}
 use Rattle.listing.specs.Lines.{pairLine}
-use Rattle.listing.specs.Promise.{pairChecks}
+use Rattle.listing.specs.Check.{pairChecks}
 use Rattle.listing.proofs.Pieces.{after-refused, after-none, pair-passed}
 use borrow.Author.Needs.{needs}
 use Rattle.listing.proofs.line.write_pair_line.Statement.{statement}

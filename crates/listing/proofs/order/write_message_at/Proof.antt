@@ -8,7 +8,7 @@ use borrow.Author.Tests.{le-leb, lt-leb}
 use Rattle.answer.specs.Answer.{written}
 use Rattle.frame.specs.Records.{messageAt}
 use Rattle.listing.specs.Lines.{messageLine}
-use Rattle.listing.specs.Promise.{messageChecks}
+use Rattle.listing.specs.Check.{messageChecks}
 use Rattle.listing.specs.Order.{behindMessage}
 use Rattle.listing.proofs.Coming.{comes-line, comes-refused, after-holds, after-fails}
 use borrow.Author.Needs.{needs}

@@ -8,7 +8,7 @@ use borrow.Author.Tests.{le-leb, lt-leb}
 use Rattle.answer.specs.Answer.{written}
 use Rattle.frame.specs.Records.{pairAt}
 use Rattle.listing.specs.Lines.{pairLine}
-use Rattle.listing.specs.Promise.{pairChecks}
+use Rattle.listing.specs.Check.{pairChecks}
 use Rattle.listing.specs.Order.{behindPair}
 use Rattle.listing.proofs.Coming.{comes-line, comes-refused, after-holds, after-fails}
 use borrow.Author.Needs.{needs}

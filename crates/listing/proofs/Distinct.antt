@@ -135,7 +135,7 @@ module _ (k a b c d : ℕ) (f g : List ℕ) where
   same-text : (sh : Shape) → shape k ≡ sh → valueText f (value k a b) ≡ valueText g (value k c d) → dataText sh k a (part f a b) ≡ dataText sh k c (part g c d)
   same-text sh is e = sym (text-at f k a b sh is) ∙ e ∙ text-at g k c d sh is
 
-below : (w : Width) (a : ℕ) → InWidth w a → a < 2 ^ 64
+pub below : (w : Width) (a : ℕ) → InWidth w a → a < 2 ^ 64
 below signed32 a h = rw h (signed-below a)
 below unsigned32 a h = omega arith
 below whole64 a h = h
