@@ -23,8 +23,7 @@ use Rattle.parser.specs.declared.Rooms.{Rooms}
 use Rattle.parser.specs.declared.Metadata.{Metadata}
 use Rattle.parser.specs.Pair.{pairOf, movedPair, pair, pairFrom}
 use Rattle.parser.specs.Payload.{Contents, withPair, withMessage, movedMessage, movedContents, stringFrom, oneItem, ended, toEnd, payload}
-use Rattle.parser.specs.Frame.{metadata, wholeFrame, Reading, wait, answered, frameRead}
-use Rattle.parser.specs.Promise.{Counts, frameTells}
+use Rattle.parser.specs.Frame.{metadata, wholeFrame, wait, answered, frameRead}
 use Rattle.parser.proofs.Pairs.{pair-key, pair-value, pair-whole, done-same}
 use Rattle.parser.proofs.Runs.{from-next}
 use Rattle.parser.proofs.Walk.{pair-says, string-next, message-says, item-pair, item-message, item-next, ended-done, ended-short}
@@ -220,17 +219,3 @@ frame-used limit rooms s m c used e =
     cut h q w =
         let n : used ≡ 4 + fourNumber s = whole-held rooms (take (4 + fourNumber s) s) m c used q .1 ∙ length-take-le (4 + fourNumber s) s w in
         (omega arith, omega arith, rw n (q ∙ ap (done (m, c)) n))
-
--- the same of what the reader said
-pub said-used : (limit : ℕ) (rooms : Rooms) (s : List ℕ) (m : Metadata) (k : Counts) (used : ℕ)
-    → _≡_ {A = Reading (Metadata × Counts)} (answered (done (m, k) used)) (frameTells (frameRead limit rooms s)) → (4 ≤ used) × (used ≤ length s)
-said-used limit rooms s m k used e = by-answer (frameRead limit rooms s) refl e
-  where
-    by-answer : (x : Reading (Metadata × Contents)) → frameRead limit rooms s ≡ x
-        → _≡_ {A = Reading (Metadata × Counts)} (answered (done (m, k) used)) (frameTells x) → (4 ≤ used) × (used ≤ length s)
-    by-answer (wait n) is q = let z : _≡_ {A = ℕ} 0 1 = cc in absurd (omega arith)
-    by-answer (answered (refused n place)) is q = let z : _≡_ {A = ℕ} 0 1 = cc in absurd (omega arith)
-    by-answer (answered (done (n, c) u)) is q =
-        let same : used ≡ u = cc in
-        let o = frame-used limit rooms s n c u is in
-        (omega (arith, o .0), omega (arith, o .1))

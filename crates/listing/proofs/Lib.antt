@@ -11,4 +11,5 @@ pub mod Lossless
 pub mod Stepped
 pub mod Tables
 pub mod Room
+pub mod Stopping
 pub mod Unique

@@ -14,7 +14,8 @@ use parser::Metadata;
 ghost use Prim.Native.Nat.{_≤_};
 ghost use lib.ListN.{length};
 ghost use Rattle.answer.specs.Writes.{counted};
-ghost use Rattle.spoplist.specs.Inner.{Takes};
+ghost use Rattle.parser.specs.Promise.{roomsOf};
+ghost use Rattle.spoplist.specs.Inner.{Takes, Ends};
 
 // The longest frame that is read, its length bytes aside.
 const LIMIT: u32 = 65_532;
@@ -34,22 +35,35 @@ enum Listed {
     Closed,
 }
 
+// How a listing ends: behind so many bytes of accepted frames, and why; or with nobody to write to.
+enum Ended {
+    Behind { used: usize, why: Refusal },
+    Closed,
+}
+
 fn main() {
     let mut input = io::large_buffer();
     let n = io::read_full(STDIN_FILENO, &mut input);
     list(&input[0..n]);
 }
 
-// Lists the frames of the input. Two tables for a frame's records and the bytes of a line serve for all.
+// Lists the frames of the input, and writes the last line. Two tables for a frame's records and the bytes of a line serve for all.
 fn list(input: &[u8]) {
     let mut messages = [0u64; MESSAGES];
     let mut pairs = [0u64; PAIRS];
     let mut out = [0u8; LINE];
-    list_all(input, &mut messages, &mut pairs, &mut out);
+    match list_all(input, &mut messages, &mut pairs, &mut out) {
+        Ended::Behind { used, why } => {
+            end(used, why, &mut out);
+        },
+        Ended::Closed => {},
+    }
 }
 
-// Lists them one behind the other, and ends with the last line.
-fn list_all(input: &[u8], messages: &mut [u64], pairs: &mut [u64], out: &mut [u8]) {
+// Lists them one behind the other.
+fn list_all(input: &[u8], messages: &mut [u64], pairs: &mut [u64], out: &mut [u8]) -> Ended
+    ensures { λ r. ⌜ Ends (now (input .entry)) (roomsOf (now (messages .entry)) (now (pairs .entry))) r ⌝ }
+{
     let mut at = 0;
     let mut index: u64 = 0;
     while at < input.len() {
@@ -58,23 +72,21 @@ fn list_all(input: &[u8], messages: &mut [u64], pairs: &mut [u64], out: &mut [u8
                 at += used;
                 index += 1;
             },
-            Listed::Stop(r) => {
-                end(at, r, out);
-                return;
+            Listed::Stop(why) => {
+                return Ended::Behind { used: at, why };
             },
             Listed::Closed => {
-                return;
+                return Ended::Closed;
             },
         }
     }
-    end(
-        at,
-        Refusal {
+    Ended::Behind {
+        used: at,
+        why: Refusal {
             number: 0,
             place: 0,
         },
-        out,
-    );
+    }
 }
 
 // Reads the frame at the front of the bytes that are left, and lists it.
@@ -85,7 +97,7 @@ fn list_next(
     pairs: &mut [u64],
     out: &mut [u8],
 ) -> Listed
-    ensures { λ r. ⌜ Takes (now (rest .entry)) r ⌝ }
+    ensures { λ r. ⌜ Takes (now (rest .entry)) (roomsOf (now (messages .entry)) (now (pairs .entry))) r ⌝ }
 {
     match parser::read_frame(rest, LIMIT, messages, pairs) {
         FrameRead::Done {

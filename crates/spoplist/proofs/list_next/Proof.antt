@@ -1,23 +1,25 @@
--- `spoplist::list_next` meets its contract: an accepted frame takes bytes of those that it was read from.
+-- `spoplist::list_next` meets its contract: what it answers is what the frame was read as.
 -- Assumes nothing.
 use mathlib.Core.Path.{_≡_, sym, ap, _∙_}
-use Prim.Native.Nat.{_≤_}
 use native.Mathlib.Omega.{arith}
 use lib.ListN.{length}
 use Rattle.answer.specs.Answer.{written}
 use Rattle.parser.specs.Promise.{frameSaid, roomsOf}
 use Rattle.listing.specs.Lines.{frameLine}
 use Rattle.listing.proofs.Coming.{told-fits}
-use Rattle.listing.proofs.Accepted.{said-used}
+use Rattle.listing.proofs.Stopping.{Taken, said-taken, said-wait, said-refused}
+use Rattle.spoplist.specs.Inner.{limit}
 use borrow.Author.Needs.{needs}
 use Rattle.spoplist.proofs.list_next.Statement.{statement}
 use Rattle.spoplist.proofs.list_next.Tie as tie
 
-takes : (c : tie.After-metadata) → (4 ≤ c .metadata .given .0 .1 .1 .1 .0) × (c .metadata .given .0 .1 .1 .1 .0 ≤ length (c .before .before .before .before .before .before .before .before .before .before .before .before .before .args .rest .now))
-takes c =
+taken : (c : tie.After-metadata)
+    → let a = c .before .before .before .before .before .before .before .before .before .before .before .before .before .args in
+    Taken limit (roomsOf (a .messages .now) (a .pairs .now)) (a .rest .now) (c .metadata .given .0 .1 .1 .1 .0)
+taken c =
     let a = c .before .before .before .before .before .before .before .before .before .before .before .before .before .args in
     let g = c .metadata .given in
-    said-used 65532 (roomsOf (a .messages .now) (a .pairs .now)) (a .rest .now) (g .0 .0) (g .0 .1 .0, g .0 .1 .1 .0) (g .0 .1 .1 .1 .0)
+    said-taken limit (roomsOf (a .messages .now) (a .pairs .now)) (a .rest .now) (g .0 .0) (g .0 .1 .0, g .0 .1 .1 .0) (g .0 .1 .1 .1 .0)
     (sym (ap frameSaid (g .1)) ∙ c .before .before .before .before .before .before .read-frame .ensures .says)
 
 read-frame-requires : tie.Need-read-frame-requires
@@ -54,7 +56,7 @@ part-list-records-start : tie.Need-part-list-records-start
 part-list-records-start c = search needs
 
 part-list-records-end : tie.Need-part-list-records-end
-part-list-records-end c = takes (c .before .before .before .before .before .before .before .before) .1
+part-list-records-end c = taken (c .before .before .before .before .before .before .before .before) .most
 
 list-records-requires : tie.Need-list-records-requires
 list-records-requires c κs = search needs
@@ -87,7 +89,7 @@ same-length-9 : tie.Need-same-length-9
 same-length-9 c = search needs
 
 returns-3 : tie.Need-returns-3
-returns-3 c = let t = takes (c .before .before .before .before .before .before .before .before .before .before .before .before .before .before .before .before) in (omega (arith, t .0), t .1)
+returns-3 c = let t = taken (c .before .before .before .before .before .before .before .before .before .before .before .before .before .before .before .before) in record { frame = t .frame; is = t .is; some = t .some; most = t .most }
 
 same-length-10 : tie.Need-same-length-10
 same-length-10 c = search needs
@@ -96,7 +98,8 @@ same-length-11 : tie.Need-same-length-11
 same-length-11 c = search needs
 
 returns-4 : tie.Need-returns-4
-returns-4 c = search needs
+returns-4 c = let a = c .before .before .before .before .before .before .before .before .before .before .before .before .before .before .args in
+    said-wait limit (roomsOf (a .messages .now) (a .pairs .now)) (a .rest .now) (c .before .missing .given .0 .0) (sym (ap frameSaid (c .before .missing .given .1)) ∙ c .before .before .before .before .before .before .before .read-frame .ensures .says)
 
 same-length-12 : tie.Need-same-length-12
 same-length-12 c = search needs
@@ -105,7 +108,9 @@ same-length-13 : tie.Need-same-length-13
 same-length-13 c = search needs
 
 returns-5 : tie.Need-returns-5
-returns-5 c = search needs
+returns-5 c = let a = c .before .before .before .before .before .before .before .before .before .before .before .before .before .before .args in
+    let g = c .before .r .given in
+    said-refused limit (roomsOf (a .messages .now) (a .pairs .now)) (a .rest .now) (g .0 .0 .number) (g .0 .0 .place) (sym (ap frameSaid (g .1)) ∙ c .before .before .before .before .before .before .before .read-frame .ensures .says)
 
 pub list-next-spec : {M : Type 1} → statement M
 list-next-spec =
