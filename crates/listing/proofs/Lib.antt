@@ -1,6 +1,6 @@
--- Laws about the listing: decimal digits and other texts; lines in pieces; which line comes next; what accepted frames are; that the listing
--- loses nothing; that the steps are a frame's lines; how long
--- lines are; and that no second result meets a promise.
+-- Laws about the listing: decimal digits and other texts; lines in pieces; which line comes next; what accepted frames are; that the lines of
+-- a frame lose nothing; that the steps are a frame's lines; how long lines are; where a listing stops; that a listing loses nothing; the
+-- worked example; and that no second result meets a promise.
 pub mod Decimal
 pub mod Text
 pub mod Pieces
@@ -12,4 +12,6 @@ pub mod Stepped
 pub mod Tables
 pub mod Room
 pub mod Stopping
+pub mod Inputs
+pub mod Example
 pub mod Unique
