@@ -23,7 +23,8 @@ use Rattle.parser.specs.declared.Metadata.{Metadata}
 use Rattle.parser.specs.Payload.{Contents}
 use Rattle.parser.specs.Frame.{wholeFrame}
 use Rattle.listing.specs.Digits.{decimal, shown}
-use Rattle.listing.specs.Lines.{mark, piece, others, filled, frameForm, messageForm, pairForm, endForm, valueText, frameLine, messageLine, pairLine, endLine, pairLines, itemLines, frameLines}
+use Rattle.listing.specs.Lines.{mark, piece, others, filled, frameForm, messageForm, pairForm, endForm, valueText, frameLine, messageLine, pairLine, endLine}
+use Rattle.listing.proofs.Frames.{pairLines, itemLines, frameLines}
 use Rattle.listing.proofs.Accepted.{Each, Whole, Held, whole-held}
 use Rattle.listing.proofs.Distinct.{Plain, decimal-apart, shown-apart, values-apart, decimal-plain, shown-plain, value-plain, texts-apart}
 

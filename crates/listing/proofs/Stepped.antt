@@ -20,9 +20,10 @@ use Rattle.frame.specs.declared.Pair.{Pair}
 use Rattle.frame.specs.declared.Message.{Message}
 use Rattle.frame.specs.Records.{messageWidth, pairWidth, messageAt, pairAt, messageNumbers, pairNumbers}
 use Rattle.listing.specs.declared.Place.{Place}
-use Rattle.listing.specs.Lines.{messageLine, pairLine, pairLines, itemLines}
+use Rattle.listing.specs.Lines.{messageLine, pairLine}
 use Rattle.listing.specs.Check.{messageChecks, pairChecks}
 use Rattle.listing.specs.Order.{pairNext, behindPair, behindMessage, pairAnswer, messageAnswer, Coming, line, none, coming}
+use Rattle.listing.proofs.Frames.{pairLines, itemLines}
 use Rattle.listing.proofs.Pieces.{after-none}
 use Rattle.listing.proofs.Coming.{after-holds, coming-pair, coming-message, coming-none}
 

@@ -24,9 +24,10 @@ use Rattle.parser.specs.Payload.{Contents}
 use Rattle.parser.specs.Frame.{answered, wholeFrame, frameRead}
 use Rattle.parser.specs.Promise.{roomsOf, contentsRead, Fills}
 use Rattle.parser.proofs.Filling.{joined-width}
-use Rattle.listing.specs.Lines.{frameLine, messageLine, pairLine, itemLines, frameLines}
+use Rattle.listing.specs.Lines.{frameLine, messageLine, pairLine}
 use Rattle.listing.specs.Check.{messageChecks, pairChecks}
 use Rattle.listing.specs.Order.{messageAnswer, pairAnswer}
+use Rattle.listing.proofs.Frames.{itemLines, frameLines}
 use Rattle.listing.proofs.Pieces.{after-none, message-inside, pair-rest}
 use Rattle.listing.proofs.Coming.{after-holds}
 use Rattle.listing.proofs.Accepted.{Each, Named, Whole, whole-held, frame-used}

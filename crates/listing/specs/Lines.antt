@@ -1,4 +1,4 @@
--- The lines of a frame that was accepted, and the last line: docs/RULES.md, "The listing".
+-- The lines of a listing: docs/RULES.md, "The listing".
 --
 --     frame 0 type 3 stream 1 id 2 bytes 29
 --     message 0 name 64656c6179 args 2
@@ -7,9 +7,9 @@
 --     end 29 0 0
 use mathlib.Core.Bool.{Bool, cond, _||_}
 use mathlib.Core.List.{List, [], _∷_, _++_}
-use Prim.Native.Nat.{ℕ, suc, _+_}
+use Prim.Native.Nat.{ℕ}
 use lib.Dec.{eqb}
-use lib.ListN.{length, take, drop, getD}
+use lib.ListN.{drop, getD}
 use Rattle.types.specs.declared.Value.{Value}
 use Rattle.types.specs.Value.{Shape, nothing, flag, integer, address, text, reserved, shape, Record, value}
 use Rattle.types.specs.Form.{part}
@@ -18,7 +18,6 @@ use Rattle.frame.specs.declared.Pair.{Pair}
 use Rattle.frame.specs.declared.Message.{Message}
 use Rattle.frame.specs.Records.{keyOf}
 use Rattle.parser.specs.declared.Metadata.{Metadata}
-use Rattle.parser.specs.Payload.{Contents}
 use Rattle.listing.specs.Digits.{dash, decimal, signed, shown}
 
 -- ---- a line
@@ -97,21 +96,3 @@ pairLine index f p = pairText index (keyOf f p) f (p .value)
 -- bytes used by accepted frames, the answer that stopped it, and the missing count or the place
 unfoldable pub endLine : ℕ → ℕ → ℕ → List ℕ
 endLine used number at = filled endForm (decimal used ∷ decimal number ∷ decimal at ∷ [])
-
--- ---- a frame
-
--- the lines of some pairs, of which the first is pair k
-unfoldable pub pairLines : List ℕ → ℕ → List Pair → List ℕ
-pairLines f k [] = []
-pairLines f k (p ∷ ps) = pairLine k f p ++ pairLines f (suc k) ps
-
--- From message i and pair k on: each message, and behind it as many pairs as it has arguments. Pairs that are no message's are a KV list's.
-unfoldable pub itemLines : List ℕ → ℕ → ℕ → List Message → List Pair → List ℕ
-itemLines f i k [] ps = pairLines f k ps
-itemLines f i k (m ∷ ms) ps =
-    messageLine i f m
-    ++ (pairLines f k (take (m .count) ps) ++ itemLines f (suc i) (k + m .count) ms (drop (m .count) ps))
-
--- All lines of a frame: its own, and then those of what it holds.
-unfoldable pub frameLines : ℕ → List ℕ → Metadata → Contents → List ℕ
-frameLines index f m c = frameLine index m (length f) ++ itemLines f 0 0 (c .messages) (c .pairs)

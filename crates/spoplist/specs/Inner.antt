@@ -8,7 +8,7 @@ use Rattle.parser.specs.declared.Rooms.{Rooms}
 use Rattle.parser.specs.declared.Metadata.{Metadata}
 use Rattle.parser.specs.Payload.{Contents}
 use Rattle.parser.specs.Frame.{answerOf, frameRead}
-use Rattle.listing.specs.Listing.{stopOf}
+use Rattle.spoplist.specs.Listing.{stopOf}
 use Rattle.spoplist.specs.declared.Listed.{Listed}
 use Rattle.spoplist.specs.declared.Listed.the-variants as l
 use Rattle.spoplist.specs.declared.Ended.{Ended}

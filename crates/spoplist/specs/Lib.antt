@@ -1,2 +1,3 @@
--- What private contracts cite.
+-- Where a listing stops, and what private contracts cite.
+pub mod Listing
 pub mod Inner

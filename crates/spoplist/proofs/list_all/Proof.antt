@@ -9,7 +9,7 @@ use native.Mathlib.Omega.{arith}
 use lib.ListN.{length, drop, length-drop}
 use Rattle.answer.proofs.Output.{lent-tail}
 use Rattle.parser.specs.Promise.{roomsOf}
-use Rattle.listing.proofs.Stopping.{Taken, Stopping, stopping-none, stopping-on, stopping-stop, stopping-over}
+use Rattle.spoplist.proofs.Stopping.{Taken, Stopping, stopping-none, stopping-on, stopping-stop, stopping-over}
 use Rattle.spoplist.specs.Inner.{limit, Takes}
 use Rattle.spoplist.proofs.list_all.Statement.{statement}
 use Rattle.spoplist.proofs.list_all.Tie as tie

@@ -7,7 +7,7 @@ use Rattle.answer.specs.Answer.{written}
 use Rattle.parser.specs.Promise.{frameSaid, roomsOf}
 use Rattle.listing.specs.Lines.{frameLine}
 use Rattle.listing.proofs.Coming.{told-fits}
-use Rattle.listing.proofs.Stopping.{Taken, said-taken, said-wait, said-refused}
+use Rattle.spoplist.proofs.Stopping.{Taken, said-taken, said-wait, said-refused}
 use Rattle.spoplist.specs.Inner.{limit}
 use borrow.Author.Needs.{needs}
 use Rattle.spoplist.proofs.list_next.Statement.{statement}

@@ -15,8 +15,8 @@ use Rattle.parser.specs.declared.FrameRead.the-variants as r
 use Rattle.parser.specs.Payload.{Contents}
 use Rattle.parser.specs.Frame.{Reading, wait, answered, answerOf, frameRead}
 use Rattle.parser.specs.Promise.{Counts, countsOf, frameSaid, frameTells}
-use Rattle.listing.specs.Listing.{Stop, stopFrom, stopOf}
+use Rattle.spoplist.specs.Listing.{Stop, stopFrom, stopOf}
 use Rattle.listing.proofs.Accepted.{frame-used}
 
 -- ---- what the reader said
 

@@ -10,9 +10,11 @@ use Rattle.frame.specs.Head.{fourNumber}
 use Rattle.parser.specs.Pair.{pair}
 use Rattle.parser.specs.Payload.{onePair, oneMessage, toEnd, payload}
 use Rattle.parser.specs.Frame.{lastId, ids, metadata, wholeFrame, frameRead}
 use Rattle.listing.specs.Digits.{digits, decimal, signed, shown}
-use Rattle.listing.specs.Lines.{filled, valueText, frameLine, messageLine, pairLine, endLine, pairLines, itemLines, frameLines}
-use Rattle.listing.specs.Listing.{stopFrom, linesFrom, listing}
+use Rattle.listing.specs.Lines.{filled, valueText, frameLine, messageLine, pairLine, endLine}
+use Rattle.spoplist.specs.Listing.{stopFrom}
+use Rattle.spoplist.proofs.Inputs.{linesFrom, listing}
+use Rattle.listing.proofs.Frames.{pairLines, itemLines, frameLines}
 
 abbrev pub input : List ℕ
 input =

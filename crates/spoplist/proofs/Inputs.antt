@@ -11,10 +11,29 @@ use Rattle.parser.specs.declared.Rooms.{Rooms}
 use Rattle.parser.specs.declared.Metadata.{Metadata}
 use Rattle.parser.specs.Payload.{Contents}
 use Rattle.parser.specs.Frame.{Reading, wait, answered, answerOf, wholeFrame, frameRead}
-use Rattle.listing.specs.Lines.{filled, frameLine, endLine, itemLines, frameLines}
-use Rattle.listing.specs.Listing.{Stop, onward, stopOf, linesFrom, listing}
+use Rattle.listing.specs.Lines.{filled, frameLine, endLine}
+use Rattle.spoplist.specs.Listing.{Stop, onward, stopOf}
+use Rattle.listing.proofs.Frames.{itemLines, frameLines}
 use Rattle.listing.proofs.Accepted.{frame-used}
 use Rattle.listing.proofs.Lossless.{messageMeans, pairMeans, Over, SameFrame, listing-apart-then, frame-over, end-over, end-apart}
+
+-- ---- the listing of an input
+
+-- The lines of the frames from this index on, in order.
+unfoldable pub linesFrom : ℕ → Rooms → ℕ → ℕ → List ℕ → List ℕ
+linesFrom limit rooms zero index s = []
+linesFrom limit rooms (suc k) index s =
+    onward (answerOf (frameRead limit rooms s))
+    (λ x n. frameLines index (take n s) (x .0) (x .1) ++ linesFrom limit rooms k (suc index) (drop n s))
+    (λ number place. [])
+
+-- All lines, and the last one.
+abbrev pub listing : ℕ → Rooms → List ℕ → List ℕ
+listing limit rooms s =
+    linesFrom limit rooms (length s) 0 s
+    ++ endLine (stopOf limit rooms s .used) (stopOf limit rooms s .number) (stopOf limit rooms s .at)
+
+-- ---- what its frames mean
 
 -- What a frame means: its type and ids, how many bytes it takes, and what its messages and its pairs mean.
 pub record FrameMeans : Type 0 where

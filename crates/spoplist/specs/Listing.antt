@@ -1,17 +1,17 @@
--- The listing of an input: docs/RULES.md, "The listing". Frames stand one behind the other, and the first that is not accepted stops it.
+-- Where the listing of an input stops: docs/RULES.md, "The listing". Frames stand one behind the other, and the first that is not accepted
+-- stops it.
 use mathlib.Core.Bool.{cond}
-use mathlib.Core.List.{List, [], _++_}
+use mathlib.Core.List.{List}
 use Prim.Native.Nat.{ℕ, zero, suc, _+_}
 use lib.Dec.{ltb}
-use lib.ListN.{length, take, drop}
+use lib.ListN.{length, drop}
 use Rattle.answer.specs.Answer.{Answer, done, refused}
 use Rattle.parser.specs.declared.Rooms.{Rooms}
 use Rattle.parser.specs.declared.Metadata.{Metadata}
 use Rattle.parser.specs.Payload.{Contents}
 use Rattle.parser.specs.Frame.{answerOf, frameRead}
-use Rattle.listing.specs.Lines.{endLine, frameLines}
 
--- Where it stops: the bytes used by accepted frames, the answer that stopped it, and the missing count or the place within that frame.
+-- The last line's numbers: the bytes used by accepted frames, the answer that stopped it, and the missing count or the place within that frame.
 pub record Stop : Type 0 where
   pub used : ℕ
   pub number : ℕ
@@ -34,17 +34,3 @@ stopFrom limit rooms (suc k) used s =
 -- Each frame takes a byte at least, so there are no more than bytes.
 abbrev pub stopOf : ℕ → Rooms → List ℕ → Stop
 stopOf limit rooms s = stopFrom limit rooms (length s) 0 s
-
--- The lines of the frames from this index on, in order.
-unfoldable pub linesFrom : ℕ → Rooms → ℕ → ℕ → List ℕ → List ℕ
-linesFrom limit rooms zero index s = []
-linesFrom limit rooms (suc k) index s =
-    onward (answerOf (frameRead limit rooms s))
-    (λ x n. frameLines index (take n s) (x .0) (x .1) ++ linesFrom limit rooms k (suc index) (drop n s))
-    (λ number place. [])
-
--- All lines, and the last one.
-abbrev pub listing : ℕ → Rooms → List ℕ → List ℕ
-listing limit rooms s =
-    linesFrom limit rooms (length s) 0 s
-    ++ endLine (stopOf limit rooms s .used) (stopOf limit rooms s .number) (stopOf limit rooms s .at)
