@@ -1,18 +1,18 @@
 -- Laws about accepted frames: they end where their bytes do, and each of their records has a line.
-use mathlib.Core.Path.{_≡_, refl, sym, ap, ap₂, _∙_}
-use mathlib.Core.Bool.{Bool, true, false, cond, not, _||_}
+use mathlib.Core.Path.{_≡_, refl, sym, ap, _∙_}
+use mathlib.Core.Bool.{Bool, true, cond, not, _||_}
 use mathlib.Core.Logic.{⊎-elim}
 use mathlib.Core.List.{List, [], _∷_, _++_, map}
-use Prim.Native.Nat.{ℕ, zero, suc, _+_, _-_, _≤_, _<_}
+use Prim.Native.Nat.{ℕ, zero, suc, _+_, _-_, _≤_}
 use native.Mathlib.Omega.{arith}
 use lib.Dec.{ltb, eqb}
 use lib.ListN.{length, take, drop, getD, length-drop}
 use lib.Seq.{length-take-le}
-use borrow.Author.Tests.{lt-ltb, le-ltb, le-leb, eqb-true, eqb-false}
+use borrow.Author.Tests.{lt-ltb, le-ltb, eqb-true, eqb-false}
 use Rattle.answer.specs.Answer.{Answer, done, refused, next, behind}
 use Rattle.answer.proofs.Cases.{lt-or-le, bool-cases, answer-cases, not-both}
 use Rattle.types.specs.Value.{Span, span, string, Record, value, Shape, nothing, flag, integer, address, text, reserved, shape, points, moved, typed, inFields}
-use Rattle.types.specs.Form.{inside, writableRecord, ranged}
+use Rattle.types.specs.Form.{writableRecord}
 use Rattle.types.specs.Promise.{recordOf}
 use Rattle.types.proofs.Reading.{string-accepted, typed-accepted}
 use Rattle.types.proofs.Shapes.{in-fields}
@@ -22,10 +22,9 @@ use Rattle.frame.specs.Head.{fourNumber}
 use Rattle.parser.specs.declared.Rooms.{Rooms}
 use Rattle.parser.specs.declared.Metadata.{Metadata}
 use Rattle.parser.specs.Pair.{pairOf, movedPair, pair, pairFrom}
-use Rattle.parser.specs.Payload.{Contents, withPair, withMessage, movedMessage, movedContents, stringFrom, oneItem, ended, toEnd, payload}
+use Rattle.parser.specs.Payload.{Contents, withMessage, movedMessage, movedContents, stringFrom, oneItem, ended, toEnd, payload}
 use Rattle.parser.specs.Frame.{metadata, wholeFrame, wait, answered, frameRead}
 use Rattle.parser.proofs.Pairs.{pair-key, pair-value, pair-whole, done-same}
-use Rattle.parser.proofs.Runs.{from-next}
 use Rattle.parser.proofs.Walk.{pair-says, string-next, message-says, item-pair, item-message, item-next, ended-done, ended-short}
 use Rattle.parser.proofs.Frames.{metadata-start, whole-refused, whole-payload, frame-start, frame-over, frame-wait, frame-whole}
 

@@ -1,13 +1,13 @@
 -- Laws about decimal digits: how they unroll, how many they are, and how they are written from the last to the first.
-use mathlib.Core.Path.{_≡_, refl, sym, ap, _∙_}
+use mathlib.Core.Path.{_≡_, sym, ap, _∙_}
 use mathlib.Core.Logic.{⊎-elim}
-use mathlib.Core.List.{List, [], _∷_, _++_, append-nil, append-assoc}
+use mathlib.Core.List.{List, [], _∷_, _++_, append-nil}
 use Prim.Native.Nat.{ℕ, zero, suc, _+_, _-_, _*_, _/_, _%_, _^_, _≤_, _<_}
 use native.Mathlib.Omega.{arith}
 use lib.ListN.{length, take, drop, set, getD, length-append, length-take, length-drop, take-append-drop}
 use lib.Seq.{take-suc, set-at, append-snoc, length-take-le}
 use borrow.Author.Tests.{lt-ltb, le-ltb}
-use Rattle.answer.specs.Answer.{written, leaves}
+use Rattle.answer.specs.Answer.{written}
 use Rattle.answer.proofs.Cases.{lt-or-le}
 use Rattle.types.specs.Inner.{Puts}
 use Rattle.listing.specs.Digits.{glyph, digits, decimal}

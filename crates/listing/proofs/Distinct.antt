@@ -1,11 +1,10 @@
 -- Laws about texts: no two have the same digits, and each ends where a space or a line's end stands behind it.
 use mathlib.Core.Path.{_≡_, refl, sym, ap, ap₂, _∙_}
-use mathlib.Core.Bool.{Bool, true, false}
+use mathlib.Core.Bool.{true, false}
 use mathlib.Core.Logic.{⊎-elim}
 use mathlib.Core.List.{List, [], _∷_, _++_, head-eq-of-cons-eq, tail-eq-of-cons-eq}
-use Prim.Native.Nat.{ℕ, zero, suc, _+_, _-_, _*_, _/_, _%_, _^_, _≤_, _<_}
+use Prim.Native.Nat.{ℕ, zero, suc, _+_, _-_, _/_, _%_, _^_, _≤_, _<_}
 use native.Mathlib.Omega.{arith}
-use lib.Dec.{eqb}
 use lib.ListN.{length, length-append}
 use borrow.Author.Tests.{lt-ltb, le-ltb}
 use Rattle.answer.specs.Table.{joined}
@@ -13,7 +12,7 @@ use Rattle.answer.proofs.Cases.{lt-or-le, bool-cases}
 use Rattle.answer.proofs.Records.{joined-none, joined-on}
 use Rattle.types.specs.Value.{Shape, nothing, flag, integer, address, text, reserved, Width, signed32, unsigned32, whole64, shape, Record, value, points}
 use Rattle.types.specs.Form.{part, writableRecord}
-use Rattle.types.proofs.Roundtrip.{Meaning, means, meaning}
+use Rattle.types.proofs.Roundtrip.{means, meaning}
 use Rattle.types.proofs.Shapes.{shape-cases, signed-below, InWidth, Fields, fields-in, field-at}
 use Rattle.listing.specs.Digits.{dash, glyph, decimal, signed, hexPair, shown}
 use Rattle.listing.specs.Lines.{hasSign, dataText, valueText}

@@ -1,16 +1,14 @@
 -- The listing loses nothing: frames with the same lines have the same type, ids and records.
 use mathlib.Core.Path.{_≡_, refl, sym, ap, ap₂, _∙_}
 use mathlib.Core.Bool.{Bool, true, false, cond, _&&_}
-use mathlib.Core.Logic.{⊎-elim}
 use mathlib.Core.List.{List, [], _∷_, _++_, append-assoc, append-cancel-left, head-eq-of-cons-eq, tail-eq-of-cons-eq, map}
 use Prim.Native.Nat.{ℕ, zero, suc, _+_, _≤_, _<_}
 use native.Mathlib.Omega.{arith}
 use lib.Dec.{leb, eqb}
 use lib.ListN.{length, take, drop, drop-of-length-le}
-use borrow.Author.Tests.{leb-true, eqb-true, eqb-false}
+use borrow.Author.Tests.{leb-true, eqb-true}
 use Rattle.answer.specs.Answer.{done}
 use Rattle.answer.proofs.Cases.{bool-cases, both-true, true-false}
-use Rattle.types.specs.declared.Value.{Value}
 use Rattle.types.specs.Value.{value}
 use Rattle.types.specs.Form.{part, writableRecord}
 use Rattle.types.specs.Promise.{recordOf}
@@ -23,9 +21,9 @@ use Rattle.parser.specs.declared.Metadata.{Metadata}
 use Rattle.parser.specs.Payload.{Contents}
 use Rattle.parser.specs.Frame.{wholeFrame}
 use Rattle.listing.specs.Digits.{decimal, shown}
-use Rattle.listing.specs.Lines.{mark, piece, others, filled, frameForm, messageForm, pairForm, endForm, valueText, frameLine, messageLine, pairLine, endLine}
+use Rattle.listing.specs.Lines.{mark, others, filled, frameForm, messageForm, pairForm, endForm, valueText, frameLine, messageLine, pairLine, endLine}
 use Rattle.listing.proofs.Frames.{pairLines, itemLines, frameLines}
-use Rattle.listing.proofs.Accepted.{Each, Whole, Held, whole-held}
+use Rattle.listing.proofs.Accepted.{Each, Whole, whole-held}
 use Rattle.listing.proofs.Distinct.{Plain, decimal-apart, shown-apart, values-apart, decimal-plain, shown-plain, value-plain, texts-apart}
 
 -- ---- a line

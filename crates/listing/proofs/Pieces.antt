@@ -1,12 +1,11 @@
 -- Laws about lines: a value's text by its kind, lines in the parts in which they are written, and the checks before them.
-use mathlib.Core.Path.{_≡_, refl, sym, ap, _∙_}
+use mathlib.Core.Path.{_≡_, sym, ap, _∙_}
 use mathlib.Core.Bool.{true, false}
 use mathlib.Core.List.{List, [], _∷_, _++_, append-assoc}
-use Prim.Native.Nat.{ℕ, _+_, _^_, _≤_, _<_}
+use Prim.Native.Nat.{ℕ, _+_, _≤_, _<_}
 use native.Mathlib.Omega.{arith}
-use lib.Dec.{eqb}
 use lib.ListN.{length, length-append}
-use borrow.Author.Tests.{leb-true, ne-eqb, eq-eqb}
+use borrow.Author.Tests.{leb-true, ne-eqb}
 use Rattle.answer.specs.Answer.{Answer, refused}
 use Rattle.answer.specs.Order.{Check, first, after}
 use Rattle.answer.proofs.Order.{first-none, first-fails, first-holds, first-passed, unless-refused, unless-none}
@@ -17,7 +16,7 @@ use Rattle.types.proofs.Shapes.{shape-is, row, shape-cases, points-no, points-y
 use Rattle.frame.specs.declared.Message.{Message}
 use Rattle.frame.specs.declared.Pair.{Pair}
 use Rattle.listing.specs.Digits.{dash, decimal, signed, shown}
-use Rattle.listing.specs.Lines.{filled, messageForm, pairForm, hasSign, dataText, valueText}
+use Rattle.listing.specs.Lines.{filled, messageForm, pairForm, dataText, valueText}
 use Rattle.listing.specs.Check.{messageChecks, pairChecks}
 
 -- ---- a value's text

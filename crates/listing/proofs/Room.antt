@@ -1,6 +1,6 @@
 -- Laws about how long lines are: of a frame of n bytes none has more than 2n and 128 besides.
-use mathlib.Core.Path.{_≡_, refl, sym, ap, _∙_}
-use mathlib.Core.Bool.{true, false}
+use mathlib.Core.Path.{_≡_, sym, ap, _∙_}
+use mathlib.Core.Bool.{true}
 use mathlib.Core.Logic.{_⊎_, inl, inr, ⊎-elim}
 use mathlib.Core.List.{List, [], _∷_}
 use Prim.Native.Nat.{ℕ, _+_, _*_, _^_, _≤_, _<_}
@@ -9,7 +9,7 @@ use lib.Dec.{eqb}
 use lib.ListN.{length, drop, length-append, length-take}
 use borrow.Author.Tests.{eqb-true, eqb-false}
 use Rattle.answer.specs.Answer.{done}
-use Rattle.answer.proofs.Cases.{lt-or-le, bool-cases}
+use Rattle.answer.proofs.Cases.{bool-cases}
 use Rattle.types.specs.Value.{Shape, nothing, flag, integer, address, text, reserved, Width, shape, value, points}
 use Rattle.types.specs.Form.{part, writableRecord}
 use Rattle.types.specs.Promise.{recordOf}
@@ -21,7 +21,7 @@ use Rattle.parser.specs.declared.Rooms.{Rooms}
 use Rattle.parser.specs.declared.Metadata.{Metadata}
 use Rattle.parser.specs.Payload.{Contents}
 use Rattle.parser.specs.Frame.{wholeFrame}
-use Rattle.listing.specs.Digits.{decimal, signed, shown}
+use Rattle.listing.specs.Digits.{decimal, shown}
 use Rattle.listing.specs.Lines.{filled, hasSign, dataText, valueText, messageLine, pairLine}
 use Rattle.listing.proofs.Decimal.{decimal-most}
 use Rattle.listing.proofs.Text.{signed-most, hex-length, shown-none, shown-some}

@@ -1,31 +1,28 @@
 -- Laws about the steps: taken one after the other from the first place on, they are the lines of what the tables hold; and of an accepted
 -- frame they are its lines, none refused where there is room.
-use mathlib.Core.Path.{_≡_, refl, sym, ap, ap₂, _∙_}
-use mathlib.Core.Bool.{Bool, true, false, cond, _&&_, _||_, and-false}
+use mathlib.Core.Path.{_≡_, refl, sym, ap, _∙_}
+use mathlib.Core.Bool.{Bool, true, false, _||_, and-false}
 use mathlib.Core.Logic.{_⊎_, inl, inr, ⊎-elim}
-use mathlib.Core.List.{List, [], _∷_, _++_, append-nil, append-assoc}
-use Prim.Native.Nat.{ℕ, zero, suc, _+_, _-_, _*_, _≤_, _<_}
+use mathlib.Core.List.{List, [], _∷_, _++_, append-assoc}
+use Prim.Native.Nat.{ℕ, zero, suc, _+_, _-_, _≤_, _<_}
 use native.Mathlib.Numerals.{add-one}
 use native.Mathlib.Omega.{arith}
 use lib.Dec.{ltb, leb}
-use lib.ListN.{length, take, drop, getD}
+use lib.ListN.{take, drop}
 use lib.Seq.{take-nil, drop-nil}
-use borrow.Author.Tests.{lt-ltb, le-ltb, le-leb, lt-leb, ltb-false, leb-true, leb-false}
+use borrow.Author.Tests.{lt-ltb, le-ltb, lt-leb, ltb-false, leb-true, leb-false}
 use Rattle.answer.specs.Answer.{Answer, done, refused, written}
-use Rattle.answer.specs.Order.{first, after}
-use Rattle.answer.specs.Table.{holds, records, joined}
+use Rattle.answer.specs.Table.{records}
 use Rattle.answer.proofs.Cases.{lt-or-le, bool-cases, true-false}
-use Rattle.answer.proofs.Records.{records-on, records-end, records-start, joined-none, joined-on}
+use Rattle.answer.proofs.Records.{records-on, records-end, records-start}
 use Rattle.frame.specs.declared.Pair.{Pair}
 use Rattle.frame.specs.declared.Message.{Message}
-use Rattle.frame.specs.Records.{messageWidth, pairWidth, messageAt, pairAt, messageNumbers, pairNumbers}
+use Rattle.frame.specs.Records.{messageAt, pairAt}
 use Rattle.listing.specs.declared.Place.{Place}
 use Rattle.listing.specs.Lines.{messageLine, pairLine}
-use Rattle.listing.specs.Check.{messageChecks, pairChecks}
-use Rattle.listing.specs.Order.{pairNext, behindPair, behindMessage, pairAnswer, messageAnswer, Coming, line, none, coming}
+use Rattle.listing.specs.Order.{pairNext, pairAnswer, messageAnswer, Coming, line, none, coming}
 use Rattle.listing.proofs.Frames.{pairLines, itemLines}
-use Rattle.listing.proofs.Pieces.{after-none}
-use Rattle.listing.proofs.Coming.{after-holds, coming-pair, coming-message, coming-none}
+use Rattle.listing.proofs.Coming.{coming-pair, coming-message, coming-none}
 
 -- ---- steps one after the other
 

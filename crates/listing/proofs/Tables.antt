@@ -1,10 +1,9 @@
 -- Laws about the tables of an accepted frame: they hold its records, and the steps over them give its lines.
 use mathlib.Core.Path.{_≡_, refl, sym, ap, ap₂, _∙_}
-use mathlib.Core.Bool.{Bool, true, false}
-use mathlib.Core.List.{List, [], _∷_, _++_, append-assoc}
+use mathlib.Core.List.{List, [], _∷_, _++_}
 use Prim.Native.Nat.{ℕ, zero, suc, _+_, _*_, _≤_, _<_}
 use native.Mathlib.Omega.{arith}
-use lib.ListN.{length, take, drop, getD, length-append}
+use lib.ListN.{length, take, length-append}
 use lib.Seq.{length-take-le}
 use borrow.Author.Tests.{le-leb}
 use Rattle.answer.specs.Answer.{done, written}
@@ -14,14 +13,12 @@ use Rattle.answer.proofs.Cases.{bool-cases}
 use Rattle.answer.proofs.Order.{first-none, first-holds}
 use Rattle.answer.proofs.Records.{records-none, joined-on}
 use Rattle.types.specs.Value.{points, shape}
-use Rattle.types.specs.Form.{inside, ranged}
-use Rattle.types.specs.Promise.{recordOf}
 use Rattle.frame.specs.declared.Pair.{Pair}
 use Rattle.frame.specs.declared.Message.{Message}
 use Rattle.frame.specs.Records.{messageAt, pairAt, messageNumbers, pairNumbers}
 use Rattle.parser.specs.declared.Metadata.{Metadata}
 use Rattle.parser.specs.Payload.{Contents}
-use Rattle.parser.specs.Frame.{answered, wholeFrame, frameRead}
+use Rattle.parser.specs.Frame.{answered, frameRead}
 use Rattle.parser.specs.Promise.{roomsOf, contentsRead, Fills}
 use Rattle.parser.proofs.Filling.{joined-width}
 use Rattle.listing.specs.Lines.{frameLine, messageLine, pairLine}

@@ -1,6 +1,6 @@
 -- A frame's lines one by one: which comes next, where its records stand in two tables.
 use mathlib.Core.Bool.{Bool, cond, _&&_, _||_}
-use mathlib.Core.List.{List, [], _∷_}
+use mathlib.Core.List.{List, _∷_}
 use Prim.Native.Nat.{ℕ, _+_, _-_}
 use lib.Dec.{ltb, leb}
 use Rattle.answer.specs.Answer.{Answer, written}

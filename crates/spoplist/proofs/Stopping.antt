@@ -6,16 +6,14 @@ use native.Mathlib.Omega.{arith}
 use lib.ListN.{length, drop, length-drop}
 use lib.Seq.{drop-drop}
 use borrow.Author.Tests.{lt-ltb, le-ltb}
-use Rattle.answer.specs.Answer.{Answer, done, refused}
-use Rattle.answer.proofs.Cases.{lt-or-le, not-both}
+use Rattle.answer.specs.Answer.{done, refused}
 use Rattle.parser.specs.declared.Rooms.{Rooms}
 use Rattle.parser.specs.declared.Metadata.{Metadata}
-use Rattle.parser.specs.declared.FrameRead.{FrameRead}
 use Rattle.parser.specs.declared.FrameRead.the-variants as r
 use Rattle.parser.specs.Payload.{Contents}
 use Rattle.parser.specs.Frame.{Reading, wait, answered, answerOf, frameRead}
-use Rattle.parser.specs.Promise.{Counts, countsOf, frameSaid, frameTells}
-use Rattle.spoplist.specs.Listing.{Stop, stopFrom, stopOf}
+use Rattle.parser.specs.Promise.{Counts, frameTells}
+use Rattle.spoplist.specs.Listing.{stopFrom, stopOf}
 use Rattle.listing.proofs.Accepted.{frame-used}
 
 -- ---- what the reader said

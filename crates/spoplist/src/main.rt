@@ -10,7 +10,6 @@ use libc::STDOUT_FILENO;
 use listing::Place;
 use listing::Step;
 use parser::FrameRead;
-use parser::Metadata;
 ghost use Prim.Native.Nat.{_≤_};
 ghost use lib.ListN.{length};
 ghost use Rattle.answer.specs.Writes.{counted};

@@ -2,7 +2,7 @@ use Rattle.listing.specs.declared.Step.the-variants as s
 -- `spoplist::list_records` meets its contract. The loop's measure: how many messages and pairs are left, of which each line takes one.
 -- Assumes nothing.
 use borrow.Author.Needs.{needs}
-use mathlib.Core.Path.{_≡_, sym, ap, _∙_}
+use mathlib.Core.Path.{_≡_, sym, _∙_}
 use Prim.Native.Nat.{_+_, _-_, _≤_}
 use native.Mathlib.Omega.{arith}
 use lib.ListN.{length}

@@ -1,6 +1,6 @@
 -- `listing::digits::digits_len` meets its contract. The loop's invariant: the digits counted and those of `rest` are one more than all.
 -- Assumes nothing.
-use mathlib.Core.Path.{_≡_, ap, _∙_}
+use mathlib.Core.Path.{_≡_}
 use Prim.Native.Nat.{_+_}
 use native.Mathlib.Omega.{arith}
 use lib.ListN.{length}

@@ -1,12 +1,11 @@
 -- `listing::digits::put_hex` meets its contract. The loop's invariant: the digits are partly written, and what is left to write are those of
 -- the bytes from `i` on. Each turn writes two.
 -- Assumes nothing.
-use borrow.Author.Needs.{needs}
-use mathlib.Core.Path.{_≡_, sym, ap, _∙_}
+use mathlib.Core.Path.{_≡_}
 use mathlib.Core.List.{_∷_}
-use Prim.Native.Nat.{_+_, _-_, _*_, _/_, _%_}
+use Prim.Native.Nat.{_+_, _-_, _/_, _%_}
 use native.Mathlib.Omega.{arith}
-use lib.ListN.{length, drop, set, getD, length-set}
+use lib.ListN.{length, drop, set, getD}
 use Rattle.answer.specs.Table.{joined}
 use Rattle.answer.proofs.Output.{Partly, partly-none, partly-next, partly-place, partly-length}
 use Rattle.listing.specs.Digits.{glyph, hexPair}

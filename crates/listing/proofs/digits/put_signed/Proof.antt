@@ -1,10 +1,10 @@
 -- `listing::digits::put_signed` meets its contract: the digits, or a dash and the digits of what is missing to 2^64.
 -- Assumes nothing.
-use mathlib.Core.Path.{_≡_, sym, ap, _∙_}
+use mathlib.Core.Path.{_≡_}
 use mathlib.Core.List.{[], _∷_}
 use Prim.Native.Nat.{_+_, _-_}
 use native.Mathlib.Omega.{arith}
-use lib.ListN.{length, set}
+use lib.ListN.{set}
 use Rattle.types.proofs.Output.{Begun, begun-byte, begun-start, begun-room, begun-both, begun-most, begun-length}
 use Rattle.listing.specs.Digits.{dash, decimal, signed}
 use Rattle.listing.proofs.Text.{signed-plus, signed-code}

@@ -1,9 +1,8 @@
 -- `listing::digits::shown_len` meets its contract: a dash, or two digits for each byte.
 -- Assumes nothing.
-use mathlib.Core.Path.{_≡_, sym, ap, _∙_}
+use mathlib.Core.Path.{sym, ap, _∙_}
 use native.Mathlib.Omega.{arith}
 use lib.ListN.{length}
-use Rattle.listing.specs.Digits.{shown}
 use Rattle.listing.proofs.Text.{shown-none, shown-some, hex-length}
 use borrow.Author.Needs.{needs}
 use Rattle.listing.proofs.digits.shown_len.Statement.{statement}

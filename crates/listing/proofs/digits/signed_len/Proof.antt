@@ -1,10 +1,9 @@
 -- `listing::digits::signed_len` meets its contract: the test of the sign is the definition's.
 -- Assumes nothing.
-use mathlib.Core.Path.{_≡_, sym, ap, _∙_}
+use mathlib.Core.Path.{sym, ap, _∙_}
 use native.Mathlib.Omega.{arith}
 use Prim.Native.Nat.{_+_, _-_}
 use lib.ListN.{length}
-use Rattle.listing.specs.Digits.{decimal}
 use Rattle.listing.proofs.Decimal.{decimal-most}
 use Rattle.listing.proofs.Text.{signed-plus, signed-code}
 use borrow.Author.Needs.{needs}

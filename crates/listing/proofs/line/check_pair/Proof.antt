@@ -1,8 +1,7 @@
 -- `listing::line::check_pair` meets its contract: the tests are the order's, one after the other.
 -- Assumes nothing.
-use mathlib.Core.Path.{_≡_, sym, ap, _∙_}
-use mathlib.Core.Bool.{true, false}
-use native.Mathlib.Omega.{arith}
+use mathlib.Core.Path.{_≡_, sym, _∙_}
+use mathlib.Core.Bool.{true}
 use borrow.Author.Tests.{not-true, not-false}
 use Rattle.answer.proofs.Order.{first-none, first-fails, first-holds}
 use Rattle.types.specs.Form.{inside, writableRecord}

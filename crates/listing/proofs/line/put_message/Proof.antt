@@ -9,7 +9,7 @@ use borrow.Rule.Slice.PartMut.{putMid}
 use Rattle.listing.specs.Digits.{decimal, shown}
 use Rattle.listing.specs.Lines.{filled, messageText}
 use Rattle.listing.proofs.Text.{begin, all-put, Next, next-start, next-room, next-most, next-on}
-use Rattle.listing.proofs.Pieces.{messageFront, messageBack, message-parts, message-length}
+use Rattle.listing.proofs.Pieces.{messageBack, message-parts, message-length}
 use borrow.Author.Needs.{needs}
 use Rattle.listing.proofs.line.put_message.Statement.{statement}
 use Rattle.listing.proofs.line.put_message.Tie as tie

@@ -11,7 +11,7 @@ use Rattle.types.specs.Promise.{recordOf}
 use Rattle.listing.specs.Digits.{decimal, shown}
 use Rattle.listing.specs.Lines.{filled, valueText, pairText}
 use Rattle.listing.proofs.Text.{begin, all-put, Next, next-start, next-room, next-most, next-on}
-use Rattle.listing.proofs.Pieces.{pairFront, pairBack, pair-parts, pair-length}
+use Rattle.listing.proofs.Pieces.{pairBack, pair-parts, pair-length}
 use borrow.Author.Needs.{needs}
 use Rattle.listing.proofs.line.put_pair.Statement.{statement}
 use Rattle.listing.proofs.line.put_pair.Tie as tie

@@ -1,6 +1,5 @@
 -- `listing::line::write_end_line` meets its contract: there is no room, or `put_filled` writes all.
 -- Assumes nothing.
-use mathlib.Core.Path.{_≡_, sym, ap, _∙_}
 use native.Mathlib.Omega.{arith}
 use Rattle.answer.proofs.Output.{writes-none, writes-all}
 use Rattle.listing.specs.Lines.{endLine}

@@ -1,7 +1,6 @@
 -- `listing::order::write_next_line` meets its contract: what comes is a pair, a message or none, and each is written so.
 -- Assumes nothing.
-use mathlib.Core.Path.{_≡_, refl, sym, ap, _∙_}
-use borrow.Author.Tests.{not-true, not-false}
+use mathlib.Core.Path.{refl, sym, _∙_}
 use Rattle.listing.proofs.Coming.{coming-pair, coming-message, coming-none}
 use borrow.Author.Needs.{needs}
 use Rattle.listing.proofs.order.write_next_line.Statement.{statement}
