@@ -1,0 +1,175 @@
+-- Laws about lines: a value's text by its kind, lines in the parts in which they are written, and the checks before them.
+use mathlib.Core.Path.{_≡_, sym, ap, _∙_}
+use mathlib.Core.Bool.{true, false}
+use mathlib.Core.List.{List, [], _∷_, _++_, append-assoc}
+use Prim.Native.Nat.{ℕ, _+_, _≤_, _<_}
+use native.Mathlib.Omega.{arith}
+use lib.ListN.{length, length-append}
+use borrow.Author.Tests.{leb-true, ne-eqb}
+use Rattle.answer.specs.Answer.{Answer, refused}
+use Rattle.answer.specs.Order.{Check, first, after}
+use Rattle.answer.proofs.Order.{first-none, first-fails, first-holds, first-passed, unless-refused, unless-none}
+use Rattle.types.specs.Value.{Shape, nothing, flag, integer, address, text, signed32, whole64, shape, value}
+use Rattle.types.specs.Form.{part, inside, writableRecord, ranged}
+use Rattle.types.specs.Promise.{recordOf}
+use Rattle.types.proofs.Shapes.{shape-is, row, shape-cases, points-no, points-yes, writable-kind}
+use Rattle.frame.specs.declared.Message.{Message}
+use Rattle.frame.specs.declared.Pair.{Pair}
+use Rattle.listing.specs.Digits.{dash, decimal, signed, shown}
+use Rattle.listing.specs.Lines.{filled, messageForm, pairForm, dataText, valueText}
+use Rattle.listing.specs.Check.{messageChecks, pairChecks}
+
+-- ---- a value's text
+
+module _ (f : List ℕ) (kind a b : ℕ) where
+  pub text-at : (sh : Shape) → shape kind ≡ sh → valueText f (value kind a b) ≡ dataText sh kind a (part f a b)
+  unfolding valueText
+  text-at sh is = ap (λ (x : Shape). dataText x kind a (part f a b)) is
+
+  pub text-null : kind ≡ 0 → valueText f (value kind a b) ≡ dash ∷ []
+  text-null e = text-at nothing (row 0 e (shape-is .0))
+
+  pub text-signed32 : kind ≡ 2 → valueText f (value kind a b) ≡ signed a
+  text-signed32 e = text-at (integer signed32) (row 2 e (shape-is .2)) ∙ rw e
+
+  pub text-signed64 : kind ≡ 4 → valueText f (value kind a b) ≡ signed a
+  text-signed64 e = text-at (integer whole64) (row 4 e (shape-is .4)) ∙ rw e
+
+  pub text-number : (kind ≡ 0 → ⊥) → (kind ≡ 2 → ⊥) → (kind ≡ 4 → ⊥) → kind < 6 → valueText f (value kind a b) ≡ decimal a
+  text-number n0 n2 n4 h =
+      shape-cases kind
+      (λ e is. absurd (n0 e))
+      (λ e is. text-at flag is)
+      (λ w l g is. text-at (integer w) is ∙ rw (ne-eqb kind 2 n2, ne-eqb kind 4 n4))
+      (λ n l g is. absurd (omega arith))
+      (λ l g is. absurd (omega arith))
+      (λ l is. absurd (omega arith))
+
+  pub text-bytes : 6 ≤ kind → kind < 10 → valueText f (value kind a b) ≡ shown (part f a b)
+  text-bytes l h =
+      shape-cases kind
+      (λ e is. absurd (omega arith))
+      (λ e is. absurd (omega arith))
+      (λ w m g is. absurd (omega arith))
+      (λ n m g is. text-at (address n) is)
+      (λ m g is. text-at text is)
+      (λ m is. absurd (omega arith))
+
+  pub range-in : 6 ≤ kind → kind < 10 → ranged f (value kind a b) ≡ true → a + b ≤ length f
+  range-in l h r = leb-true (a + b) (length f) (rw (points-yes kind l h) at r)
+
+-- ---- lines in parts
+
+-- `message `, ` name `
+abbrev wordMessage : List ℕ
+wordMessage = 109 ∷ 101 ∷ 115 ∷ 115 ∷ 97 ∷ 103 ∷ 101 ∷ 32 ∷ []
+
+abbrev wordName : List ℕ
+wordName = 32 ∷ 110 ∷ 97 ∷ 109 ∷ 101 ∷ 32 ∷ []
+
+-- `message # name `, ` args #` and the line's end
+abbrev pub messageFront : List ℕ
+messageFront = 109 ∷ 101 ∷ 115 ∷ 115 ∷ 97 ∷ 103 ∷ 101 ∷ 32 ∷ 35 ∷ 32 ∷ 110 ∷ 97 ∷ 109 ∷ 101 ∷ 32 ∷ []
+
+abbrev pub messageBack : List ℕ
+messageBack = 32 ∷ 97 ∷ 114 ∷ 103 ∷ 115 ∷ 32 ∷ 35 ∷ 10 ∷ []
+
+pub message-parts : (i t n : List ℕ)
+    → filled messageForm (i ∷ t ∷ n ∷ []) ≡ filled messageFront (i ∷ []) ++ (t ++ filled messageBack (n ∷ []))
+unfolding filled
+message-parts i t n = ap (λ (l : List ℕ). wordMessage ++ l) (sym (append-assoc i wordName (t ++ filled messageBack (n ∷ []))))
+
+-- `pair `, ` key `, ` kind `, ` value `
+abbrev wordPair : List ℕ
+wordPair = 112 ∷ 97 ∷ 105 ∷ 114 ∷ 32 ∷ []
+
+abbrev wordKey : List ℕ
+wordKey = 32 ∷ 107 ∷ 101 ∷ 121 ∷ 32 ∷ []
+
+abbrev wordKind : List ℕ
+wordKind = 32 ∷ 107 ∷ 105 ∷ 110 ∷ 100 ∷ 32 ∷ []
+
+abbrev wordValue : List ℕ
+wordValue = 32 ∷ 118 ∷ 97 ∷ 108 ∷ 117 ∷ 101 ∷ 32 ∷ []
+
+-- `pair # key `, ` kind # value `
+abbrev pub pairFront : List ℕ
+pairFront = 112 ∷ 97 ∷ 105 ∷ 114 ∷ 32 ∷ 35 ∷ 32 ∷ 107 ∷ 101 ∷ 121 ∷ 32 ∷ []
+
+abbrev pub pairBack : List ℕ
+pairBack = 32 ∷ 107 ∷ 105 ∷ 110 ∷ 100 ∷ 32 ∷ 35 ∷ 32 ∷ 118 ∷ 97 ∷ 108 ∷ 117 ∷ 101 ∷ 32 ∷ []
+
+pub pair-parts : (i t k v : List ℕ)
+    → filled pairForm (i ∷ t ∷ k ∷ v ∷ []) ≡ filled pairFront (i ∷ []) ++ (t ++ (filled pairBack (k ∷ []) ++ (v ++ (10 ∷ []))))
+unfolding filled
+pair-parts i t k v =
+    ap (λ (l : List ℕ). wordPair ++ (i ++ (wordKey ++ (t ++ (wordKind ++ l))))) (sym (append-assoc k wordValue (v ++ (10 ∷ []))))
+    ∙ ap (λ (l : List ℕ). wordPair ++ l) (sym (append-assoc i wordKey (t ++ (filled pairBack (k ∷ []) ++ (v ++ (10 ∷ []))))))
+
+-- how long they are
+pub message-length : (i t n : List ℕ)
+    → length (filled messageForm (i ∷ t ∷ n ∷ [])) ≡ length (filled messageFront (i ∷ [])) + length (filled messageBack (n ∷ [])) + length t
+message-length i t n =
+    let front = filled messageFront (i ∷ []) in
+    let back = filled messageBack (n ∷ []) in
+    omega (arith, ap length (message-parts i t n), length-append front (t ++ back), length-append t back)
+
+pub pair-length : (i t k v : List ℕ)
+    → length (filled pairForm (i ∷ t ∷ k ∷ v ∷ []))
+    ≡ length (filled pairFront (i ∷ [])) + length (filled pairBack (k ∷ [])) + 1 + length t + length v
+pair-length i t k v =
+    let front = filled pairFront (i ∷ []) in
+    let back = filled pairBack (k ∷ []) in
+    omega (
+      arith,
+      ap length (pair-parts i t k v),
+      length-append front (t ++ (back ++ (v ++ (10 ∷ [])))),
+      length-append t (back ++ (v ++ (10 ∷ []))),
+      length-append back (v ++ (10 ∷ [])),
+      length-append v (10 ∷ []),
+    )
+
+-- ---- checks
+
+module _ {A : Type 0} (checks : List Check) (a : Answer A) where
+  pub after-refused : (n : ℕ) → n ≡ first checks → (n ≡ 0 → ⊥) → after checks a ≡ refused n 0
+  after-refused n e ne =
+      unless-refused (record { number = first checks; place = 0 }) a (λ z. ne (e ∙ z)) ∙ ap (λ (k : ℕ). refused k 0) (sym e)
+
+  pub after-none : first checks ≡ 0 → after checks a ≡ a
+  after-none e = unless-none (record { number = first checks; place = 0 }) a e
+
+module _ (f : List ℕ) (m : Message) where
+  pub message-outside : inside f (m .start) (m .len) ≡ false → first (messageChecks f m) ≡ 16
+  message-outside h = first-fails 16 _ [] h
+
+  pub message-inside : inside f (m .start) (m .len) ≡ true → first (messageChecks f m) ≡ 0
+  message-inside h = first-holds 16 _ [] h ∙ first-none
+
+module _ (f : List ℕ) (p : Pair) where
+  -- a kind that points is in range where its bytes lie inside, and another always
+  pub pair-plain : p .value .kind < 6 → ranged f (recordOf (p .value)) ≡ true
+  pair-plain h = rw (points-no (p .value .kind) h)
+
+  pub pair-pointing : 6 ≤ p .value .kind → writableRecord (recordOf (p .value)) ≡ true → ranged f (recordOf (p .value)) ≡ inside f (p .value .a) (p .value .b)
+  pair-pointing h w =
+      let v = p .value in
+      rw (points-yes (v .kind) h (omega (arith, writable-kind (v .kind) (v .a) (v .b) w)))
+
+  pub pair-fields : writableRecord (recordOf (p .value)) ≡ false → first (pairChecks f p) ≡ 14
+  pair-fields w = first-fails 14 _ _ w
+
+  module _ (w : writableRecord (recordOf (p .value)) ≡ true) where
+    pub pair-key : inside f (p .start) (p .len) ≡ false → first (pairChecks f p) ≡ 16
+    pair-key k = first-holds 14 _ _ w ∙ first-fails 16 _ _ k
+
+    pub pair-rest : inside f (p .start) (p .len) ≡ true → first (pairChecks f p) ≡ first ((16, ranged f (recordOf (p .value))) ∷ [])
+    pair-rest k = first-holds 14 _ _ w ∙ first-holds 16 _ _ k
+
+  pub pair-passed : first (pairChecks f p) ≡ 0
+      → (writableRecord (recordOf (p .value)) ≡ true) × (inside f (p .start) (p .len) ≡ true) × (ranged f (recordOf (p .value)) ≡ true)
+  pair-passed e =
+      let one = first-passed 14 (writableRecord (recordOf (p .value))) _ (λ z. omega arith) e in
+      let two = first-passed 16 (inside f (p .start) (p .len)) _ (λ z. omega arith) (one .1) in
+      let three = first-passed 16 (ranged f (recordOf (p .value))) [] (λ z. omega arith) (two .1) in
+      (one .0, two .0, three .0)

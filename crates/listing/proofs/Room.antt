@@ -1,0 +1,129 @@
+-- Laws about how long lines are: of a frame of n bytes none has more than 2n and 128 besides.
+use mathlib.Core.Path.{_≡_, sym, ap, _∙_}
+use mathlib.Core.Bool.{true}
+use mathlib.Core.Logic.{_⊎_, inl, inr, ⊎-elim}
+use mathlib.Core.List.{List, [], _∷_}
+use Prim.Native.Nat.{ℕ, _+_, _*_, _^_, _≤_, _<_}
+use native.Mathlib.Omega.{arith}
+use lib.Dec.{eqb}
+use lib.ListN.{length, drop, length-append, length-take}
+use borrow.Author.Tests.{eqb-true, eqb-false}
+use Rattle.answer.specs.Answer.{done}
+use Rattle.answer.proofs.Cases.{bool-cases}
+use Rattle.types.specs.Value.{Shape, nothing, flag, integer, address, text, reserved, Width, shape, value, points}
+use Rattle.types.specs.Form.{part, writableRecord}
+use Rattle.types.specs.Promise.{recordOf}
+use Rattle.types.proofs.Shapes.{shape-cases, Fields, fields-in, field-at, writable-kind}
+use Rattle.frame.specs.declared.Pair.{Pair}
+use Rattle.frame.specs.declared.Message.{Message}
+use Rattle.frame.specs.Records.{keyOf}
+use Rattle.parser.specs.declared.Rooms.{Rooms}
+use Rattle.parser.specs.declared.Metadata.{Metadata}
+use Rattle.parser.specs.Payload.{Contents}
+use Rattle.parser.specs.Frame.{wholeFrame}
+use Rattle.listing.specs.Digits.{decimal, shown}
+use Rattle.listing.specs.Lines.{filled, hasSign, dataText, valueText, messageLine, pairLine}
+use Rattle.listing.proofs.Decimal.{decimal-most}
+use Rattle.listing.proofs.Text.{signed-most, hex-length, shown-none, shown-some}
+use Rattle.listing.proofs.Pieces.{text-at, messageFront, messageBack, pairFront, pairBack, message-length, pair-length}
+use Rattle.listing.proofs.Accepted.{Each, Named, Whole, whole-held}
+use Rattle.listing.proofs.Distinct.{below}
+
+-- ---- words and texts
+
+message-front : (t : List ℕ) → length (filled messageFront (t ∷ [])) ≡ 14 + length t
+unfolding filled
+message-front t = omega (arith, length-append t (32 ∷ 110 ∷ 97 ∷ 109 ∷ 101 ∷ 32 ∷ []))
+
+message-back : (t : List ℕ) → length (filled messageBack (t ∷ [])) ≡ 7 + length t
+unfolding filled
+message-back t = omega (arith, length-append t (10 ∷ []))
+
+pair-front : (t : List ℕ) → length (filled pairFront (t ∷ [])) ≡ 10 + length t
+unfolding filled
+pair-front t = omega (arith, length-append t (32 ∷ 107 ∷ 101 ∷ 121 ∷ 32 ∷ []))
+
+pair-back : (t : List ℕ) → length (filled pairBack (t ∷ [])) ≡ 13 + length t
+unfolding filled
+pair-back t = omega (arith, length-append t (32 ∷ 118 ∷ 97 ∷ 108 ∷ 117 ∷ 101 ∷ 32 ∷ []))
+
+shown-most : (s : List ℕ) → length (shown s) ≤ 2 * length s + 1
+shown-most s =
+    bool-cases (eqb (length s) 0)
+    (λ t. omega (arith, ap length (shown-none s (eqb-true (length s) 0 t))))
+    (λ t. omega (arith, ap length (shown-some s (eqb-false (length s) 0 t)), hex-length s))
+
+part-most : (f : List ℕ) (start len : ℕ) → length (part f start len) ≤ len
+part-most f start len = rw (length-take len (drop start f)) (omega arith)
+
+-- a value that points has at most two digits for each byte, and another at most 21
+value-most : (f : List ℕ) (k a b : ℕ) → writableRecord (value k a b) ≡ true
+    → ((points (shape k) ≡ true) × (length (valueText f (value k a b)) ≤ 2 * b + 1)) ⊎ (length (valueText f (value k a b)) ≤ 21)
+value-most f k a b h =
+    shape-cases k
+    (λ e is. inr (rw (text-at f k a b nothing is) (omega arith)))
+    (λ e is. inr (rw (text-at f k a b flag is) (let o = fields flag is in omega (arith, decimal-most a (omega (arith, o .0))))))
+    (λ w l g is. inr (rw (text-at f k a b (integer w) is) (number w is)))
+    (λ n l g is. inl (ap points is, rw (text-at f k a b (address n) is) (omega (arith, shown-most (part f a b), part-most f a b))))
+    (λ l g is. inl (ap points is, rw (text-at f k a b text is) (omega (arith, shown-most (part f a b), part-most f a b))))
+    (λ l is. absurd (fields reserved is))
+  where
+    fields : (sh : Shape) → shape k ≡ sh → Fields sh a b
+    fields sh is = fields-in sh a b (sym (field-at k a b sh is) ∙ h)
+
+    number : (w : Width) → shape k ≡ integer w → length (dataText (integer w) k a (part f a b)) ≤ 21
+    number w is =
+        let o = below w a (fields (integer w) is .0) in
+        bool-cases (hasSign k) (λ t. rw t (signed-most a o)) (λ t. rw t (omega (arith, decimal-most a o)))
+
+-- ---- lines
+
+-- Law: of a frame of n bytes.
+pub message-room : (i : ℕ) (f : List ℕ) (m : Message) (n : ℕ) → i < 2 ^ 64 → m .count < 2 ^ 64 → Named n m → length (messageLine i f m) ≤ 2 * n + 128
+unfolding messageLine
+message-room i f m n h c in-frame =
+    let name = part f (m .start) (m .len) in
+    omega (
+      arith,
+      message-length (decimal i) (shown name) (decimal (m .count)),
+      message-front (decimal i),
+      message-back (decimal (m .count)),
+      decimal-most i h,
+      decimal-most (m .count) c,
+      shown-most name,
+      part-most f (m .start) (m .len),
+      in-frame,
+    )
+
+pub pair-room : (k : ℕ) (f : List ℕ) (p : Pair) (n : ℕ) → k < 2 ^ 64 → Whole n p → length (pairLine k f p) ≤ 2 * n + 128
+unfolding pairLine
+pair-room k f p n h w =
+    let v = p .value in
+    let kind = writable-kind (v .kind) (v .a) (v .b) (w .fields) in
+    let all = pair-length (decimal k) (shown (keyOf f p)) (decimal (v .kind)) (valueText f (recordOf v)) in
+    let words = pair-front (decimal k) in
+    let more = pair-back (decimal (v .kind)) in
+    let digits = decimal-most k h in
+    let few = decimal-most (v .kind) (omega arith) in
+    let key = shown-most (keyOf f p) in
+    let short = part-most f (p .start) (p .len) in
+    ⊎-elim
+    (λ o. omega (arith, all, words, more, digits, few, key, short, o .1, w .both (o .0)))
+    (λ o. omega (arith, all, words, more, digits, few, key, short, o, w .key))
+    (value-most f (v .kind) (v .a) (v .b) (w .fields))
+
+-- Law: so no line of an accepted frame is refused where 2n + 128 bytes are lent.
+pub accepted-room : (rooms : Rooms) (f : List ℕ) (m : Metadata) (c : Contents) (used k : ℕ) → wholeFrame rooms f ≡ done (m, c) used → k < 2 ^ 64
+    → Each (λ (x : Message). x .count < 2 ^ 64 → length (messageLine k f x) ≤ 2 * used + 128) (c .messages)
+    × Each (λ (p : Pair). length (pairLine k f p) ≤ 2 * used + 128) (c .pairs)
+accepted-room rooms f m c used k e h =
+    let o = whole-held rooms f m c used e in
+    rw (o .1) (of-messages (c .messages) (o .0 .messages), of-pairs (c .pairs) (o .0 .pairs))
+  where
+    of-messages : (xs : List Message) → Each (Named (length f)) xs → Each (λ (x : Message). x .count < 2 ^ 64 → length (messageLine k f x) ≤ 2 * length f + 128) xs
+    of-messages [] w = tt
+    of-messages (x ∷ xs) w = (λ l. message-room k f x (length f) h l (w .0), of-messages xs (w .1))
+
+    of-pairs : (ps : List Pair) → Each (Whole (length f)) ps → Each (λ (p : Pair). length (pairLine k f p) ≤ 2 * length f + 128) ps
+    of-pairs [] w = tt
+    of-pairs (p ∷ ps) w = (pair-room k f p (length f) h (w .0), of-pairs ps (w .1))

@@ -1,0 +1,153 @@
+-- Laws about the tables of an accepted frame: they hold its records, and the steps over them give its lines.
+use mathlib.Core.Path.{_≡_, refl, sym, ap, ap₂, _∙_}
+use mathlib.Core.List.{List, [], _∷_, _++_}
+use Prim.Native.Nat.{ℕ, zero, suc, _+_, _*_, _≤_, _<_}
+use native.Mathlib.Omega.{arith}
+use lib.ListN.{length, take, length-append}
+use lib.Seq.{length-take-le}
+use borrow.Author.Tests.{le-leb}
+use Rattle.answer.specs.Answer.{done, written}
+use Rattle.answer.specs.Order.{first}
+use Rattle.answer.specs.Table.{records, joined}
+use Rattle.answer.proofs.Cases.{bool-cases}
+use Rattle.answer.proofs.Order.{first-none, first-holds}
+use Rattle.answer.proofs.Records.{records-none, joined-on}
+use Rattle.types.specs.Value.{points, shape}
+use Rattle.frame.specs.declared.Pair.{Pair}
+use Rattle.frame.specs.declared.Message.{Message}
+use Rattle.frame.specs.Records.{messageAt, pairAt, messageNumbers, pairNumbers}
+use Rattle.parser.specs.declared.Metadata.{Metadata}
+use Rattle.parser.specs.Payload.{Contents}
+use Rattle.parser.specs.Frame.{answered, frameRead}
+use Rattle.parser.specs.Promise.{roomsOf, contentsRead, Fills}
+use Rattle.parser.proofs.Filling.{joined-width}
+use Rattle.listing.specs.Lines.{frameLine, messageLine, pairLine}
+use Rattle.listing.specs.Check.{messageChecks, pairChecks}
+use Rattle.listing.specs.Order.{messageAnswer, pairAnswer}
+use Rattle.listing.proofs.Frames.{itemLines, frameLines}
+use Rattle.listing.proofs.Pieces.{after-none, message-inside, pair-rest}
+use Rattle.listing.proofs.Coming.{after-holds}
+use Rattle.listing.proofs.Accepted.{Each, Named, Whole, whole-held, frame-used}
+use Rattle.listing.proofs.Stepped.{steps, steps-lines}
+
+-- ---- what a table holds
+
+-- records that are the same from the next on
+records-later : {A : Type 0} (at other : ℕ → A) → ((i : ℕ) → at (suc i) ≡ other i) → (n i : ℕ) → records at (suc i) n ≡ records other i n
+unfolding records
+records-later at other e zero i = refl
+records-later at other e (suc n) i = ap₂ _∷_ (e i) (records-later at other e n (suc i))
+
+records-first : {A : Type 0} (at : ℕ → A) (n : ℕ) → records at 0 (suc n) ≡ at 0 ∷ records at 1 n
+unfolding records
+records-first at n = refl
+
+message-later : (a b c d : ℕ) (t : List ℕ) (i : ℕ) → messageAt (a ∷ b ∷ c ∷ d ∷ t) (suc i) ≡ messageAt t i
+unfolding messageAt
+message-later a b c d t i =
+    let on : (k : ℕ) → suc i * 4 + k ≡ suc (suc (suc (suc (i * 4 + k)))) = λ k. omega arith in
+    rw (on 0, on 1, on 2, on 3)
+
+pair-later : (a b c d e : ℕ) (t : List ℕ) (i : ℕ) → pairAt (a ∷ b ∷ c ∷ d ∷ e ∷ t) (suc i) ≡ pairAt t i
+unfolding pairAt
+pair-later a b c d e t i =
+    let on : (k : ℕ) → suc i * 5 + k ≡ suc (suc (suc (suc (suc (i * 5 + k))))) = λ k. omega arith in
+    rw (on 0, on 1, on 2, on 3, on 4)
+
+message-here : (a b c d : ℕ) (t : List ℕ) → messageAt (a ∷ b ∷ c ∷ d ∷ t) 0 ≡ record { start = a; len = b; first = c; count = d }
+unfolding messageAt
+message-here a b c d t = refl
+
+pair-here : (a b c d e : ℕ) (t : List ℕ) → pairAt (a ∷ b ∷ c ∷ d ∷ e ∷ t) 0 ≡ record { start = a; len = b; value = record { kind = c; a = d; b = e } }
+unfolding pairAt
+pair-here a b c d e t = refl
+
+-- Law: a table with the numbers of some records at its front holds them.
+table-messages : (ms : List Message) (t : List ℕ) → records (messageAt (joined messageNumbers ms ++ t)) 0 (length ms) ≡ ms
+table-messages [] t = records-none (messageAt (joined messageNumbers [] ++ t)) 0
+table-messages (m ∷ ms) t =
+    let rest = joined messageNumbers ms ++ t in
+    let all = m .start ∷ m .len ∷ m .first ∷ m .count ∷ rest in
+    ap (λ (l : List ℕ). records (messageAt (l ++ t)) 0 (suc (length ms))) (joined-on messageNumbers m ms)
+    ∙ records-first (messageAt all) (length ms)
+    ∙ ap₂ _∷_ (message-here (m .start) (m .len) (m .first) (m .count) rest)
+    (records-later (messageAt all) (messageAt rest) (message-later (m .start) (m .len) (m .first) (m .count) rest) (length ms) 0 ∙ table-messages ms t)
+
+table-pairs : (ps : List Pair) (t : List ℕ) → records (pairAt (joined pairNumbers ps ++ t)) 0 (length ps) ≡ ps
+table-pairs [] t = records-none (pairAt (joined pairNumbers [] ++ t)) 0
+table-pairs (p ∷ ps) t =
+    let rest = joined pairNumbers ps ++ t in
+    let all = p .start ∷ p .len ∷ p .value .kind ∷ p .value .a ∷ p .value .b ∷ rest in
+    ap (λ (l : List ℕ). records (pairAt (l ++ t)) 0 (suc (length ps))) (joined-on pairNumbers p ps)
+    ∙ records-first (pairAt all) (length ps)
+    ∙ ap₂ _∷_ (pair-here (p .start) (p .len) (p .value .kind) (p .value .a) (p .value .b) rest)
+    (records-later (pairAt all) (pairAt rest) (pair-later (p .start) (p .len) (p .value .kind) (p .value .a) (p .value .b) rest) (length ps) 0 ∙ table-pairs ps t)
+
+-- each of them
+each-at : {A : Type 0} (P : A → Type 0) (at : ℕ → A) (n j : ℕ) → Each P (records at j n) → (i : ℕ) → i < n → P (at (j + i))
+unfolding records
+each-at P at zero j e i h = absurd (omega arith)
+each-at P at (suc n) j e zero h = let here : j + 0 ≡ j = omega arith in rw here (e .0)
+each-at P at (suc n) j e (suc i) h = let here : j + suc i ≡ suc j + i = omega arith in rw here (each-at P at n (suc j) (e .1) i (omega arith))
+
+-- ---- records of an accepted frame pass their checks
+
+message-passes : (f : List ℕ) (m : Message) → Named (length f) m → first (messageChecks f m) ≡ 0
+message-passes f m h = message-inside f m (le-leb (m .start + m .len) (length f) h)
+
+pair-passes : (f : List ℕ) (p : Pair) → Whole (length f) p → first (pairChecks f p) ≡ 0
+pair-passes f p h =
+    pair-rest f p (h .fields) (le-leb (p .start + p .len) (length f) (h .key))
+    ∙ first-holds 16 _ [] (bool-cases (points (shape (p .value .kind))) (λ t. rw t (le-leb (p .value .a + p .value .b) (length f) (h .range t))) (λ t. rw t))
+    ∙ first-none
+
+-- ---- the steps over an accepted frame's tables
+
+module _ (f messages pairs : List ℕ) (c : Contents) (n : ℕ) (long : n ≡ length f)
+    (held : Each (Named n) (c .messages) × Each (Whole n) (c .pairs)) (behindMessages behindPairs : List ℕ)
+    (inMessages : messages ≡ joined messageNumbers (c .messages) ++ behindMessages)
+    (inPairs : pairs ≡ joined pairNumbers (c .pairs) ++ behindPairs) where
+  hold-messages : records (messageAt messages) 0 (length (c .messages)) ≡ c .messages
+  hold-messages = rw inMessages (table-messages (c .messages) behindMessages)
+
+  hold-pairs : records (pairAt pairs) 0 (length (c .pairs)) ≡ c .pairs
+  hold-pairs = rw inPairs (table-pairs (c .pairs) behindPairs)
+
+  named : (i : ℕ) → i < length (c .messages) → messageAnswer f messages i ≡ written (messageLine i f (messageAt messages i))
+  named i h =
+      let wide = joined-width messageNumbers 4 (λ m. refl) (c .messages) in
+      let room : (i + 1) * 4 ≤ length messages = omega (arith, ap length inMessages, length-append (joined messageNumbers (c .messages)) behindMessages, wide) in
+      let here : 0 + i ≡ i = omega arith in
+      let there : Named n (messageAt messages i) = rw here at (each-at (Named n) (messageAt messages) (length (c .messages)) 0 (rw hold-messages (held .0)) i h) in
+      after-holds 16 _ (messageChecks f (messageAt messages i)) (written (messageLine i f (messageAt messages i))) (le-leb ((i + 1) * 4) (length messages) room)
+      ∙ after-none (messageChecks f (messageAt messages i)) (written (messageLine i f (messageAt messages i))) (message-passes f (messageAt messages i) (rw long at there))
+
+  paired : (k : ℕ) → k < length (c .pairs) → pairAnswer f pairs k ≡ written (pairLine k f (pairAt pairs k))
+  paired k h =
+      let wide = joined-width pairNumbers 5 (λ p. refl) (c .pairs) in
+      let room : (k + 1) * 5 ≤ length pairs = omega (arith, ap length inPairs, length-append (joined pairNumbers (c .pairs)) behindPairs, wide) in
+      let here : 0 + k ≡ k = omega arith in
+      let there : Whole n (pairAt pairs k) = rw here at (each-at (Whole n) (pairAt pairs) (length (c .pairs)) 0 (rw hold-pairs (held .1)) k h) in
+      after-holds 16 _ (pairChecks f (pairAt pairs k)) (written (pairLine k f (pairAt pairs k))) (le-leb ((k + 1) * 5) (length pairs) room)
+      ∙ after-none (pairChecks f (pairAt pairs k)) (written (pairLine k f (pairAt pairs k))) (pair-passes f (pairAt pairs k) (rw long at there))
+
+  steps-contents : steps f messages (length (c .messages)) pairs (length (c .pairs)) (length (c .messages) + length (c .pairs)) (record { messages = 0; pairs = 0; left = 0 })
+      ≡ itemLines f 0 0 (c .messages) (c .pairs)
+  steps-contents =
+      steps-lines f messages (length (c .messages)) pairs (length (c .pairs)) named paired
+      ∙ ap₂ (itemLines f 0 0) hold-messages hold-pairs
+
+-- Law: over the tables that the reader left of an accepted frame, the steps from the first place on are its lines, in order, behind its own.
+pub accepted-lines : (limit index : ℕ) (s oldMessages newMessages oldPairs newPairs : List ℕ) (m : Metadata) (c : Contents) (used : ℕ)
+    → frameRead limit (roomsOf oldMessages oldPairs) s ≡ answered (done (m, c) used)
+    → Fills (contentsRead (frameRead limit (roomsOf oldMessages oldPairs) s)) oldMessages newMessages oldPairs newPairs
+    → frameLine index m used
+    ++ steps (take used s) newMessages (length (c .messages)) newPairs (length (c .pairs)) (length (c .messages) + length (c .pairs)) (record { messages = 0; pairs = 0; left = 0 })
+    ≡ frameLines index (take used s) m c
+unfolding frameLines
+accepted-lines limit index s oldMessages newMessages oldPairs newPairs m c used e fills =
+    let o = frame-used limit (roomsOf oldMessages oldPairs) s m c used e in
+    let h = whole-held (roomsOf oldMessages oldPairs) (take used s) m c used (o .2) in
+    let long = length-take-le used s (o .1) in
+    ap₂ (λ (n : ℕ) (l : List ℕ). frameLine index m n ++ l) (sym long)
+    (steps-contents (take used s) newMessages newPairs c (length (take used s)) refl (h .0 .messages, h .0 .pairs) _ _ (rw e at (fills .messages)) (rw e at (fills .pairs)))

@@ -1,0 +1,96 @@
+-- `listing::digits::put_hex` meets its contract. The loop's invariant: the digits are partly written, and what is left to write are those of
+-- the bytes from `i` on. Each turn writes two.
+-- Assumes nothing.
+use mathlib.Core.Path.{_≡_}
+use mathlib.Core.List.{_∷_}
+use Prim.Native.Nat.{_+_, _-_, _/_, _%_}
+use native.Mathlib.Omega.{arith}
+use lib.ListN.{length, drop, set, getD}
+use Rattle.answer.specs.Table.{joined}
+use Rattle.answer.proofs.Output.{Partly, partly-none, partly-next, partly-place, partly-length}
+use Rattle.listing.specs.Digits.{glyph, hexPair}
+use Rattle.listing.proofs.Text.{hex-on, hex-end, all-put}
+use Rattle.listing.proofs.digits.put_hex.Statement.{statement}
+use Rattle.listing.proofs.digits.put_hex.Tie as tie
+
+abbrev Inv-loop : tie.InvT-loop
+Inv-loop bytes out₀ at₀ i₀ out at i = Partly (joined hexPair bytes) out₀ at (joined hexPair (drop i bytes)) out
+
+abbrev μ-loop : tie.MeasureT-loop
+μ-loop bytes out₀ at₀ i₀ out at i = length bytes - i
+
+-- what is left to write starts with the two digits of the next byte, and after the first with the second
+two : (c : tie.In-loop Inv-loop μ-loop)
+    → let a = c .before .before .before .before .args in
+    let l = c .before .loop in
+    Partly (joined hexPair (a .bytes .now)) (a .out .now) (l .at)
+    (glyph (getD (a .bytes .now) (l .i) 0 / 16) ∷ glyph (getD (a .bytes .now) (l .i) 0 % 16) ∷ joined hexPair (drop (l .i + 1) (a .bytes .now))) (l .out)
+two c = rw (hex-on _ _ (c .loop-test .taken)) at (c .before .loop .inv)
+
+one : (c : tie.In-loop Inv-loop μ-loop)
+    → let a = c .before .before .before .before .args in
+    let l = c .before .loop in
+    Partly (joined hexPair (a .bytes .now)) (a .out .now) (l .at + 1)
+    (glyph (getD (a .bytes .now) (l .i) 0 % 16) ∷ joined hexPair (drop (l .i + 1) (a .bytes .now))) (set (l .out) (l .at) (glyph (getD (a .bytes .now) (l .i) 0 / 16)))
+one c = partly-next (two c)
+
+loop-holds : tie.Need-loop-holds Inv-loop μ-loop
+loop-holds c = partly-none _ _ (c .before .before .pre)
+
+shared-slice-read-byte : tie.Need-shared-slice-read-byte Inv-loop μ-loop
+shared-slice-read-byte c = omega arith
+
+glyph-requires : tie.Need-glyph-requires Inv-loop μ-loop
+glyph-requires c κs = omega (arith, c .shared-slice-known2 .given (c .before .before .loop .i))
+
+slice-write-out : tie.Need-slice-write-out Inv-loop μ-loop
+slice-write-out c = partly-place (two (c .before .before))
+
+glyph-requires-2 : tie.Need-glyph-requires-2 Inv-loop μ-loop
+glyph-requires-2 c κs = omega arith
+
+add-out : tie.Need-add-out Inv-loop μ-loop
+add-out c = omega (arith, partly-place (one (c .before .before .before)), partly-length (two (c .before .before .before)))
+
+slice-write-out-2 : tie.Need-slice-write-out-2 Inv-loop μ-loop
+slice-write-out-2 c = rw (c .before .glyph .ensures) (partly-place (one (c .before .before .before)))
+
+add-at : tie.Need-add-at Inv-loop μ-loop
+add-at c = omega (arith, partly-place (one (c .before .before .before)))
+
+add-i : tie.Need-add-i Inv-loop μ-loop
+add-i c = omega arith
+
+loop-less : tie.Need-loop-less Inv-loop μ-loop
+loop-less c = omega arith
+
+loop-again : tie.Need-loop-again Inv-loop μ-loop
+loop-again c = let l = c .before .before .before in
+    let e : l .before .loop .at + 2 ≡ l .before .loop .at + 1 + 1 = omega arith in
+    rw (e, c .before .glyph .ensures, c .glyph2 .ensures) (partly-next (one l))
+
+same-length : tie.Need-same-length Inv-loop μ-loop
+same-length c = partly-length (c .before .loop .inv)
+
+returns : tie.Need-returns Inv-loop μ-loop
+returns c = all-put (rw (hex-end _ _ (c .loop-test .left)) at (c .before .loop .inv))
+
+pub put-hex-spec : {M : Type 1} → statement M
+put-hex-spec =
+    tie.close
+    (tie.spec
+    Inv-loop
+    μ-loop
+    loop-holds
+    shared-slice-read-byte
+    glyph-requires
+    slice-write-out
+    glyph-requires-2
+    add-out
+    slice-write-out-2
+    add-at
+    add-i
+    loop-less
+    loop-again
+    same-length
+    returns)

@@ -1,0 +1,156 @@
+-- `listing::line::put_pair` meets its contract: the words before the key, the key, the words with the kind, the value and the line's end, each
+-- in the tail behind the part before it.
+-- Assumes nothing.
+use mathlib.Core.List.{[], _∷_, _++_}
+use Prim.Native.Nat.{_+_, _-_}
+use native.Mathlib.Omega.{arith}
+use lib.ListN.{length, length-set}
+use borrow.Rule.Slice.PartMut.{putMid}
+use Rattle.answer.proofs.Output.{Partly, partly-next, partly-place, partly-length}
+use Rattle.types.specs.Promise.{recordOf}
+use Rattle.listing.specs.Digits.{decimal, shown}
+use Rattle.listing.specs.Lines.{filled, valueText, pairText}
+use Rattle.listing.proofs.Text.{begin, all-put, Next, next-start, next-room, next-most, next-on}
+use Rattle.listing.proofs.Pieces.{pairBack, pair-parts, pair-length}
+use borrow.Author.Needs.{needs}
+use Rattle.listing.proofs.line.put_pair.Statement.{statement}
+use Rattle.listing.proofs.line.put_pair.Tie as tie
+
+-- the words before the key are written
+keyed : (c : tie.After-slice-known2)
+    → let a = c .before .before .before .before .before .before .before .before .before .args in
+    let p = c .before .before .put-filled in
+    Next (pairText (a .index) (a .key .now) (a .frame .now) (a .value)) (a .out .now) (p .result) (shown (a .key .now)) (filled pairBack (decimal (a .value .kind) ∷ []) ++ ((valueText (a .frame .now) (recordOf (a .value))) ++ (10 ∷ []))) (p .last .1 .1 .0)
+keyed c =
+    let a = c .before .before .before .before .before .before .before .before .before in
+    let e = pair-parts (decimal (a .args .index)) (shown (a .args .key .now)) (decimal (a .args .value .kind)) (valueText (a .args .frame .now) (recordOf (a .args .value))) in
+    record { left = rw e (begin (c .before .before .put-filled .ensures) (rw e at (a .pre .1))) }
+
+-- and the key
+kinded : (c : tie.After-slice-known3)
+    → let a = c .before .before .before .before .before .before .before .before .before .before .before .before .before .args in
+    let p = c .before .before .before .before .before .before .put-filled in
+    let q = c .before .before .put-shown in
+    Next (pairText (a .index) (a .key .now) (a .frame .now) (a .value)) (a .out .now) (p .result + q .result) (filled pairBack (decimal (a .value .kind) ∷ [])) ((valueText (a .frame .now) (recordOf (a .value))) ++ (10 ∷ [])) (putMid (p .result) (length (p .last .1 .1 .0) - (p .result)) (p .last .1 .1 .0) (q .last .1 .0))
+kinded c = record { left = next-on (keyed (c .before .before .before .before)) (c .before .before .put-shown .ensures) }
+
+-- and the kind
+valued : (c : tie.After-slice-known4)
+    → let a = c .before .before .before .before .before .before .before .before .before .before .before .before .before .before .before .before .before .before .before .args in
+    let p = c .before .before .before .before .before .before .before .before .before .before .before .before .put-filled in
+    let q = c .before .before .before .before .before .before .before .before .put-shown in
+    let r = c .before .before .put-filled2 in
+    Next (pairText (a .index) (a .key .now) (a .frame .now) (a .value)) (a .out .now) (p .result + q .result + r .result) (valueText (a .frame .now) (recordOf (a .value))) (10 ∷ []) (putMid (p .result + q .result) (length (putMid (p .result) (length (p .last .1 .1 .0) - (p .result)) (p .last .1 .1 .0) (q .last .1 .0)) - (p .result + q .result)) (putMid (p .result) (length (p .last .1 .1 .0) - (p .result)) (p .last .1 .1 .0) (q .last .1 .0)) (r .last .1 .1 .0))
+valued c = record { left = next-on (kinded (c .before .before .before .before .before .before)) (c .before .before .put-filled2 .ensures) }
+
+-- and the value
+ended : (c : tie.After-slice-known5)
+    → let a = c .before .before .before .before .before .before .before .before .before .before .before .before .before .before .before .before .before .before .before .before .before .before .before .args in
+    let p = c .before .before .before .before .before .before .before .before .before .before .before .before .before .before .before .before .put-filled in
+    let q = c .before .before .before .before .before .before .before .before .before .before .before .before .put-shown in
+    let r = c .before .before .before .before .before .before .put-filled2 in
+    let t = c .before .before .put-text in
+    Partly (pairText (a .index) (a .key .now) (a .frame .now) (a .value)) (a .out .now) (p .result + q .result + r .result + t .result) (10 ∷ []) (putMid (p .result + q .result + r .result) (length (putMid (p .result + q .result) (length (putMid (p .result) (length (p .last .1 .1 .0) - (p .result)) (p .last .1 .1 .0) (q .last .1 .0)) - (p .result + q .result)) (putMid (p .result) (length (p .last .1 .1 .0) - (p .result)) (p .last .1 .1 .0) (q .last .1 .0)) (r .last .1 .1 .0)) - (p .result + q .result + r .result)) (putMid (p .result + q .result) (length (putMid (p .result) (length (p .last .1 .1 .0) - (p .result)) (p .last .1 .1 .0) (q .last .1 .0)) - (p .result + q .result)) (putMid (p .result) (length (p .last .1 .1 .0) - (p .result)) (p .last .1 .1 .0) (q .last .1 .0)) (r .last .1 .1 .0)) (t .last .1 .1 .0))
+ended c = next-on (valued (c .before .before .before .before)) (c .before .before .put-text .ensures)
+
+slice-aggregate-put-filled : tie.Need-slice-aggregate-put-filled
+slice-aggregate-put-filled c = search needs
+
+slice-aggregate-put-filled-2 : tie.Need-slice-aggregate-put-filled-2
+slice-aggregate-put-filled-2 c = search needs
+
+put-filled-requires : tie.Need-put-filled-requires
+put-filled-requires c κs = let a = c .before .before .before .before .before .before in
+    omega (arith, a .pre .1, pair-length (decimal (a .args .index)) (shown (a .args .key .now)) (decimal (a .args .value .kind)) (valueText (a .args .frame .now) (recordOf (a .args .value))))
+
+sub-put-shown : tie.Need-sub-put-shown
+sub-put-shown c = next-start (keyed c)
+
+part-put-shown-start : tie.Need-part-put-shown-start
+part-put-shown-start c = next-start (keyed c)
+
+part-put-shown-end : tie.Need-part-put-shown-end
+part-put-shown-end c = search needs
+
+put-shown-requires : tie.Need-put-shown-requires
+put-shown-requires c κs = next-room (keyed (c .before))
+
+add-at : tie.Need-add-at
+add-at c = omega (arith, next-most (keyed (c .before .before .before .before)) (c .before .before .put-shown .ensures), c .before .before .before .before .before .before .before .before .before .before .before .before .before .good)
+
+slice-aggregate-put-filled-3 : tie.Need-slice-aggregate-put-filled-3
+slice-aggregate-put-filled-3 c = search needs
+
+slice-aggregate-put-filled-4 : tie.Need-slice-aggregate-put-filled-4
+slice-aggregate-put-filled-4 c = search needs
+
+sub-put-filled : tie.Need-sub-put-filled
+sub-put-filled c = next-start (kinded (c .before .before))
+
+part-put-filled-start : tie.Need-part-put-filled-start
+part-put-filled-start c = next-start (kinded (c .before .before))
+
+part-put-filled-end : tie.Need-part-put-filled-end
+part-put-filled-end c = search needs
+
+put-filled-requires-2 : tie.Need-put-filled-requires-2
+put-filled-requires-2 c κs = next-room (kinded (c .before .before .before))
+
+add-at-2 : tie.Need-add-at-2
+add-at-2 c = omega (arith, next-most (kinded (c .before .before .before .before .before .before)) (c .before .before .put-filled2 .ensures), c .before .before .before .before .before .before .before .before .before .before .before .before .before .before .before .before .before .before .before .good)
+
+sub-put-text : tie.Need-sub-put-text
+sub-put-text c = next-start (valued c)
+
+part-put-text-start : tie.Need-part-put-text-start
+part-put-text-start c = next-start (valued c)
+
+part-put-text-end : tie.Need-part-put-text-end
+part-put-text-end c = search needs
+
+put-text-requires : tie.Need-put-text-requires
+put-text-requires c κs = (c .before .before .before .before .before .before .before .before .before .before .before .before .before .before .before .before .before .before .before .before .pre .0, next-room (valued (c .before)))
+
+add-at-3 : tie.Need-add-at-3
+add-at-3 c = omega (arith, next-most (valued (c .before .before .before .before)) (c .before .before .put-text .ensures), c .before .before .before .before .before .before .before .before .before .before .before .before .before .before .before .before .before .before .before .before .before .before .before .good)
+
+slice-write-out : tie.Need-slice-write-out
+slice-write-out c = partly-place (ended c)
+
+add-result : tie.Need-add-result
+add-result c = omega (arith, partly-place (ended c), partly-length (ended c), c .before .before .before .before .before .before .before .before .before .before .before .before .before .before .before .before .before .before .before .before .before .before .before .good)
+
+same-length : tie.Need-same-length
+same-length c = simp (length-set, partly-length (ended c))
+
+returns : tie.Need-returns
+returns c = all-put (partly-next (ended c))
+
+pub put-pair-spec : {M : Type 1} → statement M
+put-pair-spec =
+    tie.close
+    (tie.spec
+    slice-aggregate-put-filled
+    slice-aggregate-put-filled-2
+    put-filled-requires
+    sub-put-shown
+    part-put-shown-start
+    part-put-shown-end
+    put-shown-requires
+    add-at
+    slice-aggregate-put-filled-3
+    slice-aggregate-put-filled-4
+    sub-put-filled
+    part-put-filled-start
+    part-put-filled-end
+    put-filled-requires-2
+    add-at-2
+    sub-put-text
+    part-put-text-start
+    part-put-text-end
+    put-text-requires
+    add-at-3
+    slice-write-out
+    add-result
+    same-length
+    returns)

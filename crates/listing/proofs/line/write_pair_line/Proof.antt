@@ -1,0 +1,78 @@
+-- `listing::line::write_pair_line` meets its contract: the pair is refused, or `write_pair` writes its line.
+-- Assumes nothing.
+use mathlib.Core.Path.{_≡_, sym, _∙_}
+use Prim.Native.Nat.{_+_, _≤_}
+use native.Mathlib.Omega.{arith}
+use lib.ListN.{length}
+use borrow.Author.Tests.{leb-true}
+use Rattle.answer.specs.Answer.{written}
+use Rattle.answer.specs.Order.{first}
+use Rattle.answer.proofs.Output.{writes-refusal}
+use Rattle.types.proofs.Writing.{part-lent}
+use Rattle.listing.specs.Lines.{pairLine}
+use Rattle.listing.specs.Check.{pairChecks}
+use Rattle.listing.proofs.Pieces.{after-refused, after-none, pair-passed}
+use borrow.Author.Needs.{needs}
+use Rattle.listing.proofs.line.write_pair_line.Statement.{statement}
+use Rattle.listing.proofs.line.write_pair_line.Tie as tie
+
+none : (c : tie.Else1) → let a = c .before .before .before .before .args in first (pairChecks (a .frame .now) (a .pair)) ≡ 0
+none c = sym (c .before .check-pair .ensures) ∙ c .if1 .left
+
+ends : (c : tie.Else1) → let a = c .before .before .before .before .args in a .pair .start + a .pair .len ≤ length (a .frame .now)
+ends c = let a = c .before .before .before .before .args in leb-true _ _ (pair-passed (a .frame .now) (a .pair) (none c) .1)
+
+check-pair-requires : tie.Need-check-pair-requires
+check-pair-requires c κs = search needs
+
+refused-requires : tie.Need-refused-requires
+refused-requires c κs = search needs
+
+returns : tie.Need-returns
+returns c = let a = c .before .before .before .before .before .args in
+    let f = a .frame .now in
+    rw (c .refused .ensures)
+    (writes-refusal (length (a .out .now)) (c .before .before .check-pair .result) 0 (a .out .now)
+    (after-refused (pairChecks f (a .pair)) (written (pairLine (a .index) f (a .pair))) _ (c .before .before .check-pair .ensures) (c .before .if1 .taken)))
+
+add-to : tie.Need-add-to
+add-to c = omega (arith, ends c, c .before .before .before .before .good)
+
+sub-write-pair : tie.Need-sub-write-pair
+sub-write-pair c = search needs
+
+part-write-pair-start : tie.Need-part-write-pair-start
+part-write-pair-start c = search needs
+
+part-write-pair-end : tie.Need-part-write-pair-end
+part-write-pair-end c = ends c
+
+write-pair-requires : tie.Need-write-pair-requires
+write-pair-requires c κs = let a = c .before .before .before .before .before .before .args in
+    let p = pair-passed (a .frame .now) (a .pair) (none (c .before .before)) in
+    record { fields = p .0; range = p .2 }
+
+same-length : tie.Need-same-length
+same-length c = search needs
+
+returns-2 : tie.Need-returns-2
+unfolding pairLine
+returns-2 c = let a = c .before .before .before .before .before .before .before .before .before .args in
+    let f = a .frame .now in
+    rw (after-none (pairChecks f (a .pair)) (written (pairLine (a .index) f (a .pair))) (none (c .before .before .before .before .before)))
+    (rw part-lent at (c .before .before .write-pair .ensures))
+
+pub write-pair-line-spec : {M : Type 1} → statement M
+write-pair-line-spec =
+    tie.close
+    (tie.spec
+    check-pair-requires
+    refused-requires
+    returns
+    add-to
+    sub-write-pair
+    part-write-pair-start
+    part-write-pair-end
+    write-pair-requires
+    same-length
+    returns-2)

@@ -1,0 +1,59 @@
+-- `listing::order::write_message_at` meets its contract: its table does not have the message, or its line is what `write_message_line` writes.
+-- Assumes nothing.
+use Prim.Native.Nat.{_+_, _*_}
+use native.Mathlib.Omega.{arith}
+use lib.ListN.{length}
+use borrow.Author.Tests.{le-leb, lt-leb}
+use Rattle.answer.specs.Answer.{written}
+use Rattle.frame.specs.Records.{messageAt}
+use Rattle.listing.specs.Lines.{messageLine}
+use Rattle.listing.specs.Check.{messageChecks}
+use Rattle.listing.specs.Order.{behindMessage}
+use Rattle.listing.proofs.Coming.{comes-line, comes-refused, after-holds, after-fails}
+use borrow.Author.Needs.{needs}
+use Rattle.listing.proofs.order.write_message_at.Statement.{statement}
+use Rattle.listing.proofs.order.write_message_at.Tie as tie
+
+returns : tie.Need-returns
+returns c = let a = c .before .before .before .before .args in
+    let k = a .place .messages in
+    let x = messageAt (a .messages .now) k in
+    comes-refused 16 _ (a .out .now)
+    (after-fails 16 _ (messageChecks (a .frame .now) x) (written (messageLine k (a .frame .now) x))
+    (lt-leb ((k + 1) * 4) (length (a .messages .now)) (omega (arith, c .if1 .taken))) (λ z. omega arith))
+
+message-at-requires : tie.Need-message-at-requires
+message-at-requires c κs = search needs
+
+write-message-line-requires : tie.Need-write-message-line-requires
+write-message-line-requires c κs = search needs
+
+add-step : tie.Need-add-step
+add-step c = search needs
+
+step-requires : tie.Need-step-requires
+step-requires c κs = search needs
+
+same-length : tie.Need-same-length
+same-length c = search needs
+
+returns-2 : tie.Need-returns-2
+returns-2 c = let a = c .before .before .before .before .before .before .before .before .before .before .args in
+    let k = a .place .messages in
+    let x = messageAt (a .messages .now) k in
+    comes-line {answer = c .before .before .before .write-message-line .result} (behindMessage (a .place) (x .count))
+    (rw (after-holds 16 _ (messageChecks (a .frame .now) x) (written (messageLine k (a .frame .now) x)) (le-leb ((k + 1) * 4) (length (a .messages .now)) (omega (arith, c .before .before .before .before .before .before .if1 .left))))
+    (rw (c .before .before .before .before .before .message-at .ensures) at (c .before .before .before .write-message-line .ensures)))
+    (rw (c .before .before .before .before .before .message-at .ensures) at (c .step .ensures))
+
+pub write-message-at-spec : {M : Type 1} → statement M
+write-message-at-spec =
+    tie.close
+    (tie.spec
+    returns
+    message-at-requires
+    write-message-line-requires
+    add-step
+    step-requires
+    same-length
+    returns-2)

@@ -1,0 +1,63 @@
+-- `listing::order::write_pair_at` meets its contract: its table does not have the pair, or its line is what `write_pair_line` writes.
+-- Assumes nothing.
+use Prim.Native.Nat.{_+_, _*_}
+use native.Mathlib.Omega.{arith}
+use lib.ListN.{length}
+use borrow.Author.Tests.{le-leb, lt-leb}
+use Rattle.answer.specs.Answer.{written}
+use Rattle.frame.specs.Records.{pairAt}
+use Rattle.listing.specs.Lines.{pairLine}
+use Rattle.listing.specs.Check.{pairChecks}
+use Rattle.listing.specs.Order.{behindPair}
+use Rattle.listing.proofs.Coming.{comes-line, comes-refused, after-holds, after-fails}
+use borrow.Author.Needs.{needs}
+use Rattle.listing.proofs.order.write_pair_at.Statement.{statement}
+use Rattle.listing.proofs.order.write_pair_at.Tie as tie
+
+returns : tie.Need-returns
+returns c = let a = c .before .before .before .before .args in
+    let k = a .place .pairs in
+    let x = pairAt (a .pairs .now) k in
+    comes-refused 16 _ (a .out .now)
+    (after-fails 16 _ (pairChecks (a .frame .now) x) (written (pairLine k (a .frame .now) x))
+    (lt-leb ((k + 1) * 5) (length (a .pairs .now)) (omega (arith, c .if1 .taken))) (λ z. omega arith))
+
+pair-at-requires : tie.Need-pair-at-requires
+pair-at-requires c κs = search needs
+
+write-pair-line-requires : tie.Need-write-pair-line-requires
+write-pair-line-requires c κs = search needs
+
+add-step : tie.Need-add-step
+add-step c = search needs
+
+less-requires : tie.Need-less-requires
+less-requires c κs = search needs
+
+step-requires : tie.Need-step-requires
+step-requires c κs = search needs
+
+same-length : tie.Need-same-length
+same-length c = search needs
+
+returns-2 : tie.Need-returns-2
+returns-2 c = let a = c .before .before .before .before .before .before .before .before .before .before .before .args in
+    let k = a .place .pairs in
+    let x = pairAt (a .pairs .now) k in
+    comes-line {answer = c .before .before .before .before .write-pair-line .result} (behindPair (a .place))
+    (rw (after-holds 16 _ (pairChecks (a .frame .now) x) (written (pairLine k (a .frame .now) x)) (le-leb ((k + 1) * 5) (length (a .pairs .now)) (omega (arith, c .before .before .before .before .before .before .before .if1 .left))))
+    (rw (c .before .before .before .before .before .before .pair-at .ensures) at (c .before .before .before .before .write-pair-line .ensures)))
+    (rw (c .before .less .ensures) at (c .step .ensures))
+
+pub write-pair-at-spec : {M : Type 1} → statement M
+write-pair-at-spec =
+    tie.close
+    (tie.spec
+    returns
+    pair-at-requires
+    write-pair-line-requires
+    add-step
+    less-requires
+    step-requires
+    same-length
+    returns-2)

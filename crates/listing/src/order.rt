@@ -1,0 +1,140 @@
+// The lines of a frame in their order, where its records stand in two tables: each message before its own arguments.
+use crate::Place;
+use crate::Step;
+use crate::line::write_message_line;
+use crate::line::write_pair_line;
+use answer::OUTSIDE;
+use answer::Refusal;
+use answer::Written;
+use frame::MESSAGE_WIDTH;
+use frame::Message;
+use frame::PAIR_WIDTH;
+use frame::Pair;
+use types::Value;
+ghost use mathlib.Core.Path.{_≡_};
+ghost use Prim.Native.Nat.{_+_, _-_, _*_, _≤_};
+ghost use lib.ListN.{length};
+ghost use Rattle.frame.specs.Records.{messageWidth, pairWidth, messageAt, pairAt};
+ghost use Rattle.listing.specs.Order.{pairNext, behindPair, behindMessage, pairAnswer, messageAnswer, line};
+ghost use Rattle.listing.specs.Promise.{Comes, WriteNextLine};
+ghost use Rattle.listing.specs.Inner.{stepFrom};
+
+// Writes the line that comes at a place, of a frame with `count` messages and `total` pairs in its tables. The place of the first is all 0.
+pub fn write_next_line(
+    frame: &[u8],
+    messages: &[u64],
+    count: usize,
+    pairs: &[u64],
+    total: usize,
+    place: Place,
+    out: &mut [u8],
+) -> Step
+    ensures { λ r. ⌜ WriteNextLine (now (frame .entry)) (now (messages .entry)) count (now (pairs .entry)) total place r (now (out .entry)) (now (out .exit)) ⌝ }
+{
+    if is_pair_next(count, total, place) {
+        return write_pair_at(frame, pairs, place, out);
+    }
+    if place.messages < count {
+        return write_message_at(frame, messages, place, out);
+    }
+    Step::End
+}
+
+// Whether a pair is next.
+fn is_pair_next(count: usize, total: usize, place: Place) -> bool
+    ensures { λ r. ⌜ r ≡ pairNext count total place ⌝ }
+{
+    if total <= place.pairs {
+        return false;
+    }
+    if 0 < place.left {
+        return true;
+    }
+    count <= place.messages
+}
+
+// Writes the line of the pair at a place.
+fn write_pair_at(frame: &[u8], pairs: &[u64], place: Place, out: &mut [u8]) -> Step
+    ensures { λ r. ⌜ Comes (line (pairAnswer (now (frame .entry)) (now (pairs .entry)) (place .pairs)) (behindPair place)) r (now (out .entry)) (now (out .exit)) ⌝ }
+{
+    let k = place.pairs;
+    if pairs.len() / PAIR_WIDTH <= k {
+        return Step::Refused(Refusal {
+            number: OUTSIDE,
+            place: 0,
+        });
+    }
+    let answer = write_pair_line(k as u64, frame, pair_at(pairs, k), out);
+    step(answer, place.messages, k + 1, less(place.left))
+}
+
+// Writes the line of the message at a place.
+fn write_message_at(frame: &[u8], messages: &[u64], place: Place, out: &mut [u8]) -> Step
+    ensures { λ r. ⌜ Comes (line (messageAnswer (now (frame .entry)) (now (messages .entry)) (place .messages)) (behindMessage place (messageAt (now (messages .entry)) (place .messages) .count))) r (now (out .entry)) (now (out .exit)) ⌝ }
+{
+    let i = place.messages;
+    if messages.len() / MESSAGE_WIDTH <= i {
+        return Step::Refused(Refusal {
+            number: OUTSIDE,
+            place: 0,
+        });
+    }
+    let message = message_at(messages, i);
+    let answer = write_message_line(i as u64, frame, message, out);
+    step(answer, i + 1, place.pairs, message.count)
+}
+
+// What a line's answer is as a step to this place.
+fn step(answer: Written, messages: usize, pairs: usize, left: u64) -> Step
+    ensures { λ r. ⌜ r ≡ stepFrom answer (record { messages = messages; pairs = pairs; left = left }) ⌝ }
+{
+    match answer {
+        Written::Done(len) => Step::Line {
+            len,
+            place: Place {
+                messages,
+                pairs,
+                left,
+            },
+        },
+        Written::Refused(r) => Step::Refused(r),
+    }
+}
+
+// One less, down to 0.
+fn less(n: u64) -> u64
+    ensures { λ r. ⌜ r ≡ n - 1 ⌝ }
+{
+    if n == 0 { 0 } else { n - 1 }
+}
+
+// Record k of a table of pairs.
+fn pair_at(pairs: &[u64], k: usize) -> Pair
+    requires { ⌜ k * pairWidth + pairWidth ≤ length (now pairs) ⌝ }
+    ensures { λ r. ⌜ r ≡ pairAt (now (pairs .entry)) k ⌝ }
+{
+    let at = k * PAIR_WIDTH;
+    Pair {
+        start: pairs[at],
+        len: pairs[at + 1],
+        value: Value {
+            kind: pairs[at + 2],
+            a: pairs[at + 3],
+            b: pairs[at + 4],
+        },
+    }
+}
+
+// Record i of a table of messages.
+fn message_at(messages: &[u64], i: usize) -> Message
+    requires { ⌜ i * messageWidth + messageWidth ≤ length (now messages) ⌝ }
+    ensures { λ r. ⌜ r ≡ messageAt (now (messages .entry)) i ⌝ }
+{
+    let at = i * MESSAGE_WIDTH;
+    Message {
+        start: messages[at],
+        len: messages[at + 1],
+        first: messages[at + 2],
+        count: messages[at + 3],
+    }
+}

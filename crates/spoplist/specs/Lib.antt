@@ -1,0 +1,3 @@
+-- Where a listing stops, and what private contracts cite.
+pub mod Listing
+pub mod Inner
