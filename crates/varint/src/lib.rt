@@ -19,20 +19,29 @@ pub enum Number {
     Refused(Refusal),
 }
 
-// How many bytes the written form of i has.
+// Where the rows of SPOE.txt's table end: the first number of more than one byte, of more than two, and so on up to nine.
+const ROWS: [u64; 9] = [
+    240,
+    2_288,
+    264_432,
+    33_818_864,
+    4_328_786_160,
+    554_084_600_048,
+    70_922_828_777_712,
+    9_078_122_083_518_704,
+    1_161_999_626_690_365_680,
+];
+
+// How many bytes the written form of i has. The bits of what is counted in steps of 16 from 240 on, seven to a byte, are one row or the next.
 pub fn varint_len(i: u64) -> usize
     ensures { λ r. ⌜ VarintLen i r ⌝ }
 {
     if i < 240 {
         return 1;
     }
-    let mut len = 2;
-    let mut value = (i - 240) / 16;
-    while 128 <= value {
-        len += 1;
-        value = (value - 128) / 128;
-    }
-    len
+    let bits = 64 - u64::leading_zeros((i - 240) / 16);
+    let row = bits as usize / 7;
+    if i < ROWS[row] { row + 1 } else { row + 2 }
 }
 
 // Writes i at the front of `out`.
