@@ -20,29 +20,21 @@ pub enum Number {
     Refused(Refusal),
 }
 
-// Where the rows of SPOE.txt's table end: the first number of more than one byte, of more than two, and so on up to nine.
-const ROWS: [u64; 9] = [
-    240,
-    2_288,
-    264_432,
-    33_818_864,
-    4_328_786_160,
-    554_084_600_048,
-    70_922_828_777_712,
-    9_078_122_083_518_704,
-    1_161_999_626_690_365_680,
-];
-
-// How many bytes the written form of i has. The bits of what is counted in steps of 16 from 240 on, seven to a byte, are one row or the next.
+// How many bytes the written form of i has. From 240 on it is counted in steps of 16, whose bits, seven to a byte, leave two lengths: k and k + 1 bytes
+// behind the first. The longer one starts at 2^7 + 2^14 + ... + 2^7k steps, of which 127 128ths are 2^7k - 1.
 pub fn varint_len(i: u64) -> usize
     ensures { λ r. ⌜ VarintLen i r ⌝ }
 {
     if i < 240 {
         return 1;
     }
-    let bits = 64 - u64::leading_zeros((i - 240) / 16);
-    let row = bits as usize / 7;
-    if i < ROWS[row] { row + 1 } else { row + 2 }
+    let steps = (i - 240) / 16;
+    let k = (64 - u64::leading_zeros(steps)) / 7;
+    if steps - (steps + 127) / 128 + 1 < 1u64 << (7 * k) {
+        k as usize + 1
+    } else {
+        k as usize + 2
+    }
 }
 
 // Writes i at the front of `out`.

@@ -1,41 +1,27 @@
 -- `varint::varint_len` meets its contract. The bits of the steps are what their leading zeros leave of 64, so the law by bits (`length-before`,
--- `length-from`) tells the length, and the code's rows are the table's.
+-- `length-from`) tells the length, by what so many bytes reach, which the code asks as `reached` says.
 -- Assumes nothing.
-use mathlib.Core.Path.{_≡_, refl, sym, ap, _∙_}
-use mathlib.Core.List.{List, [], _∷_}
-use Prim.Native.Nat.{ℕ, _+_, _-_, _*_, _/_, _^_, _≤_, _<_}
+use mathlib.Core.Path.{_≡_, sym, _∙_}
 use mathlib.Core.Logic.{⊎-elim}
+use Prim.Native.Nat.{ℕ, _+_, _-_, _*_, _/_, _%_, _^_, _≤_, _<_}
+use native.Mathlib.Nat.{one-mul}
 use native.Mathlib.Omega.{arith}
-use lib.Pow.{pow-mono}
 use lib.Count.{leadingZeros, leading-le, leading-length}
-use lib.ListN.{length, getD}
+use lib.Dec.{lit<}
+use lib.ListN.{length}
+use lib.Pow.{pow-mono, shl-exact}
 use borrow.Author.Needs.{needs}
-use Rattle.answer.specs.Table.{records}
 use Rattle.answer.proofs.Cases.{lt-or-le}
-use Rattle.answer.proofs.Records.{record-at}
 use Rattle.varint.specs.Number.{numberBytes}
-use Rattle.varint.proofs.Writing.{bytes-one, reach, row, length-before, length-from}
+use Rattle.varint.proofs.Writing.{bytes-one, reach, reached, length-before, length-from}
 use Rattle.varint.proofs.varint_len.Statement.{statement}
 use Rattle.varint.proofs.varint_len.Tie as tie
 
--- the code's rows, and the law that they are the table's
-abbrev rows : List ℕ
-rows = 240 ∷ 2288 ∷ 264432 ∷ 33818864 ∷ 4328786160 ∷ 554084600048 ∷ 70922828777712 ∷ 9078122083518704 ∷ 1161999626690365680 ∷ []
-
-all-rows : rows ≡ records row 1 9
-unfolding records row reach
-all-rows = refl
-
-row-is : (k : ℕ) → k < 9 → getD rows k 0 ≡ row (k + 1)
-row-is k h =
-    let next : 1 + k ≡ k + 1 = omega arith in
-    ap (λ (l : List ℕ). getD l k 0) all-rows ∙ record-at row 9 1 k 0 h ∙ ap row next
-
--- The steps of a number of 64 bits have at most 60, which are what is left of their leading zeros.
-pub record Bits (v bits : ℕ) : Type 0 where
-  pub below : v < 2 ^ bits
-  pub above : 2 ^ bits ≤ 2 * v + 1
-  pub few : bits / 7 < 9
+-- The steps of a number of 64 bits have fewer than 63, which are what is left of their leading zeros.
+record Bits (v bits : ℕ) : Type 0 where
+  below : v < 2 ^ bits
+  above : 2 ^ bits ≤ 2 * v + 1
+  few : bits / 7 < 9
 
 bits-of : (i : ℕ) → i < 2 ^ 64 → Bits ((i - 240) / 16) (64 - leadingZeros 64 ((i - 240) / 16))
 bits-of i h =
@@ -48,42 +34,87 @@ bits-of i h =
       few = ⊎-elim (λ l. omega arith) (λ l. absurd (omega (arith, o .3, pow-mono {i = 63} {j = o .0} l))) (lt-or-le (o .0) 63);
     })
 
+-- `1 << 7k` keeps its one bit
+one-bit : (k : ℕ) → k < 9 → (1 * 2 ^ (7 * k)) % 2 ^ 64 ≡ 2 ^ (7 * k)
+one-bit k h = shl-exact {a = 1} 1 (7 * k) 64 (lit< tt) (omega arith) ∙ one-mul (2 ^ (7 * k))
+
+module _ (i : ℕ) where
+  abbrev steps : ℕ
+  steps = (i - 240) / 16
+
+  abbrev row : ℕ
+  row = (64 - leadingZeros 64 steps) / 7
+
+  abbrev threshold : ℕ
+  threshold = (1 * 2 ^ (7 * row)) % 2 ^ 64
+
+  module _ (some : 240 ≤ i) (fits : i < 2 ^ 64) where
+    shorter : steps - (steps + 127) / 128 + 1 < threshold → row + 1 ≡ length (numberBytes i)
+    shorter t = let b = bits-of i fits in sym (length-before i _ some fits (b .below) (b .above) (reached row steps .1 (omega (arith, t, one-bit row (b .few)))))
+
+    longer : threshold ≤ steps - (steps + 127) / 128 + 1 → row + 2 ≡ length (numberBytes i)
+    longer t =
+        let b = bits-of i fits in
+        sym (length-from i _ some fits (b .below) (b .above)
+        (⊎-elim (λ l. absurd (omega (arith, t, one-bit row (b .few), reached row steps .0 l))) (λ l. l) (lt-or-le steps (reach row))))
+
 returns : tie.Need-returns
 returns c = rw (bytes-one _ (c .if1 .taken))
 
-sub-bits : tie.Need-sub-bits
-sub-bits c = leading-le 64 _
+sub-k : tie.Need-sub-k
+sub-k c = leading-le 64 _
 
-cast-row : tie.Need-cast-row
-cast-row c = search needs
+add-if2 : tie.Need-add-if2
+add-if2 c = search needs
+
+sub-if2 : tie.Need-sub-if2
+sub-if2 c = search needs
+
+add-if2-2 : tie.Need-add-if2-2
+add-if2-2 c = search needs
 
 mul-if2 : tie.Need-mul-if2
 mul-if2 c = search needs
 
-array-read-if2 : tie.Need-array-read-if2
-array-read-if2 c = bits-of (c .before .args .i) (c .before .fits .i .fits) .few
+cast-if2 : tie.Need-cast-if2
+cast-if2 c = search needs
+
+shl-if2 : tie.Need-shl-if2
+shl-if2 c = search needs
+
+cast-result : tie.Need-cast-result
+cast-result c = search needs
 
 add-result : tie.Need-add-result
 add-result c = search needs
+
+cast-result-2 : tie.Need-cast-result-2
+cast-result-2 c = search needs
 
 add-result-2 : tie.Need-add-result-2
 add-result-2 c = search needs
 
 returns-2 : tie.Need-returns-2
-returns-2 c =
-    let i = c .before .before .args .i in
-    let fits = c .before .before .fits .i .fits in
-    let b = bits-of i fits in
-    let t : i < getD rows ((64 - leadingZeros 64 ((i - 240) / 16)) / 7) 0 = c .if2 .taken in
-    sym (length-before i _ (c .before .if1 .left) fits (b .below) (b .above) (omega (arith, t, row-is _ (b .few))))
+returns-2 c = shorter (c .before .before .args .i) (c .before .if1 .left) (c .before .before .fits .i .fits) (c .if2 .taken)
 
 returns-3 : tie.Need-returns-3
-returns-3 c =
-    let i = c .before .before .args .i in
-    let fits = c .before .before .fits .i .fits in
-    let b = bits-of i fits in
-    let t : getD rows ((64 - leadingZeros 64 ((i - 240) / 16)) / 7) 0 ≤ i = c .if2 .left in
-    sym (length-from i _ (c .before .if1 .left) fits (b .below) (b .above) (omega (arith, t, row-is _ (b .few))))
+returns-3 c = longer (c .before .before .args .i) (c .before .if1 .left) (c .before .before .fits .i .fits) (c .if2 .left)
 
 pub varint-len-spec : {M : Type 1} → statement M
-varint-len-spec = tie.close (tie.spec returns sub-bits cast-row mul-if2 array-read-if2 add-result add-result-2 returns-2 returns-3)
+varint-len-spec =
+    tie.close
+    (tie.spec
+    returns
+    sub-k
+    add-if2
+    sub-if2
+    add-if2-2
+    mul-if2
+    cast-if2
+    shl-if2
+    cast-result
+    add-result
+    cast-result-2
+    add-result-2
+    returns-2
+    returns-3)
