@@ -40,6 +40,7 @@ static const char *why(uint64_t number)
     case 8: return "there is no such type of data";
     case 9: return "a key is met twice";
     case 10: return "it has more messages or pairs than there is room for";
+    case 19: return "a number does not fit into 64 bits";
     default: return "for a reason that is not known here";
     }
 }

@@ -10,7 +10,7 @@
  *    4  unknown         a frame's type is none of the six, or its flags are not known ones; *at: 4
  *    5  aborted         a frame has ABORT set; *at: 4
  *    6  an agent's      a frame's type is one that agents send, 101 to 103; *at: 4
- *    7  too large       a number over 2^64-1 or of more than ten bytes; *at: right after the byte that broke it
+ *    7  too large       a number over 2^64-1; *at: right after the byte that broke it
  *    8  no such type    a data type from 10 to 15; *at: right after the type byte
  *    9  repeated        a key that an earlier pair has; *at: read, right after the second pair; written, the record's index
  *   10  table full      a table has no room for a record; *at: right after the pair, or for a message right after its count byte
@@ -21,6 +21,7 @@
  *   15  not UTF-8       a text is not well-formed; *at: the same
  *   16  outside         a record points outside the buffer, or the table has fewer; *at: the record's index, or 0
  *   17  too many        a message with more than 255 arguments; *at: the message's index
+ *   19  not fitting     a number whose tenth byte is above 15; *at: right after that byte
  *
  * *at is always set. Whatever else is lent changes only after 0: of an output the bytes that are written, and of a table the
  * numbers of the records that were read.
@@ -45,8 +46,8 @@ uint64_t spop_varint_len(uint64_t n);
 /* Writes n at the front of out. 0 with the length, or 11. */
 uint64_t spop_encode_varint(uint64_t n, uint8_t *out, size_t out_len, uint64_t *at);
 
-/* Reads the number at the front of input. 0 with *value set and the bytes used, or 3, or 7. Bytes after the number are not
- * looked at. Of a tenth byte the lower four bits count. */
+/* Reads the number at the front of input. 0 with *value set and the bytes used, or 3, 7 or 19. Bytes after the number are not
+ * looked at. The bytes used are those that spop_encode_varint writes for it. */
 uint64_t spop_decode_varint(const uint8_t *input, size_t input_len, uint64_t *value, uint64_t *at);
 
 /* Whether the bytes are well-formed UTF-8 (Unicode, table 3-7). */
@@ -68,7 +69,8 @@ uint64_t spop_lossy_text(const uint8_t *bytes, size_t len, uint8_t *out, size_t 
  *    8 string   start, length      9 binary  start, length
  */
 
-/* Reads the value at the front of input; a start counts from its first byte. 0 with value set and the bytes used, or 3, 7, 8. */
+/* Reads the value at the front of input; a start counts from its first byte. 0 with value set and the bytes used, or 3, 7, 8
+ * or 19. */
 uint64_t spop_typed_data(const uint8_t *input, size_t input_len, uint64_t value[3], uint64_t *at);
 
 /* Answers how many bytes the written form of a value has, whose start counts in buffer; 0 where it has none. */
@@ -84,8 +86,8 @@ uint64_t spop_write_value(const uint64_t value[3], const uint8_t *buffer, size_t
 /* A pair is five numbers: key start, key length, and a value's kind, a and b. */
 
 /* Reads the pair at the front of input: its key, a string of any bytes, and its value. Starts count from the input's first byte.
- * 0 with pair set and the bytes used; else the key's 3 or 7, or then the value's 3, 7 or 8. Bytes after the pair are not looked
- * at. */
+ * 0 with pair set and the bytes used; else the key's 3, 7 or 19, or then the value's 3, 7, 8 or 19. Bytes after the pair are
+ * not looked at. */
 uint64_t spop_read_pair(const uint8_t *input, size_t input_len, uint64_t pair[5], uint64_t *at);
 
 /* Reads the frame at the front of input, one that HAProxy sends: a HAPROXY-HELLO (type 1) or a HAPROXY-DISCONNECT (2), which hold
@@ -102,21 +104,21 @@ uint64_t spop_read_pair(const uint8_t *input, size_t input_len, uint64_t pair[5]
  *     3  at 5        it has fewer than four bytes of flags
  *     4  at 4        FIN is not set, or a flag beside FIN and ABORT is
  *     5  at 4        ABORT is set
- *     3, 7           its stream id, or then its frame id, cannot be read
+ *     3, 7, 19       its stream id, or then its frame id, cannot be read
  *     6  at 4        its type is 101 to 103
  *         in a KV list, for each pair in turn:
- *     3, 7, 8        its key, or then its value, cannot be read
+ *     3, 7, 8, 19    its key, or then its value, cannot be read
  *     9              an earlier key has the same lossy text (spop_same_text says which have); *at: right after this pair
  *    10              pairs has no room for it; *at: right after it
  *         in a NOTIFY, for each message in turn:
- *     3, 7           its name cannot be read
+ *     3, 7, 19       its name cannot be read
  *     3              it has no count byte; *at: the frame's end
  *    10              messages has no room for it; *at: right after its count byte
  *         and then for each of its arguments in turn, which are pairs, and whose keys may repeat:
- *     3, 7, 8        its key, or then its value, cannot be read
+ *     3, 7, 8, 19    its key, or then its value, cannot be read
  *    10              pairs has no room for it; *at: right after it
  *
- * Where no place stands here, 3, 7 and 8 have the one that the head of this file gives. Places and starts count from the frame's
+ * Where no place stands here, 3, 7, 8 and 19 have the one that the head of this file gives. Places and starts count from the frame's
  * first length byte, input[0].
  *
  * After 0, head is the type, the flags (FIN alone, so 1), the stream id, the frame id, how many messages there are, and how many

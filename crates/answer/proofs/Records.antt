@@ -5,6 +5,7 @@ use mathlib.Core.List.{List, [], _∷_, _++_, append-assoc}
 use Prim.Native.Nat.{ℕ, zero, suc, _+_, _-_, _≤_, _<_}
 use native.Mathlib.Numerals.{add-one}
 use native.Mathlib.Omega.{arith}
+use lib.ListN.{getD}
 use Rattle.answer.specs.Table.{records, joined, some}
 
 -- ---- records
@@ -42,6 +43,13 @@ module _ {A : Type 0} (at : ℕ → A) where
   pub records-snoc : (i : ℕ) → records at 0 (i + 1) ≡ records at 0 i ++ (at i ∷ [])
   unfolding records
   records-snoc i = let here : 0 + i ≡ i = omega arith in records-both i 0 1 ∙ ap (λ (k : ℕ). records at 0 i ++ (at k ∷ [])) here
+
+  -- record i of them
+  pub record-at : (n first i : ℕ) (d : A) → i < n → getD (records at first n) i d ≡ at (first + i)
+  unfolding records
+  record-at zero first i d h = absurd (omega arith)
+  record-at (suc n) first zero d h = ap at (omega arith)
+  record-at (suc n) first (suc i) d h = record-at n (suc first) i d (omega arith) ∙ ap at (omega arith)
 
   -- records from a place on are those of the run that starts there
   run-from : (first n k : ℕ) → records at (first + k) n ≡ records (λ (j : ℕ). at (first + j)) k n

@@ -9,7 +9,7 @@ use lib.ListN.{length}
 use Rattle.answer.specs.Answer.{Answer, done, refused, written}
 use Rattle.answer.specs.Order.{inOrder, firstRefused}
 use Rattle.answer.specs.Table.{records, joined, some}
-use Rattle.varint.specs.Number.{worth, more, number, groups, numberBytes}
+use Rattle.varint.specs.Number.{more, number, groups, numberBytes}
 use Rattle.utf8.specs.Text.{rows, follow, inRange, front, rowFor, step, bySteps, isUtf8, lossy, same, sameText}
 use Rattle.types.specs.Value.{Record, value, string, typed, shape, signExtended}
 use Rattle.types.specs.Form.{stringBytes, valueBytes}
@@ -133,10 +133,9 @@ examples =
     ∷ is 2287 (0xFF ∷ 0x7F ∷ [])
     ∷ is 2288 (0xF0 ∷ 0x80 ∷ 0x00 ∷ [])
     ∷ is (2 ^ 64 - 1) (0xFF ∷ 0xF0 ∷ 0xFE ∷ 0xFE ∷ 0xFE ∷ 0xFE ∷ 0xFE ∷ 0xFE ∷ 0xFE ∷ 0x0E ∷ [])
-    ∷ reads (0xF0 ∷ 0x80 ∷ 0x80 ∷ 0x80 ∷ 0x80 ∷ 0x80 ∷ 0x80 ∷ 0x80 ∷ 0x80 ∷ 0x10 ∷ [])
-    (done (240 + 2 ^ 11 + 2 ^ 18 + 2 ^ 25 + 2 ^ 32 + 2 ^ 39 + 2 ^ 46 + 2 ^ 53 + 2 ^ 60) 10)
+    ∷ reads (0xF0 ∷ 0x80 ∷ 0x80 ∷ 0x80 ∷ 0x80 ∷ 0x80 ∷ 0x80 ∷ 0x80 ∷ 0x80 ∷ 0x10 ∷ []) (refused 19 10)
     ∷ reads (0xF0 ∷ 0x80 ∷ 0x80 ∷ 0x80 ∷ 0x80 ∷ 0x80 ∷ 0x80 ∷ 0x80 ∷ 0x80 ∷ 0x0F ∷ []) (refused 7 10)
-    ∷ reads (0xF0 ∷ 0x80 ∷ 0x80 ∷ 0x80 ∷ 0x80 ∷ 0x80 ∷ 0x80 ∷ 0x80 ∷ 0x80 ∷ 0x80 ∷ 0x00 ∷ []) (refused 7 11)
+    ∷ reads (0xF0 ∷ 0x80 ∷ 0x80 ∷ 0x80 ∷ 0x80 ∷ 0x80 ∷ 0x80 ∷ 0x80 ∷ 0x80 ∷ 0x80 ∷ 0x00 ∷ []) (refused 19 10)
     -- values
     ∷ values (0x02 ∷ 0xF0 ∷ 0xF1 ∷ 0xFE ∷ 0xFE ∷ 0x7E ∷ []) (done (value 2 0 0) 6)
     ∷ values (0x21 ∷ []) (done (value 1 0 0) 1)
@@ -159,6 +158,7 @@ examples =
     ∷ frame (framed 0x07 1 3 (0x00 ∷ 0x00 ∷ [])) (stops 5 4)
     ∷ frame (framed 0x05 1 1 []) (stops 3 9)
     ∷ frame (framed 0x0F 1 1 (0xF0 ∷ 0x80 ∷ 0x80 ∷ 0x80 ∷ 0x80 ∷ 0x80 ∷ 0x80 ∷ 0x80 ∷ 0x80 ∷ 0x0F ∷ [])) (stops 7 19)
+    ∷ frame (framed 0x0F 1 1 (0xF0 ∷ 0x80 ∷ 0x80 ∷ 0x80 ∷ 0x80 ∷ 0x80 ∷ 0x80 ∷ 0x80 ∷ 0x80 ∷ 0x10 ∷ [])) (stops 19 19)
     ∷ frame (framed 0x06 101 1 (0x00 ∷ [])) (stops 3 10)
     ∷ frame (framed 0x07 101 2 (0x00 ∷ 0x00 ∷ [])) (stops 4 4)
     ∷ frame (framed 0x07 101 1 (0x00 ∷ 0x00 ∷ [])) (stops 6 4)
@@ -206,13 +206,13 @@ examples =
     ∷ []
 
 pub marked : All examples
-unfolding worth more number groups numberBytes string typed shape signExtended fourNumber inOrder some
+unfolding more number groups numberBytes string typed shape signExtended fourNumber inOrder some
     rows follow inRange front rowFor step bySteps lossy same sameText
     pair onePair oneMessage toEnd payload lastId ids metadata wholeFrame frameRead frameSize
     isUtf8 firstRefused records joined stringBytes valueBytes fourBytes headBytes frameBytes messageAt pairAt pairBytes pairRefusal newKey kvRefusal
     nameBytes messageBytes messageRefusal limited kvAllowed kvAnswer notifyAnswer
 marked =
-    (refl, refl) and (refl, refl) and (refl, refl) and (refl, refl) and (refl, refl) and refl and refl and refl and refl and refl and
+    (refl, refl) and (refl, refl) and (refl, refl) and (refl, refl) and (refl, refl) and refl and refl and refl and refl and refl and refl and
     refl and refl and refl and refl and refl and refl and refl and refl and refl and refl and refl and refl and refl and refl and refl and
     refl and refl and refl and refl and refl and refl and refl and refl and refl and refl and refl and refl and refl and refl and refl and
     refl and refl and refl and refl and refl and refl and refl and refl and (refl, refl, refl) and (refl, refl, refl) and

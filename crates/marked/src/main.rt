@@ -18,9 +18,6 @@ use show::verdict;
 use types::Typed;
 use varint::Number;
 
-// What F0 and eight 80 add up to: 240+2^11+2^18+2^25+2^32+2^39+2^46+2^53+2^60.
-const EIGHT_80: u64 = 1_161_999_626_690_365_680;
-
 // What is marked: the refusal's number or 0, the bytes used or the place, and the number that was read.
 struct Answer {
     number: u64,
@@ -47,13 +44,13 @@ fn numbers() {
         u64::MAX,
         &[0xFF, 0xF0, 0xFE, 0xFE, 0xFE, 0xFE, 0xFE, 0xFE, 0xFE, 0x0E],
     );
-    // The tenth byte counts modulo 16, so that 10 adds nothing.
+    // A tenth byte has four bits. Where it has more, none comes behind it.
     reads(
         &[0xF0, 0x80, 0x80, 0x80, 0x80, 0x80, 0x80, 0x80, 0x80, 0x10],
         Answer {
-            number: 0,
+            number: 19,
             at: 10,
-            value: EIGHT_80,
+            value: 0,
         },
     );
     reads(
@@ -79,8 +76,8 @@ fn numbers() {
             0x00,
         ],
         Answer {
-            number: 7,
-            at: 11,
+            number: 19,
+            at: 10,
             value: 0,
         },
     );

@@ -11,3 +11,4 @@ pub mod Kept
 pub mod Entries
 pub mod Order
 pub mod Back
+pub mod Exact

@@ -40,7 +40,7 @@ module _ (s : List ℕ) where
     pair-whole v n e = rw (key, e)
 
   -- a law about a pair goes by its key and its value
-  pair-cases : {G : Type 0}
+  pub pair-cases : {G : Type 0}
       → ((n place : ℕ) → string s ≡ refused n place → G)
       → ((start len used : ℕ) → string s ≡ done (span start len) used → (n place : ℕ) → typed (drop used s) ≡ refused n place → G)
       → ((start len used : ℕ) → string s ≡ done (span start len) used → (kind a b n : ℕ) → typed (drop used s) ≡ done (value kind a b) n → G)

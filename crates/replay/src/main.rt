@@ -1,5 +1,5 @@
-// Replays lists of the Rust's answers (`data/`, made by `oracle/run vectors`) on the port: how many agree, and the number
-// of each line that does not.
+// Replays lists of the Rust's answers (`data/`, made by `oracle/run vectors`; 19 is the rules') on the port: how many agree, and the
+// number of each line that does not.
 //
 // A line is a letter, a space and fields with one space between: numbers as 16 hex digits, byte strings as hex pairs, an
 // empty one as `-`. oracle/README.md says what each letter stands for.

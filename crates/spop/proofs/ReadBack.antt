@@ -13,7 +13,7 @@ use Rattle.answer.specs.Answer.{Answer, done, behind}
 use Rattle.answer.specs.Table.{records, some}
 use Rattle.answer.specs.Inner as inner
 use Rattle.answer.proofs.Cases.{bool-cases, true-false, both-true}
-use Rattle.answer.proofs.Records.{records-none}
+use Rattle.answer.proofs.Records.{records-none, record-at}
 use Rattle.frame.specs.declared.Head.{Head}
 use Rattle.frame.specs.declared.Pair.{Pair}
 use Rattle.frame.specs.declared.Message.{Message}
@@ -111,12 +111,6 @@ there : {A : Type 0} (l : List A) (i : ℕ) (d e : A) → i < length l → getD 
 there [] i d e h = absurd (omega arith)
 there (x ∷ l) zero d e h = refl
 there (x ∷ l) (suc i) d e h = there l i d e (omega arith)
-
-record-at : {A : Type 0} (at : ℕ → A) (n first i : ℕ) (d : A) → i < n → getD (records at first n) i d ≡ at (first + i)
-unfolding records
-record-at at zero first i d h = absurd (omega arith)
-record-at at (suc n) first zero d h = ap at (omega arith)
-record-at at (suc n) first (suc i) d h = record-at at n (suc first) i d (omega arith) ∙ ap at (omega arith)
 
 -- where some things mean what so many records mean, thing i means what record i means
 record-same : {A C : Type 0} (f g : A → C) (at : ℕ → A) (d : A) (n : ℕ) (xs : List A) → map f xs ≡ map g (records at 0 n) → (i : ℕ) → i < n → f (getD xs i d) ≡ g (at i)

@@ -169,14 +169,14 @@ kept-width signed32 n h = signed-again n
 kept-width unsigned32 n h = omega arith
 kept-width whole64 n h = h
 
-abbrev Found : Shape → ℕ → List ℕ → ℕ → ℕ → ℕ → ℕ → Type 0
+abbrev pub Found : Shape → ℕ → List ℕ → ℕ → ℕ → ℕ → ℕ → Type 0
 Found sh kind s k a b used = (k ≡ kind) × (used ≤ length s) × Fields sh a b × (points sh ≡ true → a + b ≤ used)
 
 -- an accepted value is its parts
-value-same : {k a b used k′ a′ b′ used′ : ℕ} → done (value k a b) used ≡ done (value k′ a′ b′) used′ → (k ≡ k′) × (a ≡ a′) × (b ≡ b′) × (used ≡ used′)
+pub value-same : {k a b used k′ a′ b′ used′ : ℕ} → done (value k a b) used ≡ done (value k′ a′ b′) used′ → (k ≡ k′) × (a ≡ a′) × (b ≡ b′) × (used ≡ used′)
 value-same e = ((cc), (cc), (cc), (cc))
 
-content-accepted : (sh : Shape) (kind flags : ℕ) (s : List ℕ) (k a b used : ℕ) → content sh kind flags s ≡ done (value k a b) used → Found sh kind s k a b used
+pub content-accepted : (sh : Shape) (kind flags : ℕ) (s : List ℕ) (k a b used : ℕ) → content sh kind flags s ≡ done (value k a b) used → Found sh kind s k a b used
 content-accepted nothing kind flags s k a b used e = let p = value-same e in (omega arith, omega arith, omega arith, λ t. absurd (true≢false (sym t)))
 content-accepted flag kind flags s k a b used e = let p = value-same e in (omega arith, omega arith, omega arith, λ t. absurd (true≢false (sym t)))
 content-accepted (integer w) kind flags s k a b used e =

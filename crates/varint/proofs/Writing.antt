@@ -3,7 +3,9 @@ use mathlib.Core.Path.{_≡_, refl, sym, ap, _∙_}
 use mathlib.Core.Logic.{⊎-elim, _↔_}
 use mathlib.Core.List.{List, [], _∷_}
 use Prim.Native.Nat.{ℕ, zero, suc, _+_, _-_, _*_, _/_, _%_, _^_, _≤_, _<_, zero-le, suc-le-suc}
+use native.Mathlib.Numerals.{add-one}
 use native.Mathlib.Omega.{arith}
+use lib.Pow.{pow-add, pow-mono}
 use lib.ListN.{length}
 use borrow.Author.Tests.{lt-ltb, le-ltb}
 use Rattle.answer.proofs.Cases.{lt-or-le}
@@ -118,3 +120,59 @@ length-most n =
     ⊎-elim (λ l. rw (bytes-one n l) (omega arith))
     (λ l. rw (bytes-more n l) (suc-le-suc (groups-most 9 ((n - 240) / 16))))
     (lt-or-le n 240)
+
+-- ---- by its bits
+
+-- Seven bits to a byte: what k bytes reach and their bits.
+seven-more : (k : ℕ) → 2 ^ (7 * suc k) ≡ 2 ^ (7 * k) * 2 ^ 7
+seven-more k = let sum : 7 * suc k ≡ 7 * k + 7 = omega arith in ap (λ (n : ℕ). 2 ^ n) sum ∙ pow-add 2 (7 * k) 7
+
+reach-bits : (k : ℕ) → 127 * reach k + 128 ≡ 128 * 2 ^ (7 * k)
+unfolding reach
+reach-bits zero = omega arith
+reach-bits (suc k) = omega (arith, seven-more k, reach-bits k)
+
+-- So v is as far exactly where v + 1 less a 128th of v, rounded up, has more than these bits.
+pub reached : (k v : ℕ) → (v < reach k) ↔ (v - (v + 127) / 128 + 1 < 2 ^ (7 * k))
+reached k v = (λ h. omega (arith, reach-bits k), λ h. omega (arith, reach-bits k))
+
+-- So a v of m bits has m / 7 bytes after the first, or one more.
+module _ (v m : ℕ) (below : v < 2 ^ m) (above : 2 ^ m ≤ 2 * v + 1) where
+  bits-below : v < reach (m / 7 + 1)
+  unfolding reach
+  bits-below =
+      let up = pow-mono {i = m} {j = 7 * suc (m / 7)} (omega arith) in
+      rw (add-one (m / 7)) (omega (arith, below, up, seven-more (m / 7), reach-bits (m / 7)))
+
+  bits-above : (k : ℕ) → m / 7 ≡ suc k → reach k ≤ v
+  bits-above k e =
+      let up = pow-mono {i = 7 * suc k} {j = m} (omega arith) in
+      omega (arith, above, up, seven-more k, reach-bits k)
+
+-- Law: of a number from 240 on whose steps of 16 have m bits, what m / 7 bytes reach tells its length.
+module _ (n m : ℕ) (some : 240 ≤ n) (fits : n < 2 ^ 64) (below : (n - 240) / 16 < 2 ^ m) (above : 2 ^ m ≤ 2 * ((n - 240) / 16) + 1) where
+  abbrev steps : ℕ
+  steps = (n - 240) / 16
+
+  long : (k : ℕ) → (length (groups 9 steps) ≤ k) ↔ (steps < reach k)
+  long k = groups-length 9 k steps (steps-reach n fits)
+
+  none-reached : reach 0 ≡ 0
+  unfolding reach
+  none-reached = refl
+
+  pub length-before : steps < reach (m / 7) → length (numberBytes n) ≡ m / 7 + 1
+  length-before h = rw (bytes-more n some) (go (m / 7) refl h)
+    where
+      go : (k : ℕ) → m / 7 ≡ k → steps < reach (m / 7) → suc (length (groups 9 steps)) ≡ m / 7 + 1
+      go zero e l = absurd (omega (arith, ap reach e, none-reached))
+      go (suc k) e l =
+          let most = long (m / 7) .1 l in
+          let least = bits-above steps m below above k e in
+          ⊎-elim (λ g. omega arith) (λ g. absurd (omega (arith, long k .0 g))) (lt-or-le k (length (groups 9 steps)))
+
+  pub length-from : reach (m / 7) ≤ steps → length (numberBytes n) ≡ m / 7 + 2
+  length-from h =
+      let most = long (m / 7 + 1) .1 (bits-below steps m below above) in
+      rw (bytes-more n some)
+      (⊎-elim (λ g. omega arith) (λ g. absurd (omega (arith, long (m / 7) .0 g))) (lt-or-le (m / 7) (length (groups 9 steps))))

@@ -7,23 +7,26 @@
 --
 -- The X of the first byte are the lowest bits. Each row starts where the one before ends, so what a byte's fixed ones are
 -- worth is part of the number: reading adds whole bytes, and writing takes 240, and then 128 for each byte, off again.
-use mathlib.Core.Bool.{cond}
+use mathlib.Core.Bool.{Bool, cond, _&&_}
 use mathlib.Core.List.{List, [], _∷_}
 use Prim.Native.Nat.{ℕ, zero, suc, _+_, _-_, _*_, _/_, _%_, _^_}
 use lib.Dec.{ltb, leb, eqb}
 use Rattle.answer.specs.Answer.{Answer, done, refused}
 
--- What byte b is worth after k others: b times 2^4, 2^11, 2^18, up to 2^60. The tenth byte counts modulo 16: SPOE.txt has no
--- such numbers, and the Rust's `checked_shl` drops the upper bits.
-unfoldable pub worth : ℕ → ℕ → ℕ
-worth k b = cond (eqb k 9) (b % 16 * 2 ^ 60) (b * 2 ^ (7 * k - 3))
+-- What byte b is worth after k others: b times 2^4, 2^11, 2^18, up to 2^60.
+abbrev pub worth : ℕ → ℕ → ℕ
+worth k b = b * 2 ^ (7 * k - 3)
+
+-- A tenth byte has four bits of the 64.
+abbrev pub tenthTooHigh : ℕ → ℕ → Bool
+tenthTooHigh k b = eqb k 9 && ltb 15 b
 
 -- The number that goes on with these bytes, after k bytes that add up to sum. Of each byte, in the order of docs/RULES.md: it is
--- missing (3), it is the eleventh (7), the sum passes 2^64-1 (7); a byte below 128 is the last.
+-- missing (3), it is a tenth that is too high (19), the sum passes 2^64-1 (7); a byte below 128 is the last. So there is no eleventh.
 unfoldable pub more : ℕ → ℕ → List ℕ → Answer ℕ
 more sum k [] = refused 3 k
 more sum k (b ∷ s) =
-    cond (leb 10 k) (refused 7 (suc k))
+    cond (tenthTooHigh k b) (refused 19 (suc k))
     (cond (leb (2 ^ 64) (sum + worth k b)) (refused 7 (suc k))
     (cond (ltb b 128) (done (sum + worth k b) (suc k)) (more (sum + worth k b) (suc k) s)))
 

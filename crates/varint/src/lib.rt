@@ -2,6 +2,7 @@
 //
 // No public call has a `requires`: each does its own refusing, and a refusal changes no byte.
 use answer::NO_ROOM;
+use answer::NOT_FITTING;
 use answer::Refusal;
 use answer::TOO_LARGE;
 use answer::TOO_SOON;
@@ -19,20 +20,21 @@ pub enum Number {
     Refused(Refusal),
 }
 
-// How many bytes the written form of i has.
+// How many bytes the written form of i has. From 240 on it is counted in steps of 16, whose bits, seven to a byte, leave two lengths: k and k + 1 bytes
+// behind the first. The longer one starts at 2^7 + 2^14 + ... + 2^7k steps, of which 127 128ths are 2^7k - 1.
 pub fn varint_len(i: u64) -> usize
     ensures { λ r. ⌜ VarintLen i r ⌝ }
 {
     if i < 240 {
         return 1;
     }
-    let mut len = 2;
-    let mut value = (i - 240) / 16;
-    while 128 <= value {
-        len += 1;
-        value = (value - 128) / 128;
+    let steps = (i - 240) / 16;
+    let k = (64 - u64::leading_zeros(steps)) / 7;
+    if steps - (steps + 127) / 128 + 1 < 1u64 << (7 * k) {
+        k as usize + 1
+    } else {
+        k as usize + 2
     }
-    len
 }
 
 // Writes i at the front of `out`.
@@ -78,10 +80,7 @@ pub fn decode_varint(input: &[u8]) -> Number
     ensures { λ r. ⌜ DecodeVarint (now (input .entry)) r ⌝ }
 {
     if input.len() == 0 {
-        return Number::Refused(Refusal {
-            number: TOO_SOON,
-            place: 0,
-        });
+        return refused(TOO_SOON, 0);
     }
     let first = input[0];
     if first < 240 {
@@ -93,36 +92,23 @@ pub fn decode_varint(input: &[u8]) -> Number
     decode_more(first as u64, input)
 }
 
-// Reads on after a first byte that is not the number itself.
+// Reads on after a first byte that is not the number itself. Nine bytes cannot add up to more than 64 bits, so the tenth alone is asked.
 fn decode_more(first: u64, input: &[u8]) -> Number
+    requires { ⌜ first < 256 ⌝ }
     ensures { λ r. ⌜ numberRead r ≡ more first 1 (drop 1 (now (input .entry))) ⌝ }
 {
     let mut sum = first;
     let mut used = 1;
     let mut shift: u64 = 4;
     let value = loop {
-        if input.len() <= used {
-            return Number::Refused(Refusal {
-                number: TOO_SOON,
-                place: used,
-            });
+        if 9 <= used {
+            return decode_tenth(sum, input);
         }
-        if 64 <= shift {
-            return Number::Refused(Refusal {
-                number: TOO_LARGE,
-                place: used + 1,
-            });
+        if input.len() <= used {
+            return refused(TOO_SOON, used);
         }
         let byte = input[used];
-        // The shift drops the upper bits of a tenth byte.
-        let addend = (byte as u64) << shift;
-        if u64::MAX - sum < addend {
-            return Number::Refused(Refusal {
-                number: TOO_LARGE,
-                place: used + 1,
-            });
-        }
-        sum += addend;
+        sum += (byte as u64) << shift;
         used += 1;
         shift += 7;
         if byte < 128 {
@@ -130,4 +116,31 @@ fn decode_more(first: u64, input: &[u8]) -> Number
         }
     };
     Number::Done { value, used }
+}
+
+// Reads a tenth byte, after nine that add up to sum.
+fn decode_tenth(sum: u64, input: &[u8]) -> Number
+    ensures { λ r. ⌜ numberRead r ≡ more sum 9 (drop 9 (now (input .entry))) ⌝ }
+{
+    if input.len() <= 9 {
+        return refused(TOO_SOON, 9);
+    }
+    let byte = input[9];
+    if 15 < byte {
+        return refused(NOT_FITTING, 10);
+    }
+    let addend = (byte as u64) << 60;
+    if u64::MAX - sum < addend {
+        return refused(TOO_LARGE, 10);
+    }
+    Number::Done {
+        value: sum + addend,
+        used: 10,
+    }
+}
+
+fn refused(number: u64, place: usize) -> Number
+    ensures { λ r. ⌜ r ≡ Number.Refused (record { number = number; place = place }) ⌝ }
+{
+    Number::Refused(Refusal { number, place })
 }

@@ -100,6 +100,42 @@ pub fn edges() -> Vec<u64> {
     all
 }
 
+/// Nine bytes that announce a tenth: cut there, with each tenth byte, and with a byte behind that.
+pub fn tenth_bytes() -> Vec<Vec<u8>> {
+    const FRONTS: [&[u8; 9]; 4] = [
+        b"\xf0\x80\x80\x80\x80\x80\x80\x80\x80",
+        b"\xff\xf0\xfe\xfe\xfe\xfe\xfe\xfe\xfe",
+        b"\xff\xfe\xfe\xfe\xfe\xfe\xfe\xfe\xfe",
+        b"\xf7\xff\xff\xff\xff\xff\xff\xff\xff",
+    ];
+    const BEHIND: [&[u8]; 4] = [b"", b"\x00", b"\x10", b"\xff"];
+    let mut all = FRONTS.map(|front| front.to_vec()).to_vec();
+    for (front, tenth) in FRONTS
+        .iter()
+        .flat_map(|front| (0..=255).map(move |tenth| (*front, tenth)))
+    {
+        all.extend(BEHIND.map(|behind| [&front[..], &[tenth], behind].concat()));
+    }
+    all
+}
+
+/// Adds a number with a tenth byte. Half have one above 15, at times with bytes behind it; the sum of a quarter is too
+/// large.
+pub fn long_number(random: &mut Random, bytes: &mut Vec<u8>) {
+    let lowest = [0x80, 0x80, 0xfe][random.index(3)];
+    bytes.push(240 + random.below(16) as u8);
+    bytes.extend((0..8).map(|_| lowest | random.byte()));
+    match random.below(4) {
+        0 => bytes.push(15),
+        1 => bytes.push(random.below(16) as u8),
+        2 => bytes.push(random.within(16, 127) as u8),
+        _ => {
+            bytes.push(random.within(128, 255) as u8);
+            bytes.extend((0..random.below(3)).map(|_| random.byte()));
+        }
+    }
+}
+
 /// Adds a well-formed sequence of UTF-8, of any length.
 pub fn sequence(random: &mut Random, bytes: &mut Vec<u8>) {
     let scalar = match random.below(4) {

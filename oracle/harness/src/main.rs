@@ -9,6 +9,7 @@ mod port;
 mod reader;
 mod records;
 mod shrink;
+mod tenth;
 mod text;
 mod timing;
 

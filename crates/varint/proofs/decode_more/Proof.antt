@@ -1,98 +1,102 @@
 -- `varint::decode_more` meets its contract. The loop's invariant: the whole reads as what is left of it does after `used` bytes that
--- add up to `sum`. The shift goes up by seven for each byte, so that ten bytes are used exactly where it passes 63. Each
--- `return` is the invariant and a law for the next byte.
+-- add up to `sum`, which is below sixteen times what the next byte counts in. The shift goes up by seven for each byte. Each `return` is the
+-- invariant and a law for the next byte.
 -- Assumes nothing.
 use Prim.Native.Nat.{ℕ, suc, _+_, _-_, _*_, _%_, _≤_, _<_, _^_}
 use mathlib.Core.List.{List}
 use mathlib.Core.Path.{_≡_, refl, sym, ap, _∙_}
 use native.Mathlib.Omega.{arith}
+use native.Mathlib.Nat.{mul-le-mul-right}
 use native.Mathlib.Numerals.{add-one}
 use lib.ListN.{length, drop, getD, drop-of-length-le}
+use lib.Pow.{pow-add, pow-mono}
 use lib.Seq.{drop-cons}
+use borrow.Author.Needs.{needs}
 use Rattle.answer.specs.Answer.{done, refused}
 use Rattle.varint.specs.Number.{more, worth}
-use Rattle.varint.proofs.Reading.{more-none, more-eleventh, more-over, more-last, more-on, worth-shift}
+use Rattle.varint.specs.Promise.{numberRead}
+use Rattle.varint.proofs.Reading.{more-none, more-last, more-on, worth-shift}
 use Rattle.varint.proofs.decode_more.Statement.{statement}
 use Rattle.varint.proofs.decode_more.Tie as tie
 
--- What the next byte does to the sum, in the code's terms: its shift, its `used + 1`, its test against what room is left.
-module _ (s : List ℕ) (sum used shift : ℕ) (here : used < length s) (e : shift + 3 ≡ 7 * used) where
+-- What the next byte does to the sum, in the code's terms: its shift, and its `used + 1`.
+module _ (s : List ℕ) (sum used shift : ℕ) (here : used < length s) (e : shift + 3 ≡ 7 * used) (early : used < 9) (small : getD s used 0 < 256) (below : sum < 16 * 2 ^ shift) where
   abbrev byte : ℕ
   byte = getD s used 0
 
-  eleventh : 64 ≤ shift → more sum used (drop used s) ≡ refused 7 (used + 1)
-  eleventh h = rw (add-one, drop-cons s used 0 here) (more-eleventh sum used byte (omega arith) (drop (suc used) s))
+  abbrev addend : ℕ
+  addend = (byte * 2 ^ shift) % 2 ^ 64
 
-  module _ (small : byte < 256) (h : shift < 64) where
-    abbrev addend : ℕ
-    addend = (byte * 2 ^ shift) % 2 ^ 64
+  addend-worth : addend ≡ worth used byte
+  addend-worth = ap (λ (k : ℕ). (byte * 2 ^ k) % 2 ^ 64) (omega arith) ∙ worth-shift used byte early small
 
-    addend-worth : addend ≡ worth used byte
-    addend-worth = ap (λ (k : ℕ). (byte * 2 ^ k) % 2 ^ 64) (omega arith) ∙ worth-shift used byte (omega arith) small
+  addend-whole : addend ≡ byte * 2 ^ shift
+  addend-whole = addend-worth ∙ ap (λ (k : ℕ). byte * 2 ^ k) (omega arith)
 
-    over : 2 ^ 64 ≤ sum + addend → more sum used (drop used s) ≡ refused 7 (used + 1)
-    over o =
-        rw (add-one, drop-cons s used 0 here)
-        (more-over sum used byte (omega arith) (rw addend-worth at o) (drop (suc used) s))
+  -- a byte of eight bits, of what is counted in
+  byte-below : byte * 2 ^ shift ≤ 256 * 2 ^ shift
+  byte-below = mul-le-mul-right (2 ^ shift) (omega arith)
 
-    last : sum + addend < 2 ^ 64 → byte < 128 → more sum used (drop used s) ≡ done (sum + addend) (used + 1)
-    last o l =
-        rw (add-one, addend-worth, drop-cons s used 0 here)
-        (more-last sum used byte (omega arith) (rw addend-worth at o) l (drop (suc used) s))
+  fits : sum + addend < 2 ^ 64
+  fits = omega (arith, addend-whole, byte-below, pow-mono {i = shift} {j = 53} (omega arith))
 
-    on : sum + addend < 2 ^ 64 → 128 ≤ byte → more sum used (drop used s) ≡ more (sum + addend) (used + 1) (drop (used + 1) s)
-    on o l =
-        rw (add-one, addend-worth, drop-cons s used 0 here)
-        (more-on sum used byte (omega arith) (rw addend-worth at o) l (drop (suc used) s))
+  next-below : sum + addend < 16 * 2 ^ (shift + 7)
+  next-below = omega (arith, addend-whole, byte-below, pow-add 2 shift 7)
+
+  last : byte < 128 → more sum used (drop used s) ≡ done (sum + addend) (used + 1)
+  last l =
+      rw (add-one, addend-worth, drop-cons s used 0 here)
+      (more-last sum used byte (λ k. absurd (omega arith)) (rw addend-worth at fits) l (drop (suc used) s))
+
+  on : 128 ≤ byte → more sum used (drop used s) ≡ more (sum + addend) (used + 1) (drop (used + 1) s)
+  on l =
+      rw (add-one, addend-worth, drop-cons s used 0 here)
+      (more-on sum used byte (λ k. absurd (omega arith)) (rw addend-worth at fits) l (drop (suc used) s))
 
 abbrev Inv-loop : tie.InvT-loop
 Inv-loop first input sum₀ used₀ shift₀ sum used shift =
-    (more first 1 (drop 1 input) ≡ more sum used (drop used input)) × (shift + 3 ≡ 7 * used) × (sum < 2 ^ 64)
+    (more first 1 (drop 1 input) ≡ more sum used (drop used input)) × (shift + 3 ≡ 7 * used) × (sum < 16 * 2 ^ shift) × (used ≤ 9)
 
 abbrev μ-loop : tie.MeasureT-loop
-μ-loop first input sum₀ used₀ shift₀ sum used shift = length input - used
+μ-loop first input sum₀ used₀ shift₀ sum used shift = 9 - used
 
-small : (c : tie.After-shared-slice-known Inv-loop μ-loop) → getD (c .before .before .before .before .args .input .now) (c .before .before .before .loop .used) 0 < 256
-small c = omega (arith, c .shared-slice-known .given (c .before .before .before .loop .used))
+small : (c : tie.After-shared-slice-known2 Inv-loop μ-loop) → getD (c .before .before .before .before .before .args .input .now) (c .before .before .before .loop .used) 0 < 256
+small c = omega (arith, c .shared-slice-known2 .given (c .before .before .before .loop .used))
 
 loop-holds : tie.Need-loop-holds Inv-loop μ-loop
-loop-holds c = (refl, refl, omega arith)
+loop-holds c = (refl, refl, omega (arith, c .before .pre), omega arith)
+
+decode-tenth-requires : tie.Need-decode-tenth-requires Inv-loop μ-loop
+decode-tenth-requires c κs = search needs
 
 returns : tie.Need-returns Inv-loop μ-loop
-returns c = let s = c .before .before .args .input .now in
-    sym (c .before .loop .inv .0 ∙ rw (drop-of-length-le s (c .if1 .taken)) (more-none _ _))
+returns c =
+    let k = c .before .before in
+    let nine : k .loop .used ≡ 9 = omega (arith, c .before .if1 .taken, k .loop .inv .3) in
+    c .decode-tenth .ensures ∙ ap (λ (n : ℕ). more (k .loop .sum) n (drop n (k .before .before .args .input .now))) (sym nine) ∙ sym (k .loop .inv .0)
 
-add-t13 : tie.Need-add-t13 Inv-loop μ-loop
-add-t13 c = omega arith
+refused-requires : tie.Need-refused-requires Inv-loop μ-loop
+refused-requires c κs = search needs
 
 returns-2 : tie.Need-returns-2 Inv-loop μ-loop
-returns-2 c = let k = c .before .before in
-    sym (k .loop .inv .0 ∙ eleventh _ _ _ _ (c .before .if1 .left) (k .loop .inv .1) (c .if2 .taken))
+returns-2 c =
+    let k = c .before .before .before in
+    let s = k .before .before .args .input .now in
+    ap numberRead (c .refused .ensures) ∙ sym (k .loop .inv .0 ∙ rw (drop-of-length-le s (c .before .if2 .taken)) (more-none _ _))
 
 shared-slice-read-byte : tie.Need-shared-slice-read-byte Inv-loop μ-loop
 shared-slice-read-byte c = omega arith
 
-cast-addend : tie.Need-cast-addend Inv-loop μ-loop
-cast-addend c = omega (arith, c .shared-slice-known .given (c .before .before .before .loop .used))
+cast-sum : tie.Need-cast-sum Inv-loop μ-loop
+cast-sum c = omega (arith, small c)
 
-shl-addend : tie.Need-shl-addend Inv-loop μ-loop
-shl-addend c = omega arith
-
-sub-if3 : tie.Need-sub-if3 Inv-loop μ-loop
-sub-if3 c = omega arith
-
-add-t18 : tie.Need-add-t18 Inv-loop μ-loop
-add-t18 c = omega arith
-
-returns-3 : tie.Need-returns-3 Inv-loop μ-loop
-returns-3 c = let k = c .before .before .before .before in
-    sym
-    (k .loop .inv .0
-    ∙ over _ _ _ _ (c .before .before .before .if1 .left) (k .loop .inv .1) (small (c .before)) (c .before .before .if2 .left)
-    (omega (arith, c .if3 .taken, k .loop .inv .2)))
+shl-sum : tie.Need-shl-sum Inv-loop μ-loop
+shl-sum c = omega arith
 
 add-sum : tie.Need-add-sum Inv-loop μ-loop
-add-sum c = omega arith
+add-sum c =
+    let k = c .before .before .before in
+    record { fits = fits (k .before .before .args .input .now) (k .loop .sum) (k .loop .used) (k .loop .shift) (c .before .if2 .left) (k .loop .inv .1) (c .before .before .if1 .left) (small c) (k .loop .inv .2) }
 
 add-used : tie.Need-add-used Inv-loop μ-loop
 add-used c = omega arith
@@ -104,22 +108,22 @@ loop-less : tie.Need-loop-less Inv-loop μ-loop
 loop-less c = omega arith
 
 loop-again : tie.Need-loop-again Inv-loop μ-loop
-loop-again c = let k = c .before .before .before .before .before in (
-  k .loop .inv .0
-      ∙ on _ _ _ _ (c .before .before .before .before .if1 .left) (k .loop .inv .1) (small (c .before .before)) (c .before .before .before .if2 .left)
-      (omega (arith, c .before .if3 .left, k .loop .inv .2))
-      (c .if4 .left),
-  omega arith,
-  omega arith,
-)
+loop-again c =
+    let k = c .before .before .before .before in
+    let here = c .before .before .if2 .left in
+    let early = c .before .before .before .if1 .left in (
+      k .loop .inv .0 ∙ on (k .before .before .args .input .now) (k .loop .sum) (k .loop .used) (k .loop .shift) here (k .loop .inv .1) early (small (c .before)) (k .loop .inv .2) (c .if3 .left),
+      omega arith,
+      next-below (k .before .before .args .input .now) (k .loop .sum) (k .loop .used) (k .loop .shift) here (k .loop .inv .1) early (small (c .before)) (k .loop .inv .2),
+      omega arith,
+    )
 
-returns-4 : tie.Need-returns-4 Inv-loop μ-loop
-returns-4 c = let k = c .before .before .before .before .before in
+returns-3 : tie.Need-returns-3 Inv-loop μ-loop
+returns-3 c =
+    let k = c .before .before .before .before in
     sym
     (k .loop .inv .0
-    ∙ last _ _ _ _ (c .before .before .before .before .if1 .left) (k .loop .inv .1) (small (c .before .before)) (c .before .before .before .if2 .left)
-    (omega (arith, c .before .if3 .left, k .loop .inv .2))
-    (c .if4 .taken))
+    ∙ last (k .before .before .args .input .now) (k .loop .sum) (k .loop .used) (k .loop .shift) (c .before .before .if2 .left) (k .loop .inv .1) (c .before .before .before .if1 .left) (small (c .before)) (k .loop .inv .2) (c .if3 .taken))
 
 pub decode-more-spec : {M : Type 1} → statement M
 decode-more-spec =
@@ -128,18 +132,16 @@ decode-more-spec =
     Inv-loop
     μ-loop
     loop-holds
+    decode-tenth-requires
     returns
-    add-t13
+    refused-requires
     returns-2
     shared-slice-read-byte
-    cast-addend
-    shl-addend
-    sub-if3
-    add-t18
-    returns-3
+    cast-sum
+    shl-sum
     add-sum
     add-used
     add-shift
     loop-less
     loop-again
-    returns-4)
+    returns-3)

@@ -9,6 +9,7 @@ use lib.ListN.{length, drop, getD, drop-of-length-le}
 use lib.Seq.{drop-cons}
 use Rattle.answer.specs.Answer.{done, refused}
 use Rattle.varint.specs.Number.{number, more}
+use Rattle.varint.specs.Promise.{numberRead}
 use Rattle.varint.proofs.Reading.{number-none, number-one, number-more}
 use Rattle.varint.proofs.decode_varint.Statement.{statement}
 use Rattle.varint.proofs.decode_varint.Tie as tie
@@ -23,14 +24,17 @@ one s h l = ap number (drop-cons s 0 0 h) ∙ number-one (getD s 0 0) (drop 1 s)
 on : (s : List ℕ) → 0 < length s → 240 ≤ getD s 0 0 → number s ≡ more (getD s 0 0) 1 (drop 1 s)
 on s h l = ap number (drop-cons s 0 0 h) ∙ number-more (getD s 0 0) (drop 1 s) l
 
+refused-requires : tie.Need-refused-requires
+refused-requires c κs = search needs
+
 returns : tie.Need-returns
-returns c = sym (none _ (c .if1 .taken))
+returns c = ap numberRead (c .refused .ensures) ∙ sym (none _ (c .before .if1 .taken))
 
 shared-slice-read-first : tie.Need-shared-slice-read-first
 shared-slice-read-first c = search needs
 
-cast-t8 : tie.Need-cast-t8
-cast-t8 c = search needs
+cast-t7 : tie.Need-cast-t7
+cast-t7 c = search needs
 
 returns-2 : tie.Need-returns-2
 returns-2 c = sym (one _ (omega (arith, c .before .before .if1 .left)) (c .if2 .taken))
@@ -39,7 +43,7 @@ cast-decode-more : tie.Need-cast-decode-more
 cast-decode-more c = omega (arith, c .before .shared-slice-known2 .given 0)
 
 decode-more-requires : tie.Need-decode-more-requires
-decode-more-requires c κs = search needs
+decode-more-requires c κs = omega (arith, c .before .shared-slice-known2 .given 0)
 
 returns-3 : tie.Need-returns-3
 returns-3 c = c .decode-more .ensures ∙ sym (on _ (omega (arith, c .before .before .before .if1 .left)) (c .before .if2 .left))
@@ -48,9 +52,10 @@ pub decode-varint-spec : {M : Type 1} → statement M
 decode-varint-spec =
     tie.close
     (tie.spec
+    refused-requires
     returns
     shared-slice-read-first
-    cast-t8
+    cast-t7
     returns-2
     cast-decode-more
     decode-more-requires

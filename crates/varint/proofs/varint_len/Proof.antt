@@ -1,40 +1,120 @@
--- `varint::varint_len` meets its contract. The loop's invariant: what is counted so far and what the groups of `value` still
--- need make up the written form, less the one byte that `len` starts ahead by. Each turn takes one group off.
+-- `varint::varint_len` meets its contract. The bits of the steps are what their leading zeros leave of 64, so the law by bits (`length-before`,
+-- `length-from`) tells the length, by what so many bytes reach, which the code asks as `reached` says.
 -- Assumes nothing.
-use Prim.Native.Nat.{_+_, _<_, _^_}
-use mathlib.Core.Path.{_≡_, ap}
+use mathlib.Core.Path.{_≡_, sym, _∙_}
+use mathlib.Core.Logic.{⊎-elim}
+use Prim.Native.Nat.{ℕ, _+_, _-_, _*_, _/_, _%_, _^_, _≤_, _<_}
+use native.Mathlib.Nat.{one-mul}
 use native.Mathlib.Omega.{arith}
+use lib.Count.{leadingZeros, leading-le, leading-length}
+use lib.Dec.{lit<}
 use lib.ListN.{length}
-use Rattle.varint.specs.Number.{groups, numberBytes}
-use Rattle.varint.proofs.Writing.{bytes-one, bytes-more, nine-on, groups-last, length-bounds}
+use lib.Pow.{pow-mono, shl-exact}
+use borrow.Author.Needs.{needs}
+use Rattle.answer.proofs.Cases.{lt-or-le}
+use Rattle.varint.specs.Number.{numberBytes}
+use Rattle.varint.proofs.Writing.{bytes-one, reach, reached, length-before, length-from}
 use Rattle.varint.proofs.varint_len.Statement.{statement}
 use Rattle.varint.proofs.varint_len.Tie as tie
 
-abbrev Inv-loop : tie.InvT-loop
-Inv-loop i len₀ value₀ len value = (len + length (groups 9 value) ≡ length (numberBytes i) + 1) × (value < 2 ^ 60)
+-- The steps of a number of 64 bits have fewer than 63, which are what is left of their leading zeros.
+record Bits (v bits : ℕ) : Type 0 where
+  below : v < 2 ^ bits
+  above : 2 ^ bits ≤ 2 * v + 1
+  few : bits / 7 < 9
 
-abbrev μ-loop : tie.MeasureT-loop
-μ-loop i len₀ value₀ len value = value
+bits-of : (i : ℕ) → i < 2 ^ 64 → Bits ((i - 240) / 16) (64 - leadingZeros 64 ((i - 240) / 16))
+bits-of i h =
+    let o = leading-length 64 ((i - 240) / 16) (omega arith) in
+    let is : o .0 ≡ 64 - leadingZeros 64 ((i - 240) / 16) = omega arith in
+    rw (sym is)
+    (record {
+      below = o .2;
+      above = o .3;
+      few = ⊎-elim (λ l. omega arith) (λ l. absurd (omega (arith, o .3, pow-mono {i = 63} {j = o .0} l))) (lt-or-le (o .0) 63);
+    })
 
-returns : tie.Need-returns Inv-loop μ-loop
+-- `1 << 7k` keeps its one bit
+one-bit : (k : ℕ) → k < 9 → (1 * 2 ^ (7 * k)) % 2 ^ 64 ≡ 2 ^ (7 * k)
+one-bit k h = shl-exact {a = 1} 1 (7 * k) 64 (lit< tt) (omega arith) ∙ one-mul (2 ^ (7 * k))
+
+module _ (i : ℕ) where
+  abbrev steps : ℕ
+  steps = (i - 240) / 16
+
+  abbrev row : ℕ
+  row = (64 - leadingZeros 64 steps) / 7
+
+  abbrev threshold : ℕ
+  threshold = (1 * 2 ^ (7 * row)) % 2 ^ 64
+
+  module _ (some : 240 ≤ i) (fits : i < 2 ^ 64) where
+    shorter : steps - (steps + 127) / 128 + 1 < threshold → row + 1 ≡ length (numberBytes i)
+    shorter t = let b = bits-of i fits in sym (length-before i _ some fits (b .below) (b .above) (reached row steps .1 (omega (arith, t, one-bit row (b .few)))))
+
+    longer : threshold ≤ steps - (steps + 127) / 128 + 1 → row + 2 ≡ length (numberBytes i)
+    longer t =
+        let b = bits-of i fits in
+        sym (length-from i _ some fits (b .below) (b .above)
+        (⊎-elim (λ l. absurd (omega (arith, t, one-bit row (b .few), reached row steps .0 l))) (λ l. l) (lt-or-le steps (reach row))))
+
+returns : tie.Need-returns
 returns c = rw (bytes-one _ (c .if1 .taken))
 
-loop-holds : tie.Need-loop-holds Inv-loop μ-loop
-loop-holds c = omega (arith, ap length (bytes-more (c .before .args .i) (c .if1 .left)))
+sub-k : tie.Need-sub-k
+sub-k c = leading-le 64 _
 
-add-len : tie.Need-add-len Inv-loop μ-loop
-add-len c = let i = c .before .before .before .args .i in omega (arith, length-bounds i (c .before .before .before .fits .i .fits))
+add-if2 : tie.Need-add-if2
+add-if2 c = search needs
 
-loop-less : tie.Need-loop-less Inv-loop μ-loop
-loop-less c = omega arith
+sub-if2 : tie.Need-sub-if2
+sub-if2 c = search needs
 
-loop-again : tie.Need-loop-again Inv-loop μ-loop
-loop-again c =
-    omega (arith, ap length (nine-on (c .before .loop .value) (c .loop-test .taken) (c .before .loop .inv .1)))
+add-if2-2 : tie.Need-add-if2-2
+add-if2-2 c = search needs
 
-returns-2 : tie.Need-returns-2 Inv-loop μ-loop
-returns-2 c = omega (arith, ap length (groups-last 8 (c .before .loop .value) (c .loop-test .left)))
+mul-if2 : tie.Need-mul-if2
+mul-if2 c = search needs
+
+cast-if2 : tie.Need-cast-if2
+cast-if2 c = search needs
+
+shl-if2 : tie.Need-shl-if2
+shl-if2 c = search needs
+
+cast-result : tie.Need-cast-result
+cast-result c = search needs
+
+add-result : tie.Need-add-result
+add-result c = search needs
+
+cast-result-2 : tie.Need-cast-result-2
+cast-result-2 c = search needs
+
+add-result-2 : tie.Need-add-result-2
+add-result-2 c = search needs
+
+returns-2 : tie.Need-returns-2
+returns-2 c = shorter (c .before .before .args .i) (c .before .if1 .left) (c .before .before .fits .i .fits) (c .if2 .taken)
+
+returns-3 : tie.Need-returns-3
+returns-3 c = longer (c .before .before .args .i) (c .before .if1 .left) (c .before .before .fits .i .fits) (c .if2 .left)
 
 pub varint-len-spec : {M : Type 1} → statement M
 varint-len-spec =
-    tie.close (tie.spec Inv-loop μ-loop returns loop-holds add-len loop-less loop-again returns-2)
+    tie.close
+    (tie.spec
+    returns
+    sub-k
+    add-if2
+    sub-if2
+    add-if2-2
+    mul-if2
+    cast-if2
+    shl-if2
+    cast-result
+    add-result
+    cast-result-2
+    add-result-2
+    returns-2
+    returns-3)

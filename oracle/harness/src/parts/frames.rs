@@ -4,7 +4,7 @@
 use crate::{
     answers::{self, Answer},
     counts::ENOUGH,
-    inputs::Random,
+    inputs::{self, Random},
     port,
     reader::{
         call::{Call, declared},
@@ -13,6 +13,7 @@ use crate::{
         wire,
     },
     records::{self, REPEATED},
+    tenth,
     text::Difference,
     timing,
 };
@@ -38,10 +39,14 @@ pub fn diff(random: &mut Random, rounds: u64) -> Result<String, Difference> {
     if rounds >= ENOUGH {
         drawn.all("random")?;
     }
-    drawn.frames.print();
+    drawn.print();
     Ok(format!(
-        "{} fixed frames and {} fixed pairs, {} random frames and {} random pairs in {rounds} rounds",
-        fixed.frames.inputs, fixed.pairs, drawn.frames.inputs, drawn.pairs
+        "{} fixed frames and {} fixed pairs, {} random frames and {} random pairs in {rounds} rounds; {}",
+        fixed.frames.inputs,
+        fixed.pairs.inputs,
+        drawn.frames.inputs,
+        drawn.pairs.inputs,
+        tenth::left_out(fixed.left_out, drawn.left_out),
     ))
 }
 
@@ -53,7 +58,7 @@ pub const LISTING: &[u8] =
 const ROOMY: [usize; 2] = [4 * 64, 5 * 256];
 
 /// The paper's examples of frames, with a limit and the answer: they hold the reading of the paper to it.
-const EXAMPLES: [(&[u8], u32, Answer); 11] = [
+const EXAMPLES: [(&[u8], u32, Answer); 13] = [
     (LISTING, 65_532, paper(0, 29)),
     (b"\0\0\0\x07\x01\0\0\0\x01\0\0", 7, paper(0, 11)),
     (b"\0\0\0\x07\x01\0\0\0\x00\0\0", 7, paper(4, 4)),
@@ -64,6 +69,16 @@ const EXAMPLES: [(&[u8], u32, Answer); 11] = [
     (b"\0\x10\0\x01", 1_048_576, paper(2, 4)),
     (b"\0\x10\0\0", 1_048_576, paper(1, 1_048_576)),
     (b"\0\0\0\0", 0, paper(3, 4)),
+    (
+        b"\0\0\0\x0f\x01\0\0\0\x01\xf0\x80\x80\x80\x80\x80\x80\x80\x80\x0f",
+        15,
+        paper(7, 19),
+    ),
+    (
+        b"\0\0\0\x0f\x01\0\0\0\x01\xf0\x80\x80\x80\x80\x80\x80\x80\x80\x10",
+        15,
+        paper(19, 19),
+    ),
     (
         b"\0\0\0\x0f\x01\0\0\0\x01\0\0\x02A\xff\0\x02A\xfe\0",
         15,
@@ -159,7 +174,28 @@ fn small_tables(met: &mut Met, input: Vec<u8>, index: usize) -> Result<(), Diffe
     Ok(())
 }
 
-/// Numbers of ten and eleven bytes, cut anywhere, as an id, a length or a value.
+/// What may stand before a number behind the flags: it is an id, a length or a value then.
+const BEFORE: [&[u8]; 7] = [
+    b"",
+    b"\0",
+    b"\0\0",
+    b"\0\0\0\x02",
+    b"\0\0\0\x05",
+    b"\0\0\0\x08",
+    b"\0\0\0\x01\0\x04",
+];
+
+/// The same for a pair on its own.
+const IN_PAIRS: [&[u8]; 6] = [
+    b"",
+    b"\0\x02",
+    b"\0\x14",
+    b"\x01k\x05",
+    b"\0\x08",
+    b"\x01k\xf9",
+];
+
+/// Numbers of ten and eleven bytes, cut anywhere, and any tenth byte.
 fn long_numbers(met: &mut Met) -> Result<(), Difference> {
     const NUMBERS: [&[u8]; 4] = [
         b"\xf0\x80\x80\x80\x80\x80\x80\x80\x80\x10",
@@ -167,29 +203,33 @@ fn long_numbers(met: &mut Met) -> Result<(), Difference> {
         b"\xf0\x80\x80\x80\x80\x80\x80\x80\x80\x80\0",
         b"\xff\xf0\xfe\xfe\xfe\xfe\xfe\xfe\xfe\x0e",
     ];
-    const BEFORE: [&[u8]; 7] = [
-        b"",
-        b"\0",
-        b"\0\0",
-        b"\0\0\0\x02",
-        b"\0\0\0\x05",
-        b"\0\0\0\x08",
-        b"\0\0\0\x01\0\x04",
-    ];
-    for (number, before) in NUMBERS
-        .iter()
-        .flat_map(|number| BEFORE.map(|before| (number, before)))
-    {
+    for number in NUMBERS {
+        for end in 0..=number.len() {
+            with_number(met, &number[..end], ROOMY)?;
+        }
+    }
+    for number in inputs::tenth_bytes() {
+        with_number(met, &number, ROOMY)?;
+        with_number(met, &number, [4, 0])?;
+        for before in IN_PAIRS {
+            met.pair(&[before, &number[..]].concat())?;
+        }
+    }
+    Ok(())
+}
+
+/// Frames that end with this number, as an id, a length or a value.
+fn with_number(met: &mut Met, number: &[u8], lengths: [usize; 2]) -> Result<(), Difference> {
+    for before in BEFORE {
         for kind in [1, 3, 103] {
-            for end in 0..=number.len() {
-                let body = [&[kind, 0, 0, 0, 1], before, &number[..end]].concat();
-                let frame = [&[0, 0, 0, body.len() as u8], &body[..]].concat();
-                met.frame(&Call {
-                    input: frame,
-                    limit: 60,
-                    lengths: ROOMY,
-                })?;
-            }
+            let body = [&[kind, 0, 0, 0, 1], before, number].concat();
+            let input = [&[0, 0, 0, body.len() as u8], &body[..]].concat();
+            let limit = 60;
+            met.frame(&Call {
+                input,
+                limit,
+                lengths,
+            })?;
         }
     }
     Ok(())

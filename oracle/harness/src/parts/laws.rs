@@ -15,6 +15,7 @@ use crate::{
         wire,
     },
     shrink,
+    tenth::NOT_FITTING,
     text::Difference,
 };
 
@@ -196,16 +197,25 @@ impl More {
     }
 }
 
+/// The refusals that more of everything does not change.
+const KEPT: [(u64, &str); 8] = [
+    (3, "3, kept"),
+    (4, "4, kept"),
+    (5, "5, kept"),
+    (6, "6, kept"),
+    (7, "7, kept"),
+    (8, "8, kept"),
+    (9, "9, kept"),
+    (NOT_FITTING, "19, kept"),
+];
+
 fn classes(again: &Again, seen: &Seen) -> Vec<Class> {
     let more = More::of(again);
     let mut all = classes_of_accepted(again, &more, &seen.first);
     all.extend(classes_of_waits(again, &more, seen));
     all.extend(classes_of_oversize(again, &more, seen));
-    let names = [
-        "3, kept", "4, kept", "5, kept", "6, kept", "7, kept", "8, kept", "9, kept",
-    ];
-    let kept = |number| seen.first.number() == number && more.all();
-    all.extend((3..).zip(names).map(|(number, name)| (name, kept(number))));
+    let kept = |(number, name)| (name, seen.first.number() == number && more.all());
+    all.extend(KEPT.map(kept));
     all.extend(classes_of_full(&more, seen));
     all
 }
@@ -314,7 +324,7 @@ fn classes_of_full(more: &More, seen: &Seen) -> Vec<Class> {
         ),
         (
             "10, and another refusal with more room",
-            moved && then > WAIT && then < TABLE_FULL,
+            moved && then > WAIT && then != TABLE_FULL,
         ),
     ]
 }

@@ -2,8 +2,9 @@
 
 use crate::{
     answers::{self, Answer, TOO_SHORT_OUT},
+    counts::ENOUGH,
     inputs::{self, FIRSTS, LONGEST, Random},
-    port, shrink,
+    port, shrink, tenth,
     text::{Difference, hex},
     timing,
 };
@@ -103,8 +104,19 @@ fn decode_by_rust(input: &[u8]) -> Decoded {
     }
 }
 
+/// What is right: the Rust's answer, or the paper's where the tenth byte is above 15.
+fn decode_rightly(input: &[u8]) -> Decoded {
+    match tenth::refusal(input, 0) {
+        Some(answer) => Decoded {
+            answer,
+            value: UNTOUCHED,
+        },
+        None => decode_by_rust(input),
+    }
+}
+
 fn differs_in_decoding(input: &[u8]) -> bool {
-    decode_by_port(input) != decode_by_rust(input)
+    decode_by_port(input) != decode_rightly(input)
 }
 
 // ---------------------------------------------------------------- a difference, made small
@@ -156,10 +168,14 @@ fn decode_difference(input: &[u8]) -> Difference {
         UNTOUCHED => format!("{}, value untouched", side.answer),
         value => format!("{}, value {value} ({value:#x})", side.answer),
     };
+    let right = match tenth::refusal(&input, 0) {
+        Some(_) => "paper",
+        None => "rust",
+    };
     Difference::in_call("decode_varint")
         .row("input", format!("{} ({} bytes)", hex(&input), input.len()))
         .row("port", show(decode_by_port(&input)))
-        .row("rust", show(decode_by_rust(&input)))
+        .row(right, show(decode_rightly(&input)))
 }
 
 // ---------------------------------------------------------------- comparing
@@ -168,6 +184,7 @@ fn decode_difference(input: &[u8]) -> Difference {
 #[derive(Default)]
 struct Comparer {
     count: u64,
+    left_out: u64,
     written: Vec<u8>,
     input: Vec<u8>,
 }
@@ -192,6 +209,7 @@ impl Comparer {
 
     fn decode(&mut self, input: &[u8]) -> Result<(), Difference> {
         self.count += 1;
+        self.left_out += u64::from(tenth::refusal(input, 0).is_some());
         if differs_in_decoding(input) {
             return Err(decode_difference(input));
         }
@@ -219,17 +237,25 @@ pub fn diff(random: &mut Random, rounds: u64) -> Result<String, Difference> {
     short_strings(&mut sides)?;
     let short = std::mem::take(&mut sides.count);
     constant_runs(&mut sides)?;
+    for input in inputs::tenth_bytes() {
+        sides.decode(&input)?;
+    }
     for n in inputs::edges() {
         edge(&mut sides, n)?;
     }
     let fixed = std::mem::take(&mut sides.count);
+    let fixed_left_out = std::mem::take(&mut sides.left_out);
     for _ in 0..rounds {
         round(&mut sides, random)?;
     }
     let drawn = sides.count;
+    if rounds >= ENOUGH && sides.left_out == 0 {
+        return Err(tenth::not_met("decode_varint"));
+    }
+    let left_out = tenth::left_out(fixed_left_out, sides.left_out);
     Ok(format!(
         "all {short} byte strings of up to three bytes, {fixed} further fixed calls, \
-         {drawn} random calls in {rounds} rounds"
+         {drawn} random calls in {rounds} rounds; {left_out}"
     ))
 }
 
@@ -429,7 +455,7 @@ fn time_decode(name: &str, numbers: &[u64]) {
 
 // ---------------------------------------------------------------- the list
 
-/// The Rust's answers, each line once.
+/// The Rust's answers, and the paper's where it is left out, each line once.
 #[derive(Default)]
 struct List {
     lines: Vec<String>,
@@ -452,12 +478,13 @@ impl List {
     }
 
     fn decode(&mut self, input: &[u8]) -> Result<(), String> {
-        let answer = match decode_varint(input) {
-            Ok((rest, value)) => (answers::accepted(input, rest), value),
-            Err(error) => (answers::refused(input, error), 0),
+        let right = decode_rightly(input);
+        let (number, at) = right.answer.listed()?;
+        let value = match number {
+            answers::DONE => right.value,
+            _ => 0,
         };
-        let (number, at) = answer.0.listed()?;
-        let (input, value) = (hex(input), answer.1);
+        let input = hex(input);
         self.add(format!("d {input} {number:016x} {at:016x} {value:016x}"));
         Ok(())
     }
@@ -514,8 +541,7 @@ fn list_examples(list: &mut List) -> Result<(), String> {
     list.decode(&run_of_80(9, &[0x00]))
 }
 
-/// Ends too soon, a tenth byte that counts modulo 16, sums just in range and just over, an eleventh
-/// byte.
+/// Ends too soon, a tenth byte above 15 with and without bytes behind it, sums just in range and just over.
 fn list_refusals(list: &mut List) -> Result<(), String> {
     for end in 0..=11 {
         list.decode(&run_of_80(11, &[])[..end])?;

@@ -2,10 +2,12 @@
 
 use crate::{
     answers::{self, Answer, TOO_SHORT_OUT},
+    counts::ENOUGH,
     inputs::{self, Random},
     port,
+    reader::wire,
     records::{self, NOT_TEXT, Value as Record},
-    shrink,
+    shrink, tenth,
     text::{Difference, hex},
     timing,
 };
@@ -96,8 +98,27 @@ fn string_part(input: &[u8]) -> (usize, usize) {
     }
 }
 
+/// The paper's answer where the value has a number with a tenth byte above 15.
+fn refusal(input: &[u8]) -> Option<Answer> {
+    match input.first()? % 16 {
+        2..=5 | 8 | 9 => tenth::refusal(input, 1),
+        _ => None,
+    }
+}
+
+/// What is right: the Rust's answer, or the paper's where the Rust is left out.
+fn read_rightly(input: &[u8]) -> Read {
+    match refusal(input) {
+        Some(answer) => Read {
+            answer,
+            value: [UNTOUCHED; 3],
+        },
+        None => read_by_rust(input),
+    }
+}
+
 fn differs_in_reading(input: &[u8]) -> bool {
-    read_by_port(input) != read_by_rust(input)
+    read_by_port(input) != read_rightly(input)
 }
 
 // ---------------------------------------------------------------- writing, both sides
@@ -194,10 +215,14 @@ fn read_difference(input: &[u8]) -> Difference {
         [UNTOUCHED, UNTOUCHED, UNTOUCHED] => format!("{}, value untouched", side.answer),
         [kind, a, b] => format!("{}, value {kind} {a:#x} {b:#x}", side.answer),
     };
+    let right = match refusal(&input) {
+        Some(_) => "paper",
+        None => "rust",
+    };
     Difference::in_call("typed_data")
         .row("input", hex(&input))
         .row("port", show(read_by_port(&input)))
-        .row("rust", show(read_by_rust(&input)))
+        .row(right, show(read_rightly(&input)))
 }
 
 fn smaller_write(mut call: Write) -> Write {
@@ -230,11 +255,13 @@ fn write_difference(call: Write) -> Difference {
 #[derive(Default)]
 struct Comparer {
     count: u64,
+    left_out: u64,
 }
 
 impl Comparer {
     fn read(&mut self, input: &[u8]) -> Result<(), Difference> {
         self.count += 1;
+        self.left_out += u64::from(refusal(input).is_some());
         if differs_in_reading(input) {
             return Err(read_difference(input));
         }
@@ -258,13 +285,31 @@ pub fn diff(random: &mut Random, rounds: u64) -> Result<String, Difference> {
         }
     }
     let short = std::mem::take(&mut sides.count);
+    long_numbers(&mut sides)?;
+    let fixed = std::mem::take(&mut sides.count);
+    let fixed_left_out = std::mem::take(&mut sides.left_out);
     for _ in 0..rounds {
         round(&mut sides, random)?;
     }
     let drawn = sides.count;
+    if rounds >= ENOUGH && sides.left_out == 0 {
+        return Err(tenth::not_met("typed_data"));
+    }
+    let left_out = tenth::left_out(fixed_left_out, sides.left_out);
     Ok(format!(
-        "all {short} byte strings of up to three bytes, {drawn} random calls in {rounds} rounds"
+        "all {short} byte strings of up to three bytes, {fixed} further fixed calls, \
+         {drawn} random calls in {rounds} rounds; {left_out}"
     ))
+}
+
+/// Any tenth byte behind any type byte.
+fn long_numbers(sides: &mut Comparer) -> Result<(), Difference> {
+    for number in inputs::tenth_bytes() {
+        for first in 0..=255 {
+            sides.read(&[&[first], &number[..]].concat())?;
+        }
+    }
+    Ok(())
 }
 
 fn round(sides: &mut Comparer, random: &mut Random) -> Result<(), Difference> {
@@ -276,6 +321,7 @@ fn round(sides: &mut Comparer, random: &mut Random) -> Result<(), Difference> {
         _ => inputs::damage(random, &mut bytes),
     }
     sides.read(&bytes)?;
+    sides.read(&with_long_number(random))?;
     let call = drawn_write(random);
     sides.write(&call)
 }
@@ -305,6 +351,16 @@ fn encoded(random: &mut Random) -> Vec<u8> {
             bytes.extend(content);
         }
         _ => {}
+    }
+    bytes
+}
+
+/// A value whose number has a tenth byte, at times cut.
+fn with_long_number(random: &mut Random) -> Vec<u8> {
+    let mut bytes = Vec::new();
+    wire::long_value(random, &mut bytes);
+    if random.below(8) == 0 {
+        inputs::cut(random, &mut bytes);
     }
     bytes
 }
@@ -459,11 +515,24 @@ pub fn list(random: &mut Random) -> Result<Vec<String>, String> {
         inputs::cut(random, &mut bytes);
         add(&mut lines, &bytes)?;
     }
+    list_long_numbers(&mut lines)?;
     Ok(lines)
 }
 
+/// A tenth byte above 15 behind each kind, and with a byte behind it.
+fn list_long_numbers(lines: &mut Vec<String>) -> Result<(), String> {
+    const NINE: &[u8; 9] = b"\xf0\x80\x80\x80\x80\x80\x80\x80\x80";
+    for kind in 0..=10 {
+        add(lines, &[&[kind], &NINE[..], b"\x10"].concat())?;
+    }
+    for tenth in [b"\x7f\x00", b"\x80\x00", b"\xff\x00"] {
+        add(lines, &[b"\x05", &NINE[..], tenth].concat())?;
+    }
+    Ok(())
+}
+
 fn add(lines: &mut Vec<String>, input: &[u8]) -> Result<(), String> {
-    let read = read_by_rust(input);
+    let read = read_rightly(input);
     let (number, at) = read.answer.listed()?;
     let [kind, a, b] = match number {
         answers::DONE => read.value,

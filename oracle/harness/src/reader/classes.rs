@@ -2,41 +2,55 @@
 
 use super::{
     call::Call,
-    model::{Pair, Read, Rooms, TABLE_FULL},
-    sides,
+    model::{self, Pair, Read, Rooms, TABLE_FULL},
+    sides::{self, PairRead},
 };
 use crate::{
     counts::{Class, Counts},
+    inputs::LONGEST,
     records::{self, REPEATED},
+    tenth::NOT_FITTING,
     text::Difference,
 };
-use spop::{parser::parse_frame_with_limit, varint::decode_varint};
+use spop::parser::parse_frame_with_limit;
 
 #[derive(Default)]
 pub struct Met {
     pub frames: Counts,
-    pub pairs: u64,
+    pub pairs: Counts,
+    /// Frames and pairs that the Rust's answer was left out of.
+    pub left_out: u64,
 }
 
 impl Met {
     pub fn frame(&mut self, call: &Call) -> Result<Read, Difference> {
         let read = sides::checked(call)?;
         self.frames.add(&classes(call, &read));
+        self.left_out += u64::from(sides::is_left_out(call, &read));
         Ok(read)
     }
 
     pub fn pair(&mut self, input: &[u8]) -> Result<(), Difference> {
-        self.pairs += 1;
-        sides::checked_pair(input)
+        let read = sides::checked_pair(input)?;
+        self.pairs.add(&pair_classes(input, &read));
+        self.left_out += u64::from(matches!(read, Err((NOT_FITTING, _))));
+        Ok(())
     }
 
     pub fn all(&self, inputs: &str) -> Result<(), Difference> {
-        self.frames.all("read_frame", inputs)
+        self.frames.all("read_frame", inputs)?;
+        self.pairs.all("read_pair", inputs)
+    }
+
+    pub fn print(&self) {
+        self.frames.print();
+        println!("pairs on their own:");
+        self.pairs.print();
     }
 }
 
 /// Which of the classes a call is of, with their names.
-fn classes(call: &Call, read: &Read) -> [Class; 28] {
+fn classes(call: &Call, read: &Read) -> [Class; 32] {
     let is = |number| read.number == number;
     let kind = call.input.get(4).copied().unwrap_or_default();
     let rooms = Rooms::of(call.lengths);
@@ -44,7 +58,9 @@ fn classes(call: &Call, read: &Read) -> [Class; 28] {
     let list = matches!(kind, 1 | 2);
     let notify = kind == 3;
     let known = list || notify || matches!(kind, 101..=103);
-    let in_payload = reaches_payload(&call.input);
+    let payload = payload(call);
+    let in_payload = payload.is_some();
+    let first_of_payload = payload.is_some_and(|start| read.at == start + LONGEST as u64);
     let same_bytes = is(REPEATED) && repeats_bytes(&call.input, &read.pairs);
     let in_message = within_message(read);
     [
@@ -94,17 +110,45 @@ fn classes(call: &Call, read: &Read) -> [Class; 28] {
             "10, and 9 with more room",
             is(TABLE_FULL) && call.by_paper_without_end().number == REPEATED,
         ),
+        (
+            "10, and 19 with more room",
+            is(TABLE_FULL) && sides::is_left_out(call, read),
+        ),
+        ("19, an id", is(NOT_FITTING) && !in_payload),
+        (
+            "19, the first key's or name's length",
+            is(NOT_FITTING) && first_of_payload,
+        ),
+        (
+            "19, further on in the payload",
+            is(NOT_FITTING) && in_payload && !first_of_payload,
+        ),
     ]
 }
 
-/// Whether both ids can be read.
-fn reaches_payload(input: &[u8]) -> bool {
-    let ids = || {
-        let length = u32::from_be_bytes(*input.first_chunk()?) as usize;
-        let (rest, _) = decode_varint(input.get(9..4 + length)?).ok()?;
-        decode_varint(rest).ok()
+/// Where the payload starts, if both ids are read.
+fn payload(call: &Call) -> Option<u64> {
+    let frame = model::whole(&call.input, call.limit).ok()?;
+    model::payload(frame)
+}
+
+/// Which of the classes a pair is of, with their names.
+fn pair_classes(input: &[u8], read: &PairRead) -> [Class; 7] {
+    let is = |number| matches!(read, Err(refusal) if refusal.0 == number);
+    // The type byte of a value stands right before its number.
+    let kind = match read {
+        Err((NOT_FITTING, at)) if *at > LONGEST as u64 => input[*at as usize - LONGEST - 1] % 16,
+        _ => 0,
     };
-    ids().is_some()
+    [
+        ("0", read.is_ok()),
+        ("3", is(3)),
+        ("7", is(7)),
+        ("8", is(8)),
+        ("19, the key's length", is(NOT_FITTING) && kind == 0),
+        ("19, an integer", matches!(kind, 2..=5)),
+        ("19, a value's length", matches!(kind, 8 | 9)),
+    ]
 }
 
 /// Whether the last message has arguments that were not met.

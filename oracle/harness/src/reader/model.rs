@@ -1,7 +1,7 @@
 //! Reading as the paper has it, in its plainest form. It calls neither the Rust nor the port, so that each can be
 //! compared with it.
 
-use crate::{answers, records::REPEATED};
+use crate::{answers, records::REPEATED, tenth::NOT_FITTING};
 use std::borrow::Cow;
 
 pub const OVERSIZE: u64 = 2;
@@ -95,8 +95,14 @@ pub fn pair(input: &[u8]) -> Result<(Pair, u64), Refusal> {
     Ok((bytes.pair()?, bytes.at as u64))
 }
 
+/// Where the payload of a whole frame starts, if it is read.
+pub fn payload(frame: &[u8]) -> Option<u64> {
+    let mut bytes = Bytes { all: frame, at: 4 };
+    bytes.head().ok().map(|_| bytes.at as u64)
+}
+
 /// The frame with its length field.
-fn whole(input: &[u8], limit: u32) -> Result<&[u8], Refusal> {
+pub fn whole(input: &[u8], limit: u32) -> Result<&[u8], Refusal> {
     let Some(field) = input.first_chunk::<4>() else {
         return Err((answers::WAIT, 4 - input.len() as u64));
     };
@@ -215,12 +221,10 @@ impl<'a> Bytes<'a> {
         let mut sum = u128::from(first);
         for place in 2.. {
             let byte = self.byte()?;
-            let counted = match place {
-                11 => return self.refuse(TOO_LARGE),
-                10 => byte % 16,
-                _ => byte,
-            };
-            sum += u128::from(counted) << (7 * place - 10);
+            if place == 10 && byte > 15 {
+                return self.refuse(NOT_FITTING);
+            }
+            sum += u128::from(byte) << (7 * place - 10);
             if sum > u128::from(u64::MAX) {
                 return self.refuse(TOO_LARGE);
             }

@@ -165,9 +165,17 @@ fn list(random: &mut Random, rarely: u64, most: u64, bytes: &mut Vec<u8>) -> usi
 /// A pair, at times one that is damaged.
 pub fn pair(random: &mut Random) -> Vec<u8> {
     let mut bytes = Vec::new();
-    let key = lone_key(random);
-    string(random, &key, &mut bytes);
-    value(random, &mut bytes);
+    match random.below(16) {
+        0 => inputs::long_number(random, &mut bytes),
+        _ => {
+            let key = lone_key(random);
+            string(random, &key, &mut bytes);
+        }
+    }
+    match random.below(16) {
+        0 => long_value(random, &mut bytes),
+        _ => value(random, &mut bytes),
+    }
     match random.below(6) {
         0 => inputs::append(random, &mut bytes),
         1 => inputs::cut(random, &mut bytes),
@@ -205,6 +213,7 @@ fn string(random: &mut Random, content: &[u8], bytes: &mut Vec<u8>) {
         0 => number(random, bytes),
         1 => encode_varint_into(length + 1, bytes),
         2 => encode_varint_into(length.saturating_sub(1), bytes),
+        3..5 => inputs::long_number(random, bytes),
         _ => encode_varint_into(length, bytes),
     }
     bytes.extend_from_slice(content);
@@ -215,11 +224,7 @@ fn value(random: &mut Random, bytes: &mut Vec<u8>) {
         0 => random.within(10, 15),
         _ => random.below(10),
     };
-    let flags = match random.below(2) {
-        0 => 0,
-        _ => random.byte() & 0xf0,
-    };
-    bytes.push(kind as u8 | flags);
+    bytes.push(kind as u8 | type_flags(random));
     match kind {
         2..=5 => number(random, bytes),
         6 => bytes.extend((0..4).map(|_| random.byte())),
@@ -232,14 +237,24 @@ fn value(random: &mut Random, bytes: &mut Vec<u8>) {
     }
 }
 
-/// A number's written form, at times one of ten or eleven bytes that no writer gives.
+/// A value with a number that has a tenth byte, as itself or as a length.
+pub fn long_value(random: &mut Random, bytes: &mut Vec<u8>) {
+    let kind = [2, 3, 4, 5, 8, 9][random.index(6)];
+    bytes.push(kind | type_flags(random));
+    inputs::long_number(random, bytes);
+}
+
+fn type_flags(random: &mut Random) -> u8 {
+    match random.below(2) {
+        0 => 0,
+        _ => random.byte() & 0xf0,
+    }
+}
+
+/// A number's written form, at times one with a tenth byte that no writer gives.
 fn number(random: &mut Random, bytes: &mut Vec<u8>) {
     match random.below(64) {
-        0 => {
-            bytes.push(240 + random.below(16) as u8);
-            bytes.extend((0..random.within(8, 9)).map(|_| 128 + random.below(128) as u8));
-            bytes.push(random.below(128) as u8);
-        }
+        0 => inputs::long_number(random, bytes),
         1..24 => encode_varint_into(inputs::number(random), bytes),
         _ => encode_varint_into(random.below(300), bytes),
     }
