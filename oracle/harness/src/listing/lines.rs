@@ -7,6 +7,7 @@ use crate::{
         model::{self, Rooms, TABLE_FULL},
         rust::{ByRust, Content, head_by_rust},
     },
+    tenth::NOT_FITTING,
     text::hex,
 };
 use spop::{
@@ -64,11 +65,11 @@ pub fn of(input: &[u8]) -> Listing {
     listing
 }
 
-/// What the Rust answers, and 10, which it does not have, as the paper has it.
+/// What the Rust answers, and 10 and 19, which it does not have, as the paper has them.
 fn read(input: &[u8]) -> ByRust {
     let paper = model::frame(input, LIMIT, ROOMS);
     match paper.number {
-        TABLE_FULL => ByRust::refused(Answer::new(TABLE_FULL, paper.at)),
+        TABLE_FULL | NOT_FITTING => ByRust::refused(Answer::new(paper.number, paper.at)),
         _ => ByRust::read(input, LIMIT),
     }
 }

@@ -15,6 +15,7 @@ use crate::{
         sides,
     },
     reader::model,
+    tenth::NOT_FITTING,
     text::Difference,
     timing,
 };
@@ -163,6 +164,7 @@ fn classes_of_ends(input: &[u8], listing: &Listing) -> Vec<Class> {
         ("10, a message", ends(10) && !full),
         ("10, an argument", ends(10) && full && !list),
         ("10, a pair of a list", ends(10) && list),
+        ("19", ends(NOT_FITTING)),
         ("a refusal behind a frame", !ends(0) && !ends(1) && used > 0),
     ]);
     all
