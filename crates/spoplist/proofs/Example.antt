@@ -4,7 +4,7 @@ use mathlib.Core.List.{List, [], _∷_}
 use Prim.Native.Nat.{ℕ}
 use Rattle.answer.specs.Order.{inOrder}
 use Rattle.answer.specs.Table.{joined, some}
-use Rattle.varint.specs.Number.{worth, more, number}
+use Rattle.varint.specs.Number.{more, number}
 use Rattle.types.specs.Value.{string, typed, shape, signExtended}
 use Rattle.frame.specs.Head.{fourNumber}
 use Rattle.parser.specs.Pair.{pair}
@@ -39,7 +39,7 @@ lines =
     101 ∷ 110 ∷ 100 ∷ 32 ∷ 50 ∷ 57 ∷ 32 ∷ 48 ∷ 32 ∷ 48 ∷ 10 ∷ []
 
 pub example : listing 65532 (record { messages = 64; pairs = 256 }) input ≡ lines
-unfolding worth more number string typed shape signExtended fourNumber inOrder some joined
+unfolding more number string typed shape signExtended fourNumber inOrder some joined
     pair onePair oneMessage toEnd payload lastId ids metadata wholeFrame frameRead
     digits decimal signed shown filled valueText frameLine messageLine pairLine endLine pairLines itemLines frameLines stopFrom linesFrom
 example = refl
