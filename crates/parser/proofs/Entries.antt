@@ -1,8 +1,7 @@
 -- Kept, the entries: an accepted frame leaves the same records in larger tables.
 use mathlib.Core.Path.{_≡_, refl, sym, ap, ap₂, _∙_}
 use mathlib.Core.List.{List, _++_}
-use Prim.Native.Nat.{ℕ, _+_, _*_, _≤_}
-use native.Mathlib.Omega.{arith}
+use Prim.Native.Nat.{ℕ, _*_, _≤_}
 use lib.ListN.{length, take, drop}
 use lib.Seq.{take-at, drop-at}
 use Rattle.answer.specs.Answer.{done, refused, next, written, leaves}
@@ -40,16 +39,13 @@ said-done (answered (done (m′, c) u)) m k used e =
     (c, ap₂ (λ (y : Metadata) (n : ℕ). answered (done (y, c) n)) (sym same) (sym (o .1)), sym counts)
 said-done (answered (refused n place)) m k used e = not-both refl (answered-same e)
 
--- A call that is done with some counts, and the same call with bytes appended, under a limit no lower and with tables no shorter.
+-- A call that is done with some counts, and the same call with bytes appended, under a limit no lower and with rooms no smaller.
 module _ (limit higher : ℕ) (up : limit ≤ higher) (s t : List ℕ) (r q : FrameRead) (messages newMessages pairs newPairs others newOthers more newMore : List ℕ)
     (one : ReadFrame s limit r messages newMessages pairs newPairs) (two : ReadFrame (s ++ t) higher q others newOthers more newMore)
-    (rows : length messages ≤ length others) (room : length pairs ≤ length more)
+    (larger : Larger (roomsOf messages pairs) (roomsOf others more))
     (m : Metadata) (i j used : ℕ) (is : r ≡ f.Done m i j used) where
   found : (c : Contents) × (frameRead limit (roomsOf messages pairs) s ≡ answered (done (m, c) used)) × (countsOf c ≡ (i, j))
   found = said-done (frameRead limit (roomsOf messages pairs) s) m (i, j) used (ap frameSaid (sym is) ∙ one .says)
-
-  larger : Larger (roomsOf messages pairs) (roomsOf others more)
-  larger = record { messages = omega (arith, rows); pairs = omega (arith, room) }
 
   again : frameRead higher (roomsOf others more) (s ++ t) ≡ answered (done (m, found .0) used)
   again = accepted-kept limit higher up (roomsOf messages pairs) (roomsOf others more) larger s t (m, found .0) used (found .1)
