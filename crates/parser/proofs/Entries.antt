@@ -29,7 +29,7 @@ left-in numbers width each xs n is old new e =
     )
 
 -- what a frame is that is said to be accepted
-said-done : (x : Reading (Metadata × Contents)) (m : Metadata) (k : Counts) (used : ℕ) → answered (done (m, k) used) ≡ frameTells x
+pub said-done : (x : Reading (Metadata × Contents)) (m : Metadata) (k : Counts) (used : ℕ) → answered (done (m, k) used) ≡ frameTells x
     → (c : Contents) × (x ≡ answered (done (m, c) used)) × (countsOf c ≡ k)
 said-done (wait n) m k used e = wait-answered (sym e)
 said-done (answered (done (m′, c) u)) m k used e =

@@ -62,7 +62,7 @@ pub record Filled {A : Type 0} (numbers : A → List ℕ) (old : List ℕ) (xs :
   pub room : length (joined numbers xs) ≤ length old
   pub holds : table ≡ leaves (written (joined numbers xs)) old
 
-filled-none : {A : Type 0} (numbers : A → List ℕ) (old : List ℕ) → Filled numbers old [] old
+pub filled-none : {A : Type 0} (numbers : A → List ℕ) (old : List ℕ) → Filled numbers old [] old
 filled-none numbers old =
     record { room = rw (joined-none numbers) (omega arith); holds = ap (λ (l : List ℕ). leaves (written l) old) (sym (joined-none numbers)) }
 

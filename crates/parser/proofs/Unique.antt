@@ -11,11 +11,12 @@ use Rattle.parser.specs.declared.PairRead.{PairRead}
 use Rattle.parser.specs.declared.PairRead.the-variants as p
 use Rattle.parser.specs.declared.PayloadRead.{PayloadRead}
 use Rattle.parser.specs.declared.PayloadRead.the-variants as l
+use Rattle.parser.specs.declared.Rooms.{Rooms}
 use Rattle.parser.specs.declared.Metadata.{Metadata}
 use Rattle.parser.specs.declared.FrameRead.{FrameRead}
 use Rattle.parser.specs.declared.FrameRead.the-variants as f
 use Rattle.parser.specs.Payload.{Contents}
-use Rattle.parser.specs.Promise.{Counts, pairSaid, payloadSaid, frameSaid, Fills, ReadPair, ReadPayload, ReadFrame}
+use Rattle.parser.specs.Promise.{Counts, pairSaid, payloadSaid, frameSaid, Fills, ReadPair, ReadPayload, ReadFrame, LookFrame}
 use Rattle.parser.proofs.Pairs.{done-same}
 
 -- answers that say the same are the same
@@ -71,3 +72,6 @@ pub read-frame-unique : (input : List ℕ) (limit : ℕ) (r q : FrameRead) (oldM
     → (r ≡ q) × (newMessages ≡ otherMessages) × (newPairs ≡ otherPairs)
 read-frame-unique input limit r q oldMessages newMessages otherMessages oldPairs newPairs otherPairs p s =
     let t = fills-same (p .fills) (s .fills) in (frame-same r q (p .says ∙ sym (s .says)), t .0, t .1)
+
+pub look-frame-unique : (input : List ℕ) (limit : ℕ) (rooms : Rooms) (r q : FrameRead) → LookFrame input limit rooms r → LookFrame input limit rooms q → r ≡ q
+look-frame-unique input limit rooms r q p s = frame-same r q (p ∙ sym s)

@@ -79,3 +79,7 @@ pub record ReadPayload (kv : Bool) (input : List ℕ) (r : PayloadRead) (oldMess
 pub record ReadFrame (input : List ℕ) (limit : ℕ) (r : FrameRead) (oldMessages newMessages oldPairs newPairs : List ℕ) : Type 0 where
   pub says : frameSaid r ≡ frameTells (frameRead limit (roomsOf oldMessages oldPairs) input)
   pub fills : Fills (contentsRead (frameRead limit (roomsOf oldMessages oldPairs) input)) oldMessages newMessages oldPairs newPairs
+
+-- `look_frame` says what the frame reader says with tables of such rooms.
+abbrev pub LookFrame : List ℕ → ℕ → Rooms → FrameRead → Type 0
+LookFrame input limit rooms r = frameSaid r ≡ frameTells (frameRead limit rooms input)

@@ -3,7 +3,9 @@ use crate::FrameRead;
 use crate::Metadata;
 use crate::MetadataRead;
 use crate::PayloadRead;
+use crate::Rooms;
 use crate::fill::into_tables;
+use crate::look::look;
 use answer::ABORTED;
 use answer::AGENTS;
 use answer::OVERSIZE;
@@ -19,8 +21,8 @@ ghost use lib.ListN.{length, getD};
 ghost use Rattle.answer.specs.Answer.{done};
 ghost use Rattle.answer.specs.Table.{some};
 ghost use Rattle.frame.specs.Head.{fourNumber};
-ghost use Rattle.parser.specs.Frame.{frameTypes, ids, lastId, metadata as metadataOf};
-ghost use Rattle.parser.specs.Promise.{ReadFrame};
+ghost use Rattle.parser.specs.Frame.{frameTypes, ids, lastId, metadata as metadataOf, wholeFrame, answered};
+ghost use Rattle.parser.specs.Promise.{frameSaid, frameTells, ReadFrame, LookFrame};
 ghost use Rattle.parser.specs.Inner.{metadataSaid, ReadsWhole};
 
 // The flags that are known: FIN has to be set, and ABORT may be.
@@ -214,4 +216,69 @@ pub fn read_frame(input: &[u8], limit: u32, messages: &mut [u64], pairs: &mut [u
         return FrameRead::Wait(end - have);
     }
     read_whole(&input[..end], messages, pairs)
+}
+
+// What reading a frame that was cut out comes to, with tables of such rooms.
+fn look_whole(f: &[u8], rooms: Rooms) -> FrameRead
+    ensures { λ r. ⌜ frameSaid r ≡ frameTells (answered (wholeFrame rooms (now (f .entry)))) ⌝ }
+{
+    match read_metadata(f) {
+        MetadataRead::Refused(r) => {
+            return FrameRead::Refused(r);
+        },
+        MetadataRead::Done { metadata, start } => {
+            return look_rest(f, metadata, start, rooms);
+        },
+    }
+}
+
+// The same behind metadata that end at `start`.
+fn look_rest(f: &[u8], metadata: Metadata, start: usize, rooms: Rooms) -> FrameRead
+    requires { ⌜ metadataOf (now f) ≡ done metadata start ⌝ }
+    requires { ⌜ start ≤ length (now f) ⌝ }
+    ensures { λ r. ⌜ frameSaid r ≡ frameTells (answered (wholeFrame rooms (now (f .entry)))) ⌝ }
+{
+    let kv = metadata.kind != frame::NOTIFY;
+    match look(&f[start..], kv, rooms) {
+        PayloadRead::Refused(r) => {
+            return FrameRead::Refused(Refusal {
+                number: r.number,
+                place: start + r.place,
+            });
+        },
+        PayloadRead::Done {
+            messages: message_count,
+            pairs: pair_count,
+            used,
+        } => {
+            return FrameRead::Done {
+                metadata,
+                messages: message_count,
+                pairs: pair_count,
+                used: start + used,
+            };
+        },
+    }
+}
+
+// What reading the frame at the front of `input` comes to, with tables of such rooms. It writes nothing.
+pub fn look_frame(input: &[u8], limit: u32, rooms: Rooms) -> FrameRead
+    ensures { λ r. ⌜ LookFrame (now (input .entry)) limit rooms r ⌝ }
+{
+    let have = input.len();
+    if have < 4 {
+        return FrameRead::Wait(4 - have);
+    }
+    let len = four(input);
+    if limit < len {
+        return FrameRead::Refused(Refusal {
+            number: OVERSIZE,
+            place: 4,
+        });
+    }
+    let end = 4 + len as usize;
+    if have < end {
+        return FrameRead::Wait(end - have);
+    }
+    look_whole(&input[..end], rooms)
 }

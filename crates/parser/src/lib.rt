@@ -12,6 +12,7 @@ mod small;
 use answer::Refusal;
 pub use fill::read_payload;
 use frame::Pair;
+pub use head::look_frame;
 pub use head::read_frame;
 pub use pair::read_pair;
 

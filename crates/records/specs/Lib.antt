@@ -1,0 +1,3 @@
+-- What the call promises, and what only private contracts cite.
+pub mod Promise
+pub mod Inner

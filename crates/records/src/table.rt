@@ -1,0 +1,42 @@
+// The calls that hold the table of pair records. Each is short, as its proof walks over its machine code step by step; the work is `fill`'s.
+use crate::fill::prepare;
+use crate::fill::take_next;
+use frame::Pair;
+use parser::FrameRead;
+use walker::Place;
+ghost use mathlib.Core.Path.{_≡_};
+ghost use mathlib.Core.List.{List, _++_};
+ghost use Prim.Native.Nat.{_≤_};
+ghost use lib.ListN.{length, drop};
+ghost use Rattle.frame.specs.declared.Pair.{Pair as PairRecord};
+ghost use Rattle.records.specs.Inner.{Comes};
+ghost use Rattle.records.specs.Promise.{ReadFrameRecords};
+
+// Fills in so many pairs.
+fn fill_records(input: &[u8], from: Place, count: usize, pairs: &mut [Pair])
+    requires { ⌜ count ≤ length (now pairs) ⌝ }
+    ensures { λ _. ⌜ ((ps : List PairRecord) → length ps ≡ count → Comes (now (input .entry)) from ps → now (pairs .exit) ≡ ps ++ drop count (now (pairs .entry))) ⌝ }
+{
+    let mut x = from;
+    let mut i = 0;
+    while i < count {
+        let t = take_next(input, x);
+        pairs[i] = t.pair;
+        x = t.next;
+        i = i + 1;
+    }
+}
+
+// Reads the frame at the front of `input`, as `read_frame` does, into a table of pair records.
+pub fn read_frame_records(
+    input: &[u8],
+    limit: u32,
+    messages: &mut [u64],
+    pairs: &mut [Pair],
+) -> FrameRead
+    ensures { λ r. ⌜ ReadFrameRecords (now (input .entry)) limit r (now (messages .entry)) (now (messages .exit)) (now (pairs .entry)) (now (pairs .exit)) ⌝ }
+{
+    let found = prepare(input, limit, pairs.len(), messages);
+    fill_records(input, found.from, found.count, pairs);
+    found.answer
+}

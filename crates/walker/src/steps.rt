@@ -1,0 +1,183 @@
+// A walker over the pairs of a KV list or of a message. Its step takes it apart and calls `step_at`, which reads the pair at a place.
+use crate::Place;
+use crate::Step;
+use crate::Walker;
+use answer::Refusal;
+use answer::TOO_SOON;
+use frame::Message;
+use frame::Pair;
+use parser::PairRead;
+use types::Value;
+use varint::Number;
+ghost use mathlib.Core.Path.{_≡_};
+ghost use Prim.Native.Nat.{_+_, _-_, _≤_, _<_, _^_};
+ghost use Rattle.parser.specs.Pair.{movedPair};
+ghost use Rattle.types.specs.Value.{moved as movedRecord};
+ghost use Rattle.types.specs.Promise.{recordOf};
+ghost use Rattle.walker.specs.Walk.{comes, step as stepOf, behindNumber};
+ghost use Rattle.walker.specs.Promise.{KvOf, ArgumentsOf, New, Moved, Next, StepFrom};
+
+// Where the number that stands at `at` ends; the end of the bytes where none does.
+fn behind_number(frame: &[u8], at: usize) -> usize
+    ensures { λ r. ⌜ r ≡ behindNumber (now (frame .entry)) at ⌝ }
+{
+    let end = frame.len();
+    if end < at {
+        return end;
+    }
+    match varint::decode_varint(&frame[at..]) {
+        Number::Refused(_) => {
+            return end;
+        },
+        Number::Done { value: _, used } => {
+            return at + used;
+        },
+    }
+}
+
+// The place of the KV list of a frame, which stands behind the numbers of its stream and of the frame in it.
+pub fn kv_of(frame: &[u8]) -> Place
+    ensures { λ r. ⌜ KvOf (now (frame .entry)) r ⌝ }
+{
+    Place {
+        at: behind_number(frame, behind_number(frame, 9)),
+        left: 0,
+        kv: true,
+    }
+}
+
+// The place of a message's arguments, which stand behind its name and its count byte.
+pub fn arguments_of(message: Message) -> Place
+    ensures { λ r. ⌜ ArgumentsOf message r ⌝ }
+{
+    let start = message.start;
+    let len = message.len;
+    if u64::MAX - start <= len {
+        return Place {
+            at: usize::MAX,
+            left: message.count as usize,
+            kv: false,
+        };
+    }
+    Place {
+        at: (start + len + 1) as usize,
+        left: message.count as usize,
+        kv: false,
+    }
+}
+
+// Whether a pair is to come.
+fn to_come(frame: &[u8], place: Place) -> bool
+    ensures { λ r. ⌜ r ≡ comes (now (frame .entry)) place ⌝ }
+{
+    if place.kv {
+        return place.at < frame.len();
+    }
+    0 < place.left
+}
+
+// One less, where there is one.
+pub(crate) fn one_less(n: usize) -> usize
+    ensures { λ r. ⌜ r ≡ n - 1 ⌝ }
+{
+    if n == 0 {
+        return 0;
+    }
+    n - 1
+}
+
+// A value that was read behind n other bytes: where it points, its start moves.
+fn moved_value(value: Value, n: u64) -> Value
+    requires { ⌜ (6 ≤ value .kind → value .kind < 10 → value .a + n < 2 ^ 64) ⌝ }
+    ensures { λ r. ⌜ recordOf r ≡ movedRecord n (recordOf value) ⌝ }
+{
+    let kind = value.kind;
+    if kind < 6 {
+        return value;
+    }
+    if 10 <= kind {
+        return value;
+    }
+    Value {
+        kind,
+        a: n + value.a,
+        b: value.b,
+    }
+}
+
+// A pair that was read behind n other bytes.
+fn moved_pair(pair: Pair, n: u64) -> Pair
+    requires { ⌜ (pair .start + n < 2 ^ 64) × (6 ≤ pair .value .kind → pair .value .kind < 10 → pair .value .a + n < 2 ^ 64) ⌝ }
+    ensures { λ r. ⌜ r ≡ movedPair n pair ⌝ }
+{
+    Pair {
+        start: n + pair.start,
+        len: pair.len,
+        value: moved_value(pair.value, n),
+    }
+}
+
+// The step of a walk over the pairs of these bytes.
+pub(crate) fn step_at(frame: &[u8], place: Place) -> Step
+    ensures { λ r. ⌜ r ≡ stepOf (now (frame .entry)) place ⌝ }
+{
+    if !to_come(frame, place) {
+        return Step::End;
+    }
+    let at = place.at;
+    if frame.len() < at {
+        return Step::Refused(Refusal {
+            number: TOO_SOON,
+            place: at,
+        });
+    }
+    match parser::read_pair(&frame[at..]) {
+        PairRead::Refused(r) => {
+            return Step::Refused(Refusal {
+                number: r.number,
+                place: at + r.place,
+            });
+        },
+        PairRead::Done { pair, used } => {
+            return Step::Found {
+                pair: moved_pair(pair, at as u64),
+                next: Place {
+                    at: at + used,
+                    left: one_less(place.left),
+                    kv: place.kv,
+                },
+            };
+        },
+    }
+}
+
+// The walker over a frame's bytes, at a place of it.
+pub fn new<'a>(frame: &'a [u8], place: Place) -> Walker<'a>
+    ensures { λ r. ⌜ New (frame .entry) place r ⌝ }
+{
+    Walker { frame, place }
+}
+
+// The same walker at another place.
+pub fn moved<'a>(w: Walker<'a>, place: Place) -> Walker<'a>
+    ensures { λ r. ⌜ Moved (w .entry) place r ⌝ }
+{
+    Walker {
+        frame: w.frame,
+        place,
+    }
+}
+
+// The walker's step.
+pub fn next<'a>(w: Walker<'a>) -> Step
+    ensures { λ r. ⌜ Next (w .entry) r ⌝ }
+{
+    step_at(w.frame, w.place)
+}
+
+// The step of a walker that is made for it: for callers that hold plain slices.
+pub fn step_from(frame: &[u8], place: Place) -> Step
+    ensures { λ r. ⌜ StepFrom (now (frame .entry)) place r ⌝ }
+{
+    next(new(frame, place))
+}
