@@ -33,6 +33,7 @@ pub const PAIR_WIDTH: usize = 5;
 pub const ACTION_WIDTH: usize = 7;
 
 // A pair: where its key stands in the buffer, and its value.
+#[repr(C)]
 pub struct Pair {
     pub start: u64,
     pub len: u64,

@@ -17,13 +17,13 @@ use Rattle.parser.specs.Frame.{frameRead}
 use Rattle.parser.specs.Promise.{roomsOf, contentsRead, frameTells, ReadFrame}
 use Rattle.parser.proofs.Filling.{joined-width}
 use Rattle.parser.proofs.Unique.{frame-same}
-use Rattle.records.specs.Promise.{roomsOf as roomsFor, pairsLeft, ReadFrameRecords}
+use Rattle.records.specs.Promise.{roomsFor, pairsLeft, ReadFrameRecords}
 
 pub read-frame-records-unique : (input : List ℕ) (limit : ℕ) (r q : FrameRead) (oldMessages newMessages otherMessages : List ℕ) (oldPairs newPairs otherPairs : List Pair)
     → ReadFrameRecords input limit r oldMessages newMessages oldPairs newPairs → ReadFrameRecords input limit q oldMessages otherMessages oldPairs otherPairs
     → (r ≡ q) × (newMessages ≡ otherMessages) × (newPairs ≡ otherPairs)
 read-frame-records-unique input limit r q oldMessages newMessages otherMessages oldPairs newPairs otherPairs p s =
-    (frame-same r q (p .says ∙ sym (s .says)), p .messages ∙ sym (s .messages), p .pairs ∙ sym (s .pairs))
+    (frame-same r q (p .says ∙ sym (s .says)), p .fills .messages ∙ sym (s .fills .messages), p .fills .pairs ∙ sym (s .fills .pairs))
 
 -- ---- the same as numbers
 
@@ -61,6 +61,6 @@ records-as-numbers input limit r q oldMessages newMessages otherMessages oldPair
     let same : roomsOf oldMessages (joined pairNumbers oldPairs) ≡ roomsFor oldMessages oldPairs =
     ap (λ (n : ℕ). record { messages = length oldMessages / messageWidth; pairs = n }) room in (
       frame-same r q (p .says ∙ ap (λ (x : Rooms). frameTells (frameRead limit x input)) (sym same) ∙ sym (s .says)),
-      p .messages ∙ sym (rw same at (s .fills .messages)),
-      rw same at (s .fills .pairs) ∙ left-same (contentsRead (frameRead limit (roomsFor oldMessages oldPairs) input)) oldPairs ∙ ap (joined pairNumbers) (sym (p .pairs)),
+      p .fills .messages ∙ sym (rw same at (s .fills .messages)),
+      rw same at (s .fills .pairs) ∙ left-same (contentsRead (frameRead limit (roomsFor oldMessages oldPairs) input)) oldPairs ∙ ap (joined pairNumbers) (sym (p .fills .pairs)),
     )

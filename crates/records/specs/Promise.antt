@@ -14,16 +14,20 @@ use Rattle.parser.specs.Frame.{frameRead}
 use Rattle.parser.specs.Promise.{frameSaid, frameTells, contentsRead}
 
 -- how many records the two tables have room for
-abbrev pub roomsOf : List ℕ → List Pair → Rooms
-roomsOf messages pairs = record { messages = length messages / messageWidth; pairs = length pairs }
+abbrev pub roomsFor : List ℕ → List Pair → Rooms
+roomsFor messages pairs = record { messages = length messages / messageWidth; pairs = length pairs }
 
 -- Where contents come out, their pairs stand at the front of the table, in order, and what lies behind them stays. Else all stays.
 abbrev pub pairsLeft : Answer Contents → List Pair → List Pair
 pairsLeft (done c used) old = c .pairs ++ drop (length (c .pairs)) old
 pairsLeft (refused number place) old = old
 
+-- The messages' table is left as `read_frame` leaves it.
+pub record FillsRecords (a : Answer Contents) (oldMessages newMessages : List ℕ) (oldPairs newPairs : List Pair) : Type 0 where
+  pub messages : newMessages ≡ leaves (next a (λ c used. written (joined messageNumbers (c .messages)))) oldMessages
+  pub pairs : newPairs ≡ pairsLeft a oldPairs
+
 -- `read_frame_records` says what the frame reader says with room for as many, and leaves the records.
 pub record ReadFrameRecords (input : List ℕ) (limit : ℕ) (r : FrameRead) (oldMessages newMessages : List ℕ) (oldPairs newPairs : List Pair) : Type 0 where
-  pub says : frameSaid r ≡ frameTells (frameRead limit (roomsOf oldMessages oldPairs) input)
-  pub messages : newMessages ≡ leaves (next (contentsRead (frameRead limit (roomsOf oldMessages oldPairs) input)) (λ c used. written (joined messageNumbers (c .messages)))) oldMessages
-  pub pairs : newPairs ≡ pairsLeft (contentsRead (frameRead limit (roomsOf oldMessages oldPairs) input)) oldPairs
+  pub says : frameSaid r ≡ frameTells (frameRead limit (roomsFor oldMessages oldPairs) input)
+  pub fills : FillsRecords (contentsRead (frameRead limit (roomsFor oldMessages oldPairs) input)) oldMessages newMessages oldPairs newPairs

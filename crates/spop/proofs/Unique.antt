@@ -6,7 +6,8 @@ use Prim.Native.Nat.{ℕ}
 use Rattle.answer.specs.Answer.{Answer}
 use Rattle.answer.proofs.Same.{one-only}
 use Rattle.spop.specs.Told.{Told}
-use Rattle.spop.specs.Promise.{SpopVarintLen, SpopEncodeVarint, SpopDecodeVarint, SpopIsUtf8, SpopSameText, SpopLossyText, SpopTypedData, SpopValueLen, SpopCheckValue, SpopWriteValue, SpopReadPair, SpopReadFrame, SpopWriteKv, SpopWriteActions, SpopWriteNotify, SpopNegotiateMaxFrameSize, SpopNegotiateVersion}
+use Rattle.frame.specs.declared.Pair.{Pair}
+use Rattle.spop.specs.Promise.{SpopVarintLen, SpopEncodeVarint, SpopDecodeVarint, SpopIsUtf8, SpopSameText, SpopLossyText, SpopTypedData, SpopValueLen, SpopCheckValue, SpopWriteValue, SpopReadPair, SpopReadFrame, SpopReadFrameRecords, SpopWriteKv, SpopWriteActions, SpopWriteNotify, SpopNegotiateMaxFrameSize, SpopNegotiateVersion}
 
 told-unique : {A : Type 0} {a : Answer A} {r q at also : ℕ} → Told a r at → Told a q also → (r ≡ q) × (at ≡ also)
 told-unique p q = (one-only (p .says) (q .says), one-only (p .where-at) (q .where-at))
@@ -57,6 +58,16 @@ module _ (r q at also : ℕ) where
       → SpopReadFrame input limit q also before other oldMessages otherMessages oldPairs otherPairs
       → (r ≡ q) × (at ≡ also) × (head ≡ other) × (newMessages ≡ otherMessages) × (newPairs ≡ otherPairs)
   spop-read-frame-unique input limit before head other oldMessages newMessages otherMessages oldPairs newPairs otherPairs p s =
+      let t = told-unique (p .told) (s .told) in
+      let x = p .fills in
+      let y = s .fills in
+      (t .0, t .1, one-only (p .numbers) (s .numbers), one-only (x .messages) (y .messages), one-only (x .pairs) (y .pairs))
+
+  pub spop-read-frame-records-unique : (input : List ℕ) (limit : ℕ) (before head other oldMessages newMessages otherMessages : List ℕ) (oldPairs newPairs otherPairs : List Pair)
+      → SpopReadFrameRecords input limit r at before head oldMessages newMessages oldPairs newPairs
+      → SpopReadFrameRecords input limit q also before other oldMessages otherMessages oldPairs otherPairs
+      → (r ≡ q) × (at ≡ also) × (head ≡ other) × (newMessages ≡ otherMessages) × (newPairs ≡ otherPairs)
+  spop-read-frame-records-unique input limit before head other oldMessages newMessages otherMessages oldPairs newPairs otherPairs p s =
       let t = told-unique (p .told) (s .told) in
       let x = p .fills in
       let y = s .fills in

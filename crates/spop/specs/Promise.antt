@@ -11,9 +11,11 @@ use Rattle.utf8.specs.Text.{isUtf8, lossy, sameText}
 use Rattle.types.specs.Value.{typed}
 use Rattle.types.specs.Form.{valueAnswer, lengthOf}
 use Rattle.types.specs.Check.{valueChecks}
+use Rattle.frame.specs.declared.Pair.{Pair}
 use Rattle.parser.specs.Pair.{pair}
 use Rattle.parser.specs.Frame.{answerOf, frameRead}
 use Rattle.parser.specs.Promise.{roomsOf, contentsRead, Fills}
+use Rattle.records.specs.Promise.{roomsFor, FillsRecords}
 use Rattle.writer.specs.Frame.{headOf, kvAnswer, actionsAnswer, notifyAnswer}
 use Rattle.hello.specs.Hello.{frameSize, announced, choice}
 use Rattle.spop.specs.Told.{Told, valueOf, chosenOf, Left}
@@ -56,6 +58,11 @@ pub record SpopReadFrame (input : List ℕ) (limit r at : ℕ) (before head oldM
   pub told : Told (answerOf (frameRead limit (roomsOf oldMessages oldPairs) input)) r at
   pub numbers : head ≡ headNumbersOf (answerOf (frameRead limit (roomsOf oldMessages oldPairs) input)) before
   pub fills : Fills (contentsRead (frameRead limit (roomsOf oldMessages oldPairs) input)) oldMessages newMessages oldPairs newPairs
+
+pub record SpopReadFrameRecords (input : List ℕ) (limit r at : ℕ) (before head oldMessages newMessages : List ℕ) (oldPairs newPairs : List Pair) : Type 0 where
+  pub told : Told (answerOf (frameRead limit (roomsFor oldMessages oldPairs) input)) r at
+  pub numbers : head ≡ headNumbersOf (answerOf (frameRead limit (roomsFor oldMessages oldPairs) input)) before
+  pub fills : FillsRecords (contentsRead (frameRead limit (roomsFor oldMessages oldPairs) input)) oldMessages newMessages oldPairs newPairs
 
 module _ (fin abort : Bool) (stream frame limit : ℕ) (buffer : List ℕ) where
   abbrev pub SpopWriteKv : ℕ → List ℕ → ℕ → ℕ → ℕ → List ℕ → List ℕ → Type 0

@@ -6,6 +6,7 @@
 use answer::Refusal;
 use answer::WAIT;
 use answer::Written;
+use frame::Pair;
 use hello::Chosen;
 use hello::Size;
 use parser::FrameRead;
@@ -16,9 +17,13 @@ use varint::Number;
 ghost use mathlib.Core.Path.{_≡_};
 ghost use Rattle.answer.specs.Writes.{said};
 ghost use Rattle.types.specs.Promise.{recordOf};
+ghost use Rattle.parser.specs.declared.Metadata.{Metadata as MetadataRecord};
+ghost use Rattle.parser.specs.Payload.{Contents};
+ghost use Rattle.parser.specs.Frame.{Reading, answerOf};
+ghost use Rattle.parser.specs.Promise.{frameSaid, frameTells};
 ghost use Rattle.spop.specs.Told.{Told};
-ghost use Rattle.spop.specs.Values.{recordIn};
-ghost use Rattle.spop.specs.Promise.{SpopVarintLen, SpopEncodeVarint, SpopDecodeVarint, SpopIsUtf8, SpopSameText, SpopLossyText, SpopTypedData, SpopValueLen, SpopCheckValue, SpopWriteValue, SpopReadPair, SpopReadFrame, SpopWriteKv, SpopWriteActions, SpopWriteNotify, SpopNegotiateMaxFrameSize, SpopNegotiateVersion};
+ghost use Rattle.spop.specs.Values.{recordIn, headNumbersOf};
+ghost use Rattle.spop.specs.Promise.{SpopVarintLen, SpopEncodeVarint, SpopDecodeVarint, SpopIsUtf8, SpopSameText, SpopLossyText, SpopTypedData, SpopValueLen, SpopCheckValue, SpopWriteValue, SpopReadPair, SpopReadFrame, SpopReadFrameRecords, SpopWriteKv, SpopWriteActions, SpopWriteNotify, SpopNegotiateMaxFrameSize, SpopNegotiateVersion};
 
 const DONE: u64 = 0;
 
@@ -150,30 +155,24 @@ pub extern "C" fn spop_read_frame(
 ) -> u64
     ensures { λ r. ⌜ SpopReadFrame (now (input .entry)) limit r (now (at .exit)) (now (head .entry)) (now (head .exit)) (now (messages .entry)) (now (messages .exit)) (now (pairs .entry)) (now (pairs .exit)) ⌝ }
 {
-    match parser::read_frame(input, limit, messages, pairs) {
-        FrameRead::Done {
-            metadata: m,
-            messages: message_count,
-            pairs: pair_count,
-            used,
-        } => {
-            *head = [
-                m.kind,
-                m.flags,
-                m.stream,
-                m.frame,
-                message_count as u64,
-                pair_count as u64,
-            ];
-            *at = used as u64;
-            DONE
-        },
-        FrameRead::Wait(missing) => {
-            *at = missing as u64;
-            WAIT
-        },
-        FrameRead::Refused(r) => refuse(r, at),
-    }
+    let answer = parser::read_frame(input, limit, messages, pairs);
+    tell_frame(answer, head, at)
+}
+
+// The same with pair records for the pairs' numbers. It takes a slice of structs, so its proof is a walk by hand, and it only calls.
+#[no_mangle]
+pub extern "C" fn spop_read_frame_records(
+    input: &[u8],
+    limit: u32,
+    messages: &mut [u64],
+    pairs: &mut [Pair],
+    head: &mut [u64; 6],
+    at: &mut u64,
+) -> u64
+    ensures { λ r. ⌜ SpopReadFrameRecords (now (input .entry)) limit r (now (at .exit)) (now (head .entry)) (now (head .exit)) (now (messages .entry)) (now (messages .exit)) (now (pairs .entry)) (now (pairs .exit)) ⌝ }
+{
+    let answer = records::read_frame_records(input, limit, messages, pairs);
+    tell_frame(answer, head, at)
 }
 
 #[no_mangle]
@@ -305,6 +304,36 @@ fn tell(answer: Written, at: &mut u64) -> u64
             DONE
         },
         Written::Refused(r) => refuse(r, at),
+    }
+}
+
+// What the frame reader answers.
+fn tell_frame(answer: FrameRead, head: &mut [u64; 6], at: &mut u64) -> u64
+    ensures { λ r. ⌜ ((x : Reading (MetadataRecord × Contents)) → frameSaid answer ≡ frameTells x → Told (answerOf x) r (now (at .exit)) × (now (head .exit) ≡ headNumbersOf (answerOf x) (now (head .entry)))) ⌝ }
+{
+    match answer {
+        FrameRead::Done {
+            metadata: m,
+            messages,
+            pairs,
+            used,
+        } => {
+            *head = [
+                m.kind,
+                m.flags,
+                m.stream,
+                m.frame,
+                messages as u64,
+                pairs as u64,
+            ];
+            *at = used as u64;
+            DONE
+        },
+        FrameRead::Wait(missing) => {
+            *at = missing as u64;
+            WAIT
+        },
+        FrameRead::Refused(r) => refuse(r, at),
     }
 }
 

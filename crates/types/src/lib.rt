@@ -29,6 +29,7 @@ pub enum Text {
 }
 
 // A value as the records have it: its kind and two numbers, as docs/RULES.md sets them out for each kind.
+#[repr(C)]
 pub struct Value {
     pub kind: u64,
     pub a: u64,

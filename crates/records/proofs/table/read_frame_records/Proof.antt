@@ -165,7 +165,7 @@ module _ {M : Type 1} (𝓤 : URA M) (H : Heap 𝓤) (A : Atoms 𝓤) (W : Given
   Filled f ws = (ps : List Pair) → length ps ≡ f .count → Comes (now s) (f .from) ps → ws ≡ ps ++ drop (f .count) (now r)
 
   kept : (f : Found) (ms : List ℕ) (ws : List Pair) → Prepares f ms → Filled f ws → ReadFrameRecords (now s) n (f .answer) (now m) ms (now r) ws
-  kept f ms ws e e′ = record { says = e .says; messages = e .messages; pairs = e′ (e .ps) (e .many) (e .comes) ∙ e .left (now r) refl }
+  kept f ms ws e e′ = record { says = e .says; fills = record { messages = e .messages; pairs = e′ (e .ps) (e .many) (e .comes) ∙ e .left (now r) refl } }
 
   exits : (f : Found) (ms : List ℕ) (ws : List Pair) → Prepares f ms → Filled f ws → length ms ≡ length (now m) → length ws ≡ length (now r) → Is F.the-row (f .answer) (F′.lowered (f .answer) ∷ [])
       → ent 𝓤 (⋆ 𝓤 H A (Tok₂ ∷ ‵ (finally Q.the-row (r .name) ws) ∷ ‵ Own₀ ∷ (‵ (flft κ₁ q₁) ⊛ ‵ ftrue) ∷ ‵ (finally u64 (m .name) ms) ∷ [])) (Post (F′.lowered (f .answer)))

@@ -1,0 +1,47 @@
+-- `spop::tell_frame` meets its contract: each case of the reader's answer is told as it is.
+-- Assumes nothing.
+use borrow.Author.Needs.{needs}
+use mathlib.Core.Path.{sym, ap, _∙_}
+use Rattle.parser.specs.Promise.{frameSaid}
+use Rattle.spop.proofs.Telling.{frame-done, frame-wait, frame-refused}
+use Rattle.spop.proofs.tell_frame.Statement.{statement}
+use Rattle.spop.proofs.tell_frame.Tie as tie
+
+enum-known-answer : tie.Need-enum-known-answer
+enum-known-answer c = search needs
+
+enum-known-answer-2 : tie.Need-enum-known-answer-2
+enum-known-answer-2 c = search needs
+
+enum-known-answer-3 : tie.Need-enum-known-answer-3
+enum-known-answer-3 c = search needs
+
+refuse-requires : tie.Need-refuse-requires
+refuse-requires c κs = search needs
+
+returns : tie.Need-returns
+returns c x e =
+    let k = c .before .before in
+    frame-done (k .before .before .args .head .now) x _ _ _ (ap frameSaid (sym (k .answer .given .1)) ∙ e)
+
+returns-2 : tie.Need-returns-2
+returns-2 c x e =
+    let k = c .before in
+    frame-wait (k .before .before .args .head .now) x _ (ap frameSaid (sym (k .answer2 .given .1)) ∙ e)
+
+returns-3 : tie.Need-returns-3
+returns-3 c x e =
+    let k = c .before .before .before in
+    frame-refused (k .before .before .args .head .now) x _ _ (ap frameSaid (sym (k .answer3 .given .1)) ∙ e) (c .refuse .ensures)
+
+pub tell-frame-spec : {M : Type 1} → statement M
+tell-frame-spec =
+    tie.close
+    (tie.spec
+    enum-known-answer
+    enum-known-answer-2
+    enum-known-answer-3
+    refuse-requires
+    returns
+    returns-2
+    returns-3)
