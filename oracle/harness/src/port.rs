@@ -90,6 +90,17 @@ c_calls! {
         head: *mut u64,
         at: *mut u64
     ) -> u64;
+    fn spop_read_frame_records(
+        input: *const u8,
+        input_len: usize,
+        limit: u32,
+        messages: *mut u64,
+        messages_len: usize,
+        pairs: *mut [u64; 5],
+        pairs_len: usize,
+        head: *mut u64,
+        at: *mut u64
+    ) -> u64;
 }
 
 pub fn varint_len(n: u64) -> u64 {
@@ -280,6 +291,31 @@ pub fn read_frame(
     // SAFETY: each slice is lent with its length, the head has six numbers, and nothing lent overlaps.
     unsafe {
         spop_read_frame(
+            input.as_ptr(),
+            input.len(),
+            limit,
+            messages.as_mut_ptr(),
+            messages.len(),
+            pairs.as_mut_ptr(),
+            pairs.len(),
+            head.as_mut_ptr(),
+            at,
+        )
+    }
+}
+
+/// The header's struct of a pair is five numbers in a row.
+pub fn read_frame_records(
+    input: &[u8],
+    limit: u32,
+    messages: &mut [u64],
+    pairs: &mut [[u64; 5]],
+    head: &mut [u64; 6],
+    at: &mut u64,
+) -> u64 {
+    // SAFETY: each slice is lent with its length, the head has six numbers, and nothing lent overlaps.
+    unsafe {
+        spop_read_frame_records(
             input.as_ptr(),
             input.len(),
             limit,

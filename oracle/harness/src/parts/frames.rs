@@ -323,11 +323,32 @@ pub fn bench(_: &mut Random) {
     time("read_frame, HAPROXY-HELLO", &hello());
     time_a_buffer();
     time_a_flood();
+    time_records("as records, upload", &upload(1));
+    time_records("as records, 200 arguments", &long_notify());
+    time_records("as records, 50 messages", &messages());
+    time_records("as records, HAPROXY-HELLO", &hello());
 }
 
 fn time(name: &str, frame: &[u8]) {
     let nanoseconds = timing::race(name, 1, port_reads(frame, 1), rust_reads(frame, 1));
     timing::rate(frame.len() as u64, nanoseconds);
+}
+
+/// The reader with pair records beside the one with numbers.
+fn time_records(name: &str, frame: &[u8]) {
+    timing::compare(name, 1, record_reads(frame), port_reads(frame, 1));
+}
+
+fn record_reads(frame: &[u8]) -> impl FnMut() {
+    let (mut messages, mut pairs) = ([0; ROOMY[0]], [[0; 5]; ROOMY[1] / 5]);
+    let (mut head, mut at) = ([0; 6], 0);
+    move || {
+        let input = black_box(frame);
+        let number =
+            port::read_frame_records(input, LIMIT, &mut messages, &mut pairs, &mut head, &mut at);
+        assert!(number == answers::DONE, "the port answers {number}");
+        black_box((&messages, &pairs, &head));
+    }
 }
 
 /// 64 frames of one length, to be read at the same cost whatever stands behind them.
@@ -444,6 +465,23 @@ fn long_notify() -> Vec<u8> {
     let texts = (0..200).map(|index| TypedData::String(format!("{index:>69}")));
     let arguments: Vec<_> = names.iter().map(String::as_str).zip(texts).collect();
     notify([1, 2], &arguments)
+}
+
+/// Fifty messages of four arguments each.
+fn messages() -> Vec<u8> {
+    let mut payload = Vec::new();
+    for index in 0..50 {
+        let arguments = [
+            ("slot_a", TypedData::UInt32(index)),
+            ("delay_a", TypedData::Int64(1_250)),
+            ("slot_b", TypedData::UInt32(index + 1)),
+            ("delay_b", TypedData::Int64(-730)),
+        ];
+        records::add_string("delay-upload", &mut payload);
+        payload.push(arguments.len() as u8);
+        payload.extend(encoded(&arguments));
+    }
+    framed(FrameType::Notify, [1, 2], &payload)
 }
 
 pub fn hello() -> Vec<u8> {

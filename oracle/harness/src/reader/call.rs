@@ -26,6 +26,11 @@ impl Call {
         Reading::by_port(&self.input, self.limit, self.lengths)
     }
 
+    /// The same call with a table of pair records.
+    pub fn by_records(&self) -> Reading {
+        Reading::by_records(&self.input, self.limit, self.lengths)
+    }
+
     pub fn difference(&self) -> Difference {
         let [messages, pairs] = self.lengths;
         Difference::in_call("read_frame")

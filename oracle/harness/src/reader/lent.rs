@@ -53,6 +53,26 @@ impl Reading {
         }
     }
 
+    /// Lends the same memory, with the pairs as records: as many as its numbers have room for.
+    pub fn by_records(input: &[u8], limit: u32, [messages_len, pairs_len]: [usize; 2]) -> Self {
+        let (mut messages, mut pairs) = (table(messages_len), table(pairs_len));
+        let (mut head, [mut at]) = (pattern(), pattern());
+        let number = port::read_frame_records(
+            input,
+            limit,
+            &mut messages[..messages_len],
+            pairs[..pairs_len].as_chunks_mut().0,
+            &mut head,
+            &mut at,
+        );
+        Self {
+            answer: Answer::new(number, at),
+            head,
+            messages,
+            pairs,
+        }
+    }
+
     /// What is to be answered, in memory that was lent for it in the same way.
     pub fn expected(read: &Read, [messages_len, pairs_len]: [usize; 2]) -> Self {
         let mut whole = Self {

@@ -20,9 +20,13 @@ impl Call {
         model::frame(&self.input, self.limit, Rooms::of(self.lengths))
     }
 
-    fn answers(&self) -> [Answer; 2] {
+    fn answers(&self) -> [Answer; 3] {
         let paper = self.by_paper();
-        [self.by_port().answer, Answer::new(paper.number, paper.at)]
+        [
+            self.by_port().answer,
+            self.by_records().answer,
+            Answer::new(paper.number, paper.at),
+        ]
     }
 
     /// The Rust's tables have no end, so it has no answer 10.
@@ -38,6 +42,11 @@ fn compare(call: &Call) -> Result<Read, Difference> {
     let expected = Reading::expected(&paper, call.lengths);
     if port != expected {
         let rows = call.difference().row("port", port);
+        return Err(rows.row("paper", expected));
+    }
+    let records = call.by_records();
+    if records != expected {
+        let rows = call.difference().row("port, as records", records);
         return Err(rows.row("paper", expected));
     }
     let endless = (paper.number == TABLE_FULL).then(|| call.by_paper_without_end());
