@@ -37,6 +37,9 @@ pub struct Value {
     pub flags: u64,
 }
 
+// How many numbers that are.
+pub const VALUE_WIDTH: usize = 4;
+
 // What the value reader answers.
 pub enum Typed {
     Done { value: Value, used: usize },
