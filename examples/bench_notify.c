@@ -15,9 +15,9 @@ enum { KIND_U32 = 3, KIND_I64 = 4 };
 struct notify {
     uint8_t buffer[256];
     size_t used;
-    uint64_t messages[4 * 4];
+    uint64_t messages[SPOP_MESSAGE_WIDTH * 4];
     uint64_t message_count;
-    uint64_t pairs[5 * 16];
+    uint64_t pairs[SPOP_PAIR_WIDTH * 16];
     uint64_t pair_count;
 };
 
@@ -35,7 +35,7 @@ static void add_name(struct notify *n, const char *name, uint64_t *record)
 /* Begins a message. The pairs that are added from now on are its arguments. */
 static void add_message(struct notify *n, const char *name)
 {
-    uint64_t *record = n->messages + 4 * n->message_count++;
+    uint64_t *record = n->messages + SPOP_MESSAGE_WIDTH * n->message_count++;
 
     add_name(n, name, record);
     record[2] = n->pair_count;
@@ -45,13 +45,14 @@ static void add_message(struct notify *n, const char *name)
 /* Adds an argument to the message that was begun last. */
 static void add_number(struct notify *n, const char *key, uint64_t kind, uint64_t value)
 {
-    uint64_t *record = n->pairs + 5 * n->pair_count++;
+    uint64_t *record = n->pairs + SPOP_PAIR_WIDTH * n->pair_count++;
 
     add_name(n, key, record);
     record[2] = kind;
     record[3] = value;
     record[4] = 0;
-    n->messages[4 * (n->message_count - 1) + 3]++;
+    record[5] = 0;         /* no flags */
+    n->messages[SPOP_MESSAGE_WIDTH * (n->message_count - 1) + 3]++;
 }
 
 /* A slot, by its number in the slot table, and its residual delay in picoseconds. */
@@ -63,8 +64,9 @@ static void add_slot(struct notify *n, uint32_t slot, int64_t delay)
 
 static uint64_t write_frame(const struct notify *n, uint8_t *out, size_t out_len, uint64_t *at)
 {
-    return spop_write_notify(true, false, 1, 1, LIMIT, n->buffer, n->used, n->messages, 4 * n->message_count, n->message_count,
-                             n->pairs, 5 * n->pair_count, n->pair_count, out, out_len, at);
+    return spop_write_notify(true, false, 1, 1, LIMIT, n->buffer, n->used,
+                             n->messages, SPOP_MESSAGE_WIDTH * n->message_count, n->message_count,
+                             n->pairs, SPOP_PAIR_WIDTH * n->pair_count, n->pair_count, out, out_len, at);
 }
 
 static void show(const struct notify *n)
@@ -117,8 +119,8 @@ int main(void)
     add_slot(&gap, 3, 1250);
     add_message(&gap, "delay-upload");
     add_slot(&gap, 17, -730);
-    gap.messages[4 + 2] += 1;
-    gap.messages[4 + 3] -= 1;
+    gap.messages[SPOP_MESSAGE_WIDTH + 2] += 1;
+    gap.messages[SPOP_MESSAGE_WIDTH + 3] -= 1;
     printf("a gap between two messages\n");
     show_refusal(&gap);
     return 0;

@@ -24,8 +24,8 @@ enum { TYPE_NOTIFY = 3 };
 /* What spop_read_frame fills in. */
 struct frame {
     uint64_t head[6];      /* type, flags, stream id, frame id, message count, pair count */
-    uint64_t messages[4 * MESSAGES];
-    uint64_t pairs[5 * PAIRS];
+    uint64_t messages[SPOP_MESSAGE_WIDTH * MESSAGES];
+    uint64_t pairs[SPOP_PAIR_WIDTH * PAIRS];
 };
 
 static const char *why(uint64_t number)
@@ -77,7 +77,7 @@ static int64_t signed_number(uint64_t bits)
     return n;
 }
 
-/* A value's kind, a and b. Starts count from the frame's first byte. */
+/* A value's kind, a and b; its flags are not printed. Starts count from the frame's first byte. */
 static void print_value(const uint8_t *frame, const uint64_t *value)
 {
     static const char *const kinds[] = {"null", "bool", "i32", "u32", "i64", "u64", "IPv4", "IPv6", "string", "binary"};
@@ -97,13 +97,13 @@ static void print_value(const uint8_t *frame, const uint64_t *value)
 static void print_notify(const uint8_t *bytes, const struct frame *f)
 {
     for (uint64_t i = 0; i < f->head[4]; i++) {
-        const uint64_t *message = f->messages + 4 * i;
+        const uint64_t *message = f->messages + SPOP_MESSAGE_WIDTH * i;
 
         printf("message %" PRIu64 " ", i);
         print_text(bytes + message[0], message[1]);
         printf(", %" PRIu64 " arguments\n", message[3]);
         for (uint64_t k = message[2]; k < message[2] + message[3]; k++) {
-            const uint64_t *pair = f->pairs + 5 * k;
+            const uint64_t *pair = f->pairs + SPOP_PAIR_WIDTH * k;
 
             printf("  ");
             print_text(bytes + pair[0], pair[1]);
@@ -122,7 +122,8 @@ static int read_all(const uint8_t *bytes, size_t length)
 
     for (uint64_t index = 0; length > 0; index++) {
         uint64_t at;
-        uint64_t number = spop_read_frame(bytes, length, LIMIT, f.messages, 4 * MESSAGES, f.pairs, 5 * PAIRS, f.head, &at);
+        uint64_t number = spop_read_frame(bytes, length, LIMIT, f.messages, SPOP_MESSAGE_WIDTH * MESSAGES,
+                                          f.pairs, SPOP_PAIR_WIDTH * PAIRS, f.head, &at);
 
         if (number == WAIT) {
             fflush(stdout);

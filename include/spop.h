@@ -60,35 +60,46 @@ bool spop_same_text(const uint8_t *a, size_t a_len, const uint8_t *b, size_t b_l
 /* Writes the lossy text of the bytes at the front of out. 0 with its length, at most 3 * len, or 11. */
 uint64_t spop_lossy_text(const uint8_t *bytes, size_t len, uint8_t *out, size_t out_len, uint64_t *at);
 
-/* A value is three numbers, kind, a and b:
+/* How many numbers a value has, and each record of a table. */
+enum {
+    SPOP_VALUE_WIDTH = 4,
+    SPOP_MESSAGE_WIDTH = 4,
+    SPOP_PAIR_WIDTH = 6,
+    SPOP_ACTION_WIDTH = 8
+};
+
+/* A value is four numbers: kind, a, b and flags. a and b are
  *
  *    0 null     0, 0               1 bool    0 or 1, 0
  *    2 i32      the number, 0      3 u32     the number, 0        (signed numbers are sign-extended to 64 bits)
  *    4 i64      the number, 0      5 u64     the number, 0
  *    6 IPv4     start, 4           7 IPv6    start, 16
  *    8 string   start, length      9 binary  start, length
- */
+ *
+ * The flags are the upper four bits of the type byte, 0 to 15, which SPOP leaves unused; of a bool, which has them as its a, they
+ * are 0. A writer puts them back. */
 
 /* Reads the value at the front of input; a start counts from its first byte. 0 with value set and the bytes used, or 3, 7, 8
  * or 19. */
-uint64_t spop_typed_data(const uint8_t *input, size_t input_len, uint64_t value[3], uint64_t *at);
+uint64_t spop_typed_data(const uint8_t *input, size_t input_len, uint64_t value[SPOP_VALUE_WIDTH], uint64_t *at);
 
 /* Answers how many bytes the written form of a value has, whose start counts in buffer; 0 where it has none. */
-uint64_t spop_value_len(const uint64_t value[3], const uint8_t *buffer, size_t buffer_len);
+uint64_t spop_value_len(const uint64_t value[SPOP_VALUE_WIDTH], const uint8_t *buffer, size_t buffer_len);
 
 /* What a value is refused with before it is written: 14, 16 or, for a string, 15, the first of these that holds; else 0. */
-uint64_t spop_check_value(const uint64_t value[3], const uint8_t *buffer, size_t buffer_len);
+uint64_t spop_check_value(const uint64_t value[SPOP_VALUE_WIDTH], const uint8_t *buffer, size_t buffer_len);
 
 /* Writes a value at the front of out. 0 with its length, or 14, 16, 11, the first of these that holds. Whether a string is UTF-8
  * is spop_check_value's to say. */
-uint64_t spop_write_value(const uint64_t value[3], const uint8_t *buffer, size_t buffer_len, uint8_t *out, size_t out_len, uint64_t *at);
+uint64_t spop_write_value(const uint64_t value[SPOP_VALUE_WIDTH], const uint8_t *buffer, size_t buffer_len, uint8_t *out,
+                          size_t out_len, uint64_t *at);
 
-/* A pair is five numbers: key start, key length, and a value's kind, a and b. */
+/* A pair is six numbers: key start, key length, and a value's kind, a, b and flags. */
 
 /* Reads the pair at the front of input: its key, a string of any bytes, and its value. Starts count from the input's first byte.
  * 0 with pair set and the bytes used; else the key's 3, 7 or 19, or then the value's 3, 7, 8 or 19. Bytes after the pair are
  * not looked at. */
-uint64_t spop_read_pair(const uint8_t *input, size_t input_len, uint64_t pair[5], uint64_t *at);
+uint64_t spop_read_pair(const uint8_t *input, size_t input_len, uint64_t pair[SPOP_PAIR_WIDTH], uint64_t *at);
 
 /* Reads the frame at the front of input, one that HAProxy sends: a HAPROXY-HELLO (type 1) or a HAPROXY-DISCONNECT (2), which hold
  * a KV list, or a NOTIFY (3), which holds messages. There may be none of either. limit is the most that the frame's length bytes
@@ -124,10 +135,10 @@ uint64_t spop_read_pair(const uint8_t *input, size_t input_len, uint64_t pair[5]
  * After 0, head is the type, the flags (FIN alone, so 1), the stream id, the frame id, how many messages there are, and how many
  * pairs. The records are at the front of the tables, in the order of their bytes, and the numbers behind them stay. A message has
  * four: name start, name length, first pair (how many pairs the messages before it have, also where it has none itself) and pair
- * count. A pair has five, as above; those of a NOTIFY are the arguments of all its messages, one message after the other. A KV list
+ * count. A pair has six, as above; those of a NOTIFY are the arguments of all its messages, one message after the other. A KV list
  * has no messages. Names, keys and strings may be any bytes. After any other number neither head nor a table has changed.
  *
- * messages has room for messages_len / 4 messages, and pairs for pairs_len / 5 pairs, rounded down. Either may have none. A record
+ * messages has room for messages_len / 4 messages, and pairs for pairs_len / 6 pairs, rounded down. Either may have none. A record
  * takes two bytes of its frame or more, so with room for limit / 2 in each table the answer is never 10. In a KV list each key is
  * compared with those before it, so its time grows with the square of the pairs that there is room for.
  *
@@ -143,21 +154,21 @@ uint64_t spop_read_frame(const uint8_t *input, size_t input_len, uint32_t limit,
  * numbers of stream and frame); 16 for more records than the table has; for the first record that is refused its number, with its
  * index in *at; 12; 11. The records are written in their order. */
 
-/* Writes a KV frame: type 1 or 2, or 101 or 102 with FIN alone and both numbers 0. A pair has five numbers, as above. Its refusals,
+/* Writes a KV frame: type 1 or 2, or 101 or 102 with FIN alone and both numbers 0. A pair has six numbers, as above. Its refusals,
  * in this order: 14; 16 and 15 for its key; 16 and 15 for its value; 9 where an earlier key is the same text. */
 uint64_t spop_write_kv(uint64_t type, bool fin, bool abort, uint64_t stream_id, uint64_t frame_id, uint32_t limit,
                        const uint8_t *buffer, size_t buffer_len, const uint64_t *pairs, size_t pairs_len, uint64_t pair_count,
                        uint8_t *out, size_t out_len, uint64_t *at);
 
-/* Writes an action frame, type 103, with FIN alone. An action has seven numbers: 1 set or 2 unset, scope 0 to 4 (process, session,
- * transaction, request, response), name start, name length, and a value's kind, a and b, which are 0 for an unset. An action's
- * refusals, in this order: 14; 16 and 15 for its name; 16 and 15 for its value. */
+/* Writes an action frame, type 103, with FIN alone. An action has eight numbers: 1 set or 2 unset, scope 0 to 4 (process, session,
+ * transaction, request, response), name start, name length, and a value's kind, a, b and flags, which are 0 for an unset. An
+ * action's refusals, in this order: 14; 16 and 15 for its name; 16 and 15 for its value. */
 uint64_t spop_write_actions(bool fin, bool abort, uint64_t stream_id, uint64_t frame_id, uint32_t limit, const uint8_t *buffer,
                             size_t buffer_len, const uint64_t *actions, size_t actions_len, uint64_t action_count, uint8_t *out,
                             size_t out_len, uint64_t *at);
 
 /* Writes a NOTIFY frame, type 3, with FIN alone. A message has four numbers: name start, name length, first pair (how many pairs
- * the messages before it have) and pair count, which is at most 255. A pair has five, as above; its key is the argument's name.
+ * the messages before it have) and pair count, which is at most 255. A pair has six, as above; its key is the argument's name.
  * Names may be empty and may repeat. The pairs of the messages follow each other without a gap: the first message's run starts at
  * pair 0, each other run where the one before it ends, and the last ends at pair_count.
  *

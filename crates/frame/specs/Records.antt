@@ -14,10 +14,10 @@ abbrev pub messageWidth : ℕ
 messageWidth = 4
 
 abbrev pub pairWidth : ℕ
-pairWidth = 5
+pairWidth = 6
 
 abbrev pub actionWidth : ℕ
-actionWidth = 7
+actionWidth = 8
 
 -- name start, name length, first pair, and how many pairs
 unfoldable pub messageAt : List ℕ → ℕ → Message
@@ -25,10 +25,14 @@ messageAt table i =
     let number = numberAt messageWidth table i in
     record { start = number 0; len = number 1; first = number 2; count = number 3 }
 
--- a pair whose numbers start at number k of a record: key start, key length, and the value's kind and two numbers
+-- a pair whose numbers start at number k of a record: key start, key length, and the value's kind, two numbers and flags
 abbrev pub pairIn : (ℕ → ℕ) → ℕ → Pair
 pairIn number k =
-    record { start = number k; len = number (k + 1); value = record { kind = number (k + 2); a = number (k + 3); b = number (k + 4) } }
+    record {
+      start = number k;
+      len = number (k + 1);
+      value = record { kind = number (k + 2); a = number (k + 3); b = number (k + 4); flags = number (k + 5) };
+    }
 
 unfoldable pub pairAt : List ℕ → ℕ → Pair
 pairAt table i = pairIn (numberAt pairWidth table i) 0
@@ -44,7 +48,7 @@ abbrev pub messageNumbers : Message → List ℕ
 messageNumbers m = m .start ∷ m .len ∷ m .first ∷ m .count ∷ []
 
 abbrev pub pairNumbers : Pair → List ℕ
-pairNumbers p = p .start ∷ p .len ∷ p .value .kind ∷ p .value .a ∷ p .value .b ∷ []
+pairNumbers p = p .start ∷ p .len ∷ p .value .kind ∷ p .value .a ∷ p .value .b ∷ p .value .flags ∷ []
 
 -- a pair's key, and whether two keys are the same text
 abbrev pub keyOf : List ℕ → Pair → List ℕ

@@ -28,9 +28,9 @@ pub const ACK: u64 = 103;
 // How many numbers a record has in its table.
 pub const MESSAGE_WIDTH: usize = 4;
 
-pub const PAIR_WIDTH: usize = 5;
+pub const PAIR_WIDTH: usize = 6;
 
-pub const ACTION_WIDTH: usize = 7;
+pub const ACTION_WIDTH: usize = 8;
 
 // A pair: where its key stands in the buffer, and its value.
 #[repr(C)]

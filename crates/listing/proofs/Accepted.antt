@@ -1,6 +1,6 @@
 -- Laws about accepted frames: they end where their bytes do, and each of their records has a line.
 use mathlib.Core.Path.{_≡_, refl, sym, ap, _∙_}
-use mathlib.Core.Bool.{Bool, true, cond, not, _||_}
+use mathlib.Core.Bool.{Bool, true, cond, not, _&&_, _||_}
 use mathlib.Core.Logic.{⊎-elim}
 use mathlib.Core.List.{List, [], _∷_, _++_, map}
 use Prim.Native.Nat.{ℕ, zero, suc, _+_, _-_, _≤_}
@@ -11,11 +11,11 @@ use lib.Seq.{length-take-le}
 use borrow.Author.Tests.{lt-ltb, le-ltb, eqb-true, eqb-false}
 use Rattle.answer.specs.Answer.{Answer, done, refused, next, behind}
 use Rattle.answer.proofs.Cases.{lt-or-le, bool-cases, answer-cases, not-both}
-use Rattle.types.specs.Value.{Span, span, string, Record, value, Shape, nothing, flag, integer, address, text, reserved, shape, points, moved, typed, inFields}
+use Rattle.types.specs.Value.{Span, span, string, Record, value, Shape, nothing, flag, integer, address, text, reserved, shape, points, moved, typed, inFields, inFlags}
 use Rattle.types.specs.Form.{writableRecord}
 use Rattle.types.specs.Promise.{recordOf}
 use Rattle.types.proofs.Reading.{string-accepted, typed-accepted}
-use Rattle.types.proofs.Shapes.{in-fields}
+use Rattle.types.proofs.Shapes.{in-record}
 use Rattle.frame.specs.declared.Pair.{Pair}
 use Rattle.frame.specs.declared.Message.{Message}
 use Rattle.frame.specs.Head.{fourNumber}
@@ -59,18 +59,21 @@ pub record Held (n : ℕ) (c : Contents) : Type 0 where
   pub pairs : Each (Whole n) (c .pairs)
 
 -- behind k other bytes
-fields-moved : (sh : Shape) (k a b : ℕ) → inFields sh a b ≡ true → inFields sh (cond (points sh) (k + a) a) b ≡ true
-fields-moved nothing k a b h = h
-fields-moved flag k a b h = h
-fields-moved (integer w) k a b h = h
-fields-moved (address n) k a b h = h
-fields-moved text k a b h = h
-fields-moved reserved k a b h = h
+fields-moved : (k : ℕ) (v : Record) → writableRecord v ≡ true → writableRecord (moved k v) ≡ true
+fields-moved k (value kind a b flags) h = by-shape (shape kind) h
+  where
+    by-shape : (sh : Shape) → inFlags sh flags && inFields sh a b ≡ true → inFlags sh flags && inFields sh (cond (points sh) (k + a) a) b ≡ true
+    by-shape nothing o = o
+    by-shape flag o = o
+    by-shape (integer w) o = o
+    by-shape (address n) o = o
+    by-shape text o = o
+    by-shape reserved o = o
 
 whole-moved : (k n : ℕ) (p : Pair) → Whole n p → Whole (k + n) (movedPair k p)
 whole-moved k n p h =
     record {
-      fields = fields-moved (shape (p .value .kind)) k (p .value .a) (p .value .b) (h .fields);
+      fields = fields-moved k (recordOf (p .value)) (h .fields);
       key = omega (arith, h .key);
       range = λ t. rw t (omega (arith, h .range t));
       both = λ t. omega (arith, h .both t);
@@ -88,13 +91,13 @@ held-moved k n c h =
 
 -- ---- a pair that was read
 
-pair-found : (s : List ℕ) (start len u : ℕ) → string s ≡ done (span start len) u → (kind a b n : ℕ) → typed (drop u s) ≡ done (value kind a b) n
-    → Whole (length s) (pairOf (span start len) (moved u (value kind a b)))
-pair-found s start len u key kind a b n d =
+pair-found : (s : List ℕ) (start len u : ℕ) → string s ≡ done (span start len) u → (kind a b f n : ℕ) → typed (drop u s) ≡ done (value kind a b f) n
+    → Whole (length s) (pairOf (span start len) (moved u (value kind a b f)))
+pair-found s start len u key kind a b f n d =
     let k = string-accepted s start len u key in
-    let v = typed-accepted (drop u s) kind a b n d in
+    let v = typed-accepted (drop u s) kind a b f n d in
     record {
-      fields = fields-moved (shape kind) u a b (in-fields (shape kind) a b (v .3));
+      fields = fields-moved u (value kind a b f) (in-record kind a b f (shape kind) refl (v .5) (v .3));
       key = omega (arith, k);
       range = λ t. rw t (let o = v .4 t in omega (arith, k, v .1, length-drop u s));
       both = λ t. let o = v .4 t in omega (arith, k, v .1, length-drop u s);
@@ -104,8 +107,8 @@ pair-read : (s : List ℕ) (p : Pair) (used : ℕ) → pair s ≡ done p used �
 pair-read s p used e = by-key (string s) refl
   where
     by-value : (start len u : ℕ) → string s ≡ done (span start len) u → (y : Answer Record) → typed (drop u s) ≡ y → Whole (length s) p
-    by-value start len u key (done (value kind a b) n) d =
-        rw (sym (done-same (sym (pair-whole s start len u key (value kind a b) n d) ∙ e) .0)) (pair-found s start len u key kind a b n d)
+    by-value start len u key (done (value kind a b f) n) d =
+        rw (sym (done-same (sym (pair-whole s start len u key (value kind a b f) n d) ∙ e) .0)) (pair-found s start len u key kind a b f n d)
     by-value start len u key (refused n place) r = not-both e (pair-value s start len u key n place r)
 
     by-key : (x : Answer Span) → string s ≡ x → Whole (length s) p

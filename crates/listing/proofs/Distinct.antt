@@ -12,8 +12,8 @@ use Rattle.answer.proofs.Cases.{lt-or-le, bool-cases}
 use Rattle.answer.proofs.Records.{joined-none, joined-on}
 use Rattle.types.specs.Value.{Shape, nothing, flag, integer, address, text, reserved, Width, signed32, unsigned32, whole64, shape, Record, value, points}
 use Rattle.types.specs.Form.{part, writableRecord}
-use Rattle.types.proofs.Roundtrip.{means, meaning}
-use Rattle.types.proofs.Shapes.{shape-cases, signed-below, InWidth, Fields, fields-in, field-at}
+use Rattle.types.proofs.Roundtrip.{Meaning, means, meaning}
+use Rattle.types.proofs.Shapes.{shape-cases, signed-below, InWidth, Fields, writable-fields}
 use Rattle.listing.specs.Digits.{dash, glyph, decimal, signed, hexPair, shown}
 use Rattle.listing.specs.Lines.{hasSign, dataText, valueText}
 use Rattle.listing.proofs.Decimal.{decimal-last, decimal-on, length-last, length-on, decimal-some}
@@ -124,38 +124,42 @@ shown-apart (b ∷ s) (c ∷ t) e = hex-apart (b ∷ s) (c ∷ t) e
 
 -- ---- values
 
-module _ (k a b c d : ℕ) (f g : List ℕ) where
-  plain-same : points (shape k) ≡ false → a ≡ c → meaning f (value k a b) ≡ meaning g (value k c d)
-  plain-same p e = rw p (ap (λ (n : ℕ). means k n []) e)
+-- what a line says of a value: what it means but for its flags
+abbrev pub lineMeaning : List ℕ → Record → Meaning
+lineMeaning f (value k a b x) = meaning f (value k a b 0)
 
-  part-same : points (shape k) ≡ true → part f a b ≡ part g c d → meaning f (value k a b) ≡ meaning g (value k c d)
-  part-same p e = rw p (ap (means k 0) e)
+module _ (k a b x c d y : ℕ) (f g : List ℕ) where
+  plain-same : points (shape k) ≡ false → a ≡ c → lineMeaning f (value k a b x) ≡ lineMeaning g (value k c d y)
+  plain-same p e = rw p (ap (λ (n : ℕ). means k n 0 []) e)
 
-  same-text : (sh : Shape) → shape k ≡ sh → valueText f (value k a b) ≡ valueText g (value k c d) → dataText sh k a (part f a b) ≡ dataText sh k c (part g c d)
-  same-text sh is e = sym (text-at f k a b sh is) ∙ e ∙ text-at g k c d sh is
+  part-same : points (shape k) ≡ true → part f a b ≡ part g c d → lineMeaning f (value k a b x) ≡ lineMeaning g (value k c d y)
+  part-same p e = rw p (ap (means k 0 0) e)
+
+  same-text : (sh : Shape) → shape k ≡ sh → valueText f (value k a b x) ≡ valueText g (value k c d y) → dataText sh k a (part f a b) ≡ dataText sh k c (part g c d)
+  same-text sh is e = sym (text-at f k a b x sh is) ∙ e ∙ text-at g k c d y sh is
 
 pub below : (w : Width) (a : ℕ) → InWidth w a → a < 2 ^ 64
 below signed32 a h = rw h (signed-below a)
 below unsigned32 a h = omega arith
 below whole64 a h = h
 
--- Law: values of one kind with the same text mean the same.
-pub values-apart : (k a b c d : ℕ) (f g : List ℕ) → writableRecord (value k a b) ≡ true → writableRecord (value k c d) ≡ true
-    → valueText f (value k a b) ≡ valueText g (value k c d) → meaning f (value k a b) ≡ meaning g (value k c d)
-values-apart k a b c d f g h l e =
+-- Law: values of one kind with the same text mean the same but for their flags.
+pub values-apart : (k a b x c d y : ℕ) (f g : List ℕ) → writableRecord (value k a b x) ≡ true → writableRecord (value k c d y) ≡ true
+    → valueText f (value k a b x) ≡ valueText g (value k c d y) → lineMeaning f (value k a b x) ≡ lineMeaning g (value k c d y)
+values-apart k a b x c d y f g h l e =
     shape-cases k
-    (λ z is. plain-same k a b c d f g (ap points is) (fields nothing is .0 ∙ sym (others nothing is .0)))
-    (λ z is. plain-same k a b c d f g (ap points is) (decimal-apart a c (same-text k a b c d f g flag is e)))
-    (λ w x y is. plain-same k a b c d f g (ap points is) (number w is (same-text k a b c d f g (integer w) is e)))
-    (λ n x y is. part-same k a b c d f g (ap points is) (shown-apart (part f a b) (part g c d) (same-text k a b c d f g (address n) is e)))
-    (λ x y is. part-same k a b c d f g (ap points is) (shown-apart (part f a b) (part g c d) (same-text k a b c d f g text is e)))
-    (λ x is. absurd (fields reserved is))
+    (λ z is. plain-same k a b x c d y f g (ap points is) (fields nothing is .0 ∙ sym (others nothing is .0)))
+    (λ z is. plain-same k a b x c d y f g (ap points is) (decimal-apart a c (same-text k a b x c d y f g flag is e)))
+    (λ w u v is. plain-same k a b x c d y f g (ap points is) (number w is (same-text k a b x c d y f g (integer w) is e)))
+    (λ n u v is. part-same k a b x c d y f g (ap points is) (shown-apart (part f a b) (part g c d) (same-text k a b x c d y f g (address n) is e)))
+    (λ u v is. part-same k a b x c d y f g (ap points is) (shown-apart (part f a b) (part g c d) (same-text k a b x c d y f g text is e)))
+    (λ u is. absurd (fields reserved is))
   where
     fields : (sh : Shape) → shape k ≡ sh → Fields sh a b
-    fields sh is = fields-in sh a b (sym (field-at k a b sh is) ∙ h)
+    fields = writable-fields k a b x h
 
     others : (sh : Shape) → shape k ≡ sh → Fields sh c d
-    others sh is = fields-in sh c d (sym (field-at k c d sh is) ∙ l)
+    others = writable-fields k c d y l
 
     number : (w : Width) → shape k ≡ integer w → dataText (integer w) k a (part f a b) ≡ dataText (integer w) k c (part g c d) → a ≡ c
     number w is q =
@@ -198,7 +202,7 @@ data-plain reserved k a bytes = tt
 
 pub value-plain : (f : List ℕ) (v : Record) → Plain (valueText f v)
 unfolding valueText
-value-plain f (value k a b) = data-plain (shape k) k a (part f a b)
+value-plain f (value k a b flags) = data-plain (shape k) k a (part f a b)
 
 -- Law: two texts, each with a space or a line's end behind it, that start the same bytes are the same, and so is what follows.
 pub texts-apart : (s t : List ℕ) (x y : ℕ) (u v : List ℕ) → Plain s → Plain t → x ≤ 32 → y ≤ 32 → s ++ (x ∷ u) ≡ t ++ (y ∷ v) → (s ≡ t) × (u ≡ v)

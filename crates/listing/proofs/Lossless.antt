@@ -1,4 +1,4 @@
--- The listing loses nothing: frames with the same lines have the same type, ids and records.
+-- The listing loses nothing but values' flags, which no line shows: frames with the same lines have the same type, ids and records.
 use mathlib.Core.Path.{_≡_, refl, sym, ap, ap₂, _∙_}
 use mathlib.Core.Bool.{Bool, true, false, cond, _&&_}
 use mathlib.Core.List.{List, [], _∷_, _++_, append-assoc, append-cancel-left, head-eq-of-cons-eq, tail-eq-of-cons-eq, map}
@@ -12,7 +12,7 @@ use Rattle.answer.proofs.Cases.{bool-cases, both-true, true-false}
 use Rattle.types.specs.Value.{value}
 use Rattle.types.specs.Form.{part, writableRecord}
 use Rattle.types.specs.Promise.{recordOf}
-use Rattle.types.proofs.Roundtrip.{Meaning, meaning}
+use Rattle.types.proofs.Roundtrip.{Meaning}
 use Rattle.frame.specs.declared.Pair.{Pair}
 use Rattle.frame.specs.declared.Message.{Message}
 use Rattle.frame.specs.Records.{keyOf}
@@ -24,7 +24,7 @@ use Rattle.listing.specs.Digits.{decimal, shown}
 use Rattle.listing.specs.Lines.{mark, others, filled, frameForm, messageForm, pairForm, endForm, valueText, frameLine, messageLine, pairLine, endLine}
 use Rattle.listing.proofs.Frames.{pairLines, itemLines, frameLines}
 use Rattle.listing.proofs.Accepted.{Each, Whole, whole-held}
-use Rattle.listing.proofs.Distinct.{Plain, decimal-apart, shown-apart, values-apart, decimal-plain, shown-plain, value-plain, texts-apart}
+use Rattle.listing.proofs.Distinct.{lineMeaning, Plain, decimal-apart, shown-apart, values-apart, decimal-plain, shown-plain, value-plain, texts-apart}
 
 -- ---- a line
 
@@ -118,12 +118,12 @@ frame-apart i j m n b c u v e =
     texts : (i : ℕ) (m : Metadata) (b : ℕ) → Each Plain (decimal i ∷ decimal (m .kind) ∷ decimal (m .stream) ∷ decimal (m .frame) ∷ decimal b ∷ [])
     texts i m b = (decimal-plain i, (decimal-plain (m .kind), (decimal-plain (m .stream), (decimal-plain (m .frame), (decimal-plain b, tt)))))
 
--- what a message means, and what a pair does: its bytes wherever they stand, and its count or its value
+-- what a line says of a message, and of a pair: its bytes wherever they stand, and its count or its value
 abbrev pub messageMeans : List ℕ → Message → List ℕ × ℕ
 messageMeans f m = (part f (m .start) (m .len), m .count)
 
 abbrev pub pairMeans : List ℕ → Pair → List ℕ × Meaning
-pairMeans f p = (keyOf f p, meaning f (recordOf (p .value)))
+pairMeans f p = (keyOf f p, lineMeaning f (recordOf (p .value)))
 
 message-apart : (i : ℕ) (f g : List ℕ) (m n : Message) (u v : List ℕ) → messageLine i f m ++ u ≡ messageLine i g n ++ v
     → (part f (m .start) (m .len) ≡ part g (n .start) (n .len)) × (m .count ≡ n .count) × (u ≡ v)
@@ -140,9 +140,9 @@ message-apart i f g m n u v e =
     texts f m = (decimal-plain i, (shown-plain (part f (m .start) (m .len)), (decimal-plain (m .count), tt)))
 
 -- a value's kind stands in its line
-kinds-apart : (k l a b c d : ℕ) (f g : List ℕ) → k ≡ l → writableRecord (value k a b) ≡ true → writableRecord (value l c d) ≡ true
-    → valueText f (value k a b) ≡ valueText g (value l c d) → meaning f (value k a b) ≡ meaning g (value l c d)
-kinds-apart k l a b c d f g e h w t = rw (sym e) (values-apart k a b c d f g h (rw (sym e) at w) (rw (sym e) at t))
+kinds-apart : (k l a b x c d y : ℕ) (f g : List ℕ) → k ≡ l → writableRecord (value k a b x) ≡ true → writableRecord (value l c d y) ≡ true
+    → valueText f (value k a b x) ≡ valueText g (value l c d y) → lineMeaning f (value k a b x) ≡ lineMeaning g (value l c d y)
+kinds-apart k l a b x c d y f g e h w t = rw (sym e) (values-apart k a b x c d y f g h (rw (sym e) at w) (rw (sym e) at t))
 
 abbrev Fields : Pair → Type 0
 Fields p = writableRecord (recordOf (p .value)) ≡ true
@@ -156,7 +156,7 @@ pair-apart i f g p q u v h l e =
     let t2 = tail-eq-of-cons-eq t1 in
     let key : keyOf f p ≡ keyOf g q = shown-apart _ _ (head-eq-of-cons-eq t1) in
     let kind = decimal-apart (p .value .kind) (q .value .kind) (head-eq-of-cons-eq t2) in
-    let val = kinds-apart (p .value .kind) (q .value .kind) (p .value .a) (p .value .b) (q .value .a) (q .value .b) f g kind h l (head-eq-of-cons-eq (tail-eq-of-cons-eq t2)) in
+    let val = kinds-apart (p .value .kind) (q .value .kind) (p .value .a) (p .value .b) (p .value .flags) (q .value .a) (q .value .b) (q .value .flags) f g kind h l (head-eq-of-cons-eq (tail-eq-of-cons-eq t2)) in
     ((λ j. (key j, val j)), o .1)
   where
     texts : (f : List ℕ) (p : Pair) → Each Plain (decimal i ∷ shown (keyOf f p) ∷ decimal (p .value .kind) ∷ valueText f (recordOf (p .value)) ∷ [])
@@ -316,8 +316,8 @@ pub record SameFrame (i j : ℕ) (f g : List ℕ) (m n : Metadata) (c d : Conten
 
 module _ (rooms others : Rooms) (f g : List ℕ) (m n : Metadata) (c d : Contents) (used taken : ℕ)
     (first : wholeFrame rooms f ≡ done (m, c) used) (second : wholeFrame others g ≡ done (n, d) taken) where
-  -- Law: the listing loses nothing. Two accepted frames whose lines start the same bytes are the same but for where their records stand, and
-  -- the same follows them.
+  -- Law: the listing loses nothing but flags. Two accepted frames whose lines start the same bytes are the same but for these and for where
+  -- their records stand, and the same follows them.
   pub listing-apart-then : (index other : ℕ) (u v : List ℕ) → Over u → Over v → frameLines index f m c ++ u ≡ frameLines other g n d ++ v
       → SameFrame index other f g m n c d × (u ≡ v)
   unfolding frameLines

@@ -21,21 +21,21 @@ use Rattle.listing.specs.Check.{messageChecks, pairChecks}
 
 -- ---- a value's text
 
-module _ (f : List ℕ) (kind a b : ℕ) where
-  pub text-at : (sh : Shape) → shape kind ≡ sh → valueText f (value kind a b) ≡ dataText sh kind a (part f a b)
+module _ (f : List ℕ) (kind a b flags : ℕ) where
+  pub text-at : (sh : Shape) → shape kind ≡ sh → valueText f (value kind a b flags) ≡ dataText sh kind a (part f a b)
   unfolding valueText
   text-at sh is = ap (λ (x : Shape). dataText x kind a (part f a b)) is
 
-  pub text-null : kind ≡ 0 → valueText f (value kind a b) ≡ dash ∷ []
+  pub text-null : kind ≡ 0 → valueText f (value kind a b flags) ≡ dash ∷ []
   text-null e = text-at nothing (row 0 e (shape-is .0))
 
-  pub text-signed32 : kind ≡ 2 → valueText f (value kind a b) ≡ signed a
+  pub text-signed32 : kind ≡ 2 → valueText f (value kind a b flags) ≡ signed a
   text-signed32 e = text-at (integer signed32) (row 2 e (shape-is .2)) ∙ rw e
 
-  pub text-signed64 : kind ≡ 4 → valueText f (value kind a b) ≡ signed a
+  pub text-signed64 : kind ≡ 4 → valueText f (value kind a b flags) ≡ signed a
   text-signed64 e = text-at (integer whole64) (row 4 e (shape-is .4)) ∙ rw e
 
-  pub text-number : (kind ≡ 0 → ⊥) → (kind ≡ 2 → ⊥) → (kind ≡ 4 → ⊥) → kind < 6 → valueText f (value kind a b) ≡ decimal a
+  pub text-number : (kind ≡ 0 → ⊥) → (kind ≡ 2 → ⊥) → (kind ≡ 4 → ⊥) → kind < 6 → valueText f (value kind a b flags) ≡ decimal a
   text-number n0 n2 n4 h =
       shape-cases kind
       (λ e is. absurd (n0 e))
@@ -45,7 +45,7 @@ module _ (f : List ℕ) (kind a b : ℕ) where
       (λ l g is. absurd (omega arith))
       (λ l is. absurd (omega arith))
 
-  pub text-bytes : 6 ≤ kind → kind < 10 → valueText f (value kind a b) ≡ shown (part f a b)
+  pub text-bytes : 6 ≤ kind → kind < 10 → valueText f (value kind a b flags) ≡ shown (part f a b)
   text-bytes l h =
       shape-cases kind
       (λ e is. absurd (omega arith))
@@ -55,7 +55,7 @@ module _ (f : List ℕ) (kind a b : ℕ) where
       (λ m g is. text-at text is)
       (λ m is. absurd (omega arith))
 
-  pub range-in : 6 ≤ kind → kind < 10 → ranged f (value kind a b) ≡ true → a + b ≤ length f
+  pub range-in : 6 ≤ kind → kind < 10 → ranged f (value kind a b flags) ≡ true → a + b ≤ length f
   range-in l h r = leb-true (a + b) (length f) (rw (points-yes kind l h) at r)
 
 -- ---- lines in parts
@@ -154,7 +154,7 @@ module _ (f : List ℕ) (p : Pair) where
   pub pair-pointing : 6 ≤ p .value .kind → writableRecord (recordOf (p .value)) ≡ true → ranged f (recordOf (p .value)) ≡ inside f (p .value .a) (p .value .b)
   pair-pointing h w =
       let v = p .value in
-      rw (points-yes (v .kind) h (omega (arith, writable-kind (v .kind) (v .a) (v .b) w)))
+      rw (points-yes (v .kind) h (omega (arith, writable-kind (v .kind) (v .a) (v .b) (v .flags) w)))
 
   pub pair-fields : writableRecord (recordOf (p .value)) ≡ false → first (pairChecks f p) ≡ 14
   pair-fields w = first-fails 14 _ _ w

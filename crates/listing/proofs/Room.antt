@@ -13,7 +13,7 @@ use Rattle.answer.proofs.Cases.{bool-cases}
 use Rattle.types.specs.Value.{Shape, nothing, flag, integer, address, text, reserved, Width, shape, value, points}
 use Rattle.types.specs.Form.{part, writableRecord}
 use Rattle.types.specs.Promise.{recordOf}
-use Rattle.types.proofs.Shapes.{shape-cases, Fields, fields-in, field-at, writable-kind}
+use Rattle.types.proofs.Shapes.{shape-cases, Fields, writable-fields, writable-kind}
 use Rattle.frame.specs.declared.Pair.{Pair}
 use Rattle.frame.specs.declared.Message.{Message}
 use Rattle.frame.specs.Records.{keyOf}
@@ -57,19 +57,19 @@ part-most : (f : List ℕ) (start len : ℕ) → length (part f start len) ≤ l
 part-most f start len = rw (length-take len (drop start f)) (omega arith)
 
 -- a value that points has at most two digits for each byte, and another at most 21
-value-most : (f : List ℕ) (k a b : ℕ) → writableRecord (value k a b) ≡ true
-    → ((points (shape k) ≡ true) × (length (valueText f (value k a b)) ≤ 2 * b + 1)) ⊎ (length (valueText f (value k a b)) ≤ 21)
-value-most f k a b h =
+value-most : (f : List ℕ) (k a b flags : ℕ) → writableRecord (value k a b flags) ≡ true
+    → ((points (shape k) ≡ true) × (length (valueText f (value k a b flags)) ≤ 2 * b + 1)) ⊎ (length (valueText f (value k a b flags)) ≤ 21)
+value-most f k a b flags h =
     shape-cases k
-    (λ e is. inr (rw (text-at f k a b nothing is) (omega arith)))
-    (λ e is. inr (rw (text-at f k a b flag is) (let o = fields flag is in omega (arith, decimal-most a (omega (arith, o .0))))))
-    (λ w l g is. inr (rw (text-at f k a b (integer w) is) (number w is)))
-    (λ n l g is. inl (ap points is, rw (text-at f k a b (address n) is) (omega (arith, shown-most (part f a b), part-most f a b))))
-    (λ l g is. inl (ap points is, rw (text-at f k a b text is) (omega (arith, shown-most (part f a b), part-most f a b))))
+    (λ e is. inr (rw (text-at f k a b flags nothing is) (omega arith)))
+    (λ e is. inr (rw (text-at f k a b flags flag is) (let o = fields flag is in omega (arith, decimal-most a (omega (arith, o .0))))))
+    (λ w l g is. inr (rw (text-at f k a b flags (integer w) is) (number w is)))
+    (λ n l g is. inl (ap points is, rw (text-at f k a b flags (address n) is) (omega (arith, shown-most (part f a b), part-most f a b))))
+    (λ l g is. inl (ap points is, rw (text-at f k a b flags text is) (omega (arith, shown-most (part f a b), part-most f a b))))
     (λ l is. absurd (fields reserved is))
   where
     fields : (sh : Shape) → shape k ≡ sh → Fields sh a b
-    fields sh is = fields-in sh a b (sym (field-at k a b sh is) ∙ h)
+    fields = writable-fields k a b flags h
 
     number : (w : Width) → shape k ≡ integer w → length (dataText (integer w) k a (part f a b)) ≤ 21
     number w is =
@@ -99,7 +99,7 @@ pub pair-room : (k : ℕ) (f : List ℕ) (p : Pair) (n : ℕ) → k < 2 ^ 64 →
 unfolding pairLine
 pair-room k f p n h w =
     let v = p .value in
-    let kind = writable-kind (v .kind) (v .a) (v .b) (w .fields) in
+    let kind = writable-kind (v .kind) (v .a) (v .b) (v .flags) (w .fields) in
     let all = pair-length (decimal k) (shown (keyOf f p)) (decimal (v .kind)) (valueText f (recordOf v)) in
     let words = pair-front (decimal k) in
     let more = pair-back (decimal (v .kind)) in
@@ -110,7 +110,7 @@ pair-room k f p n h w =
     ⊎-elim
     (λ o. omega (arith, all, words, more, digits, few, key, short, o .1, w .both (o .0)))
     (λ o. omega (arith, all, words, more, digits, few, key, short, o, w .key))
-    (value-most f (v .kind) (v .a) (v .b) (w .fields))
+    (value-most f (v .kind) (v .a) (v .b) (v .flags) (w .fields))
 
 -- Law: so no line of an accepted frame is refused where 2n + 128 bytes are lent.
 pub accepted-room : (rooms : Rooms) (f : List ℕ) (m : Metadata) (c : Contents) (used k : ℕ) → wholeFrame rooms f ≡ done (m, c) used → k < 2 ^ 64

@@ -1,21 +1,22 @@
 -- Laws about the tables of an accepted frame: they hold its records, and the steps over them give its lines.
 use mathlib.Core.Path.{_≡_, refl, sym, ap, ap₂, _∙_}
-use mathlib.Core.List.{List, [], _∷_, _++_}
+use mathlib.Core.List.{List, [], _∷_, _++_, append-assoc}
 use Prim.Native.Nat.{ℕ, zero, suc, _+_, _*_, _≤_, _<_}
+use native.Mathlib.Nat.{add-assoc, one-mul, add-mul}
 use native.Mathlib.Omega.{arith}
-use lib.ListN.{length, take, length-append}
-use lib.Seq.{length-take-le}
+use lib.ListN.{length, take, getD, length-append}
+use lib.Seq.{length-take-le, getD-append-add}
 use borrow.Author.Tests.{le-leb}
 use Rattle.answer.specs.Answer.{done, written}
 use Rattle.answer.specs.Order.{first}
-use Rattle.answer.specs.Table.{records, joined}
+use Rattle.answer.specs.Table.{numberAt, records, joined}
 use Rattle.answer.proofs.Cases.{bool-cases}
 use Rattle.answer.proofs.Order.{first-none, first-holds}
 use Rattle.answer.proofs.Records.{records-none, joined-on}
 use Rattle.types.specs.Value.{points, shape}
 use Rattle.frame.specs.declared.Pair.{Pair}
 use Rattle.frame.specs.declared.Message.{Message}
-use Rattle.frame.specs.Records.{messageAt, pairAt, messageNumbers, pairNumbers}
+use Rattle.frame.specs.Records.{messageWidth, messageAt, messageNumbers, pairWidth, pairIn, pairAt, pairNumbers}
 use Rattle.parser.specs.declared.Metadata.{Metadata}
 use Rattle.parser.specs.Payload.{Contents}
 use Rattle.parser.specs.Frame.{answered, frameRead}
@@ -42,46 +43,49 @@ records-first : {A : Type 0} (at : ℕ → A) (n : ℕ) → records at 0 (suc n)
 unfolding records
 records-first at n = refl
 
-message-later : (a b c d : ℕ) (t : List ℕ) (i : ℕ) → messageAt (a ∷ b ∷ c ∷ d ∷ t) (suc i) ≡ messageAt t i
-unfolding messageAt
-message-later a b c d t i =
-    let on : (k : ℕ) → suc i * 4 + k ≡ suc (suc (suc (suc (i * 4 + k)))) = λ k. omega arith in
-    rw (on 0, on 1, on 2, on 3)
+-- A number of a record behind the first stands there without the first too, one record earlier.
+number-later : (width : ℕ) (front t : List ℕ) → length front ≡ width → (i k : ℕ) → numberAt width (front ++ t) (suc i) k ≡ numberAt width t i k
+number-later width front t long i k =
+    let one : suc i ≡ 1 + i = omega arith in
+    ap (λ (n : ℕ). getD (front ++ t) (n * width + k) 0) one
+    ∙ ap (λ (n : ℕ). getD (front ++ t) (n + k) 0) (add-mul 1 i width)
+    ∙ ap (λ (n : ℕ). getD (front ++ t) (n + i * width + k) 0) (one-mul width ∙ sym long)
+    ∙ ap (λ (n : ℕ). getD (front ++ t) n 0) (add-assoc (length front) (i * width) k)
+    ∙ getD-append-add front t (i * width + k) 0
 
-pair-later : (a b c d e : ℕ) (t : List ℕ) (i : ℕ) → pairAt (a ∷ b ∷ c ∷ d ∷ e ∷ t) (suc i) ≡ pairAt t i
-unfolding pairAt
-pair-later a b c d e t i =
-    let on : (k : ℕ) → suc i * 5 + k ≡ suc (suc (suc (suc (suc (i * 5 + k))))) = λ k. omega arith in
-    rw (on 0, on 1, on 2, on 3, on 4)
+-- A table's records are read one by one, whatever their width.
+module _ {A : Type 0} (numbers : A → List ℕ) (at : List ℕ → ℕ → A)
+    (here : (x : A) (t : List ℕ) → at (numbers x ++ t) 0 ≡ x) (later : (x : A) (t : List ℕ) (i : ℕ) → at (numbers x ++ t) (suc i) ≡ at t i) where
+  -- Law: a table with the numbers of some records at its front holds them.
+  table-holds : (xs : List A) (t : List ℕ) → records (at (joined numbers xs ++ t)) 0 (length xs) ≡ xs
+  table-holds [] t = records-none (at (joined numbers [] ++ t)) 0
+  table-holds (x ∷ xs) t =
+      let rest = joined numbers xs ++ t in
+      ap (λ (l : List ℕ). records (at l) 0 (suc (length xs))) (ap (λ (l : List ℕ). l ++ t) (joined-on numbers x xs) ∙ append-assoc (numbers x) (joined numbers xs) t)
+      ∙ records-first (at (numbers x ++ rest)) (length xs)
+      ∙ ap₂ _∷_ (here x rest) (records-later (at (numbers x ++ rest)) (at rest) (later x rest) (length xs) 0 ∙ table-holds xs t)
 
-message-here : (a b c d : ℕ) (t : List ℕ) → messageAt (a ∷ b ∷ c ∷ d ∷ t) 0 ≡ record { start = a; len = b; first = c; count = d }
-unfolding messageAt
-message-here a b c d t = refl
-
-pair-here : (a b c d e : ℕ) (t : List ℕ) → pairAt (a ∷ b ∷ c ∷ d ∷ e ∷ t) 0 ≡ record { start = a; len = b; value = record { kind = c; a = d; b = e } }
-unfolding pairAt
-pair-here a b c d e t = refl
-
--- Law: a table with the numbers of some records at its front holds them.
 table-messages : (ms : List Message) (t : List ℕ) → records (messageAt (joined messageNumbers ms ++ t)) 0 (length ms) ≡ ms
-table-messages [] t = records-none (messageAt (joined messageNumbers [] ++ t)) 0
-table-messages (m ∷ ms) t =
-    let rest = joined messageNumbers ms ++ t in
-    let all = m .start ∷ m .len ∷ m .first ∷ m .count ∷ rest in
-    ap (λ (l : List ℕ). records (messageAt (l ++ t)) 0 (suc (length ms))) (joined-on messageNumbers m ms)
-    ∙ records-first (messageAt all) (length ms)
-    ∙ ap₂ _∷_ (message-here (m .start) (m .len) (m .first) (m .count) rest)
-    (records-later (messageAt all) (messageAt rest) (message-later (m .start) (m .len) (m .first) (m .count) rest) (length ms) 0 ∙ table-messages ms t)
+unfolding messageAt
+table-messages = table-holds messageNumbers messageAt here later
+  where
+    here : (m : Message) (t : List ℕ) → messageAt (messageNumbers m ++ t) 0 ≡ m
+    here m t = refl
+
+    later : (m : Message) (t : List ℕ) (i : ℕ) → messageAt (messageNumbers m ++ t) (suc i) ≡ messageAt t i
+    later m t i =
+        let on = number-later messageWidth (messageNumbers m) t refl i in
+        λ j. record { start = on 0 j; len = on 1 j; first = on 2 j; count = on 3 j }
 
 table-pairs : (ps : List Pair) (t : List ℕ) → records (pairAt (joined pairNumbers ps ++ t)) 0 (length ps) ≡ ps
-table-pairs [] t = records-none (pairAt (joined pairNumbers [] ++ t)) 0
-table-pairs (p ∷ ps) t =
-    let rest = joined pairNumbers ps ++ t in
-    let all = p .start ∷ p .len ∷ p .value .kind ∷ p .value .a ∷ p .value .b ∷ rest in
-    ap (λ (l : List ℕ). records (pairAt (l ++ t)) 0 (suc (length ps))) (joined-on pairNumbers p ps)
-    ∙ records-first (pairAt all) (length ps)
-    ∙ ap₂ _∷_ (pair-here (p .start) (p .len) (p .value .kind) (p .value .a) (p .value .b) rest)
-    (records-later (pairAt all) (pairAt rest) (pair-later (p .start) (p .len) (p .value .kind) (p .value .a) (p .value .b) rest) (length ps) 0 ∙ table-pairs ps t)
+unfolding pairAt
+table-pairs = table-holds pairNumbers pairAt here later
+  where
+    here : (p : Pair) (t : List ℕ) → pairAt (pairNumbers p ++ t) 0 ≡ p
+    here p t = refl
+
+    later : (p : Pair) (t : List ℕ) (i : ℕ) → pairAt (pairNumbers p ++ t) (suc i) ≡ pairAt t i
+    later p t i = λ j. pairIn (λ k. number-later pairWidth (pairNumbers p) t refl i k j) 0
 
 -- each of them
 each-at : {A : Type 0} (P : A → Type 0) (at : ℕ → A) (n j : ℕ) → Each P (records at j n) → (i : ℕ) → i < n → P (at (j + i))
@@ -115,20 +119,20 @@ module _ (f messages pairs : List ℕ) (c : Contents) (n : ℕ) (long : n ≡ le
 
   named : (i : ℕ) → i < length (c .messages) → messageAnswer f messages i ≡ written (messageLine i f (messageAt messages i))
   named i h =
-      let wide = joined-width messageNumbers 4 (λ m. refl) (c .messages) in
-      let room : (i + 1) * 4 ≤ length messages = omega (arith, ap length inMessages, length-append (joined messageNumbers (c .messages)) behindMessages, wide) in
+      let wide = joined-width messageNumbers messageWidth (λ m. refl) (c .messages) in
+      let room : (i + 1) * messageWidth ≤ length messages = omega (arith, ap length inMessages, length-append (joined messageNumbers (c .messages)) behindMessages, wide) in
       let here : 0 + i ≡ i = omega arith in
       let there : Named n (messageAt messages i) = rw here at (each-at (Named n) (messageAt messages) (length (c .messages)) 0 (rw hold-messages (held .0)) i h) in
-      after-holds 16 _ (messageChecks f (messageAt messages i)) (written (messageLine i f (messageAt messages i))) (le-leb ((i + 1) * 4) (length messages) room)
+      after-holds 16 _ (messageChecks f (messageAt messages i)) (written (messageLine i f (messageAt messages i))) (le-leb ((i + 1) * messageWidth) (length messages) room)
       ∙ after-none (messageChecks f (messageAt messages i)) (written (messageLine i f (messageAt messages i))) (message-passes f (messageAt messages i) (rw long at there))
 
   paired : (k : ℕ) → k < length (c .pairs) → pairAnswer f pairs k ≡ written (pairLine k f (pairAt pairs k))
   paired k h =
-      let wide = joined-width pairNumbers 5 (λ p. refl) (c .pairs) in
-      let room : (k + 1) * 5 ≤ length pairs = omega (arith, ap length inPairs, length-append (joined pairNumbers (c .pairs)) behindPairs, wide) in
+      let wide = joined-width pairNumbers pairWidth (λ p. refl) (c .pairs) in
+      let room : (k + 1) * pairWidth ≤ length pairs = omega (arith, ap length inPairs, length-append (joined pairNumbers (c .pairs)) behindPairs, wide) in
       let here : 0 + k ≡ k = omega arith in
       let there : Whole n (pairAt pairs k) = rw here at (each-at (Whole n) (pairAt pairs) (length (c .pairs)) 0 (rw hold-pairs (held .1)) k h) in
-      after-holds 16 _ (pairChecks f (pairAt pairs k)) (written (pairLine k f (pairAt pairs k))) (le-leb ((k + 1) * 5) (length pairs) room)
+      after-holds 16 _ (pairChecks f (pairAt pairs k)) (written (pairLine k f (pairAt pairs k))) (le-leb ((k + 1) * pairWidth) (length pairs) room)
       ∙ after-none (pairChecks f (pairAt pairs k)) (written (pairLine k f (pairAt pairs k))) (pair-passes f (pairAt pairs k) (rw long at there))
 
   steps-contents : steps f messages (length (c .messages)) pairs (length (c .pairs)) (length (c .messages) + length (c .pairs)) (record { messages = 0; pairs = 0; left = 0 })

@@ -62,7 +62,7 @@ endForm = 101 ∷ 110 ∷ 100 ∷ 32 ∷ 35 ∷ 32 ∷ 35 ∷ 32 ∷ 35 ∷ 10 �
 abbrev pub hasSign : ℕ → Bool
 hasSign kind = eqb kind 2 || eqb kind 4
 
--- a value of this kind, with the number a or with these bytes
+-- a value of this kind, with the number a or with these bytes; its flags are not shown
 abbrev pub dataText : Shape → ℕ → ℕ → List ℕ → List ℕ
 dataText nothing kind a bytes = dash ∷ []
 dataText flag kind a bytes = decimal a
@@ -72,7 +72,7 @@ dataText text kind a bytes = shown bytes
 dataText reserved kind a bytes = []
 
 unfoldable pub valueText : List ℕ → Record → List ℕ
-valueText f (value kind a b) = dataText (shape kind) kind a (part f a b)
+valueText f (value kind a b flags) = dataText (shape kind) kind a (part f a b)
 
 -- ---- the lines
 

@@ -121,6 +121,7 @@ fn pair_at(pairs: &[u64], k: usize) -> Pair
             kind: pairs[at + 2],
             a: pairs[at + 3],
             b: pairs[at + 4],
+            flags: pairs[at + 5],
         },
     }
 }

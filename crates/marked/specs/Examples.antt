@@ -106,8 +106,8 @@ accepted kind stream id messages pairs used =
 abbrev pub aMessage : ℕ → ℕ → ℕ → ℕ → Message
 aMessage start len first count = record { start = start; len = len; first = first; count = count }
 
-abbrev pub aPair : ℕ → ℕ → ℕ → ℕ → ℕ → Pair
-aPair start len kind a b = record { start = start; len = len; value = record { kind = kind; a = a; b = b } }
+abbrev pub aPair : ℕ → ℕ → ℕ → ℕ → ℕ → ℕ → Pair
+aPair start len kind a b flags = record { start = start; len = len; value = record { kind = kind; a = a; b = b; flags = flags } }
 
 -- ---- the laws
 
@@ -137,9 +137,11 @@ examples =
     ∷ reads (0xF0 ∷ 0x80 ∷ 0x80 ∷ 0x80 ∷ 0x80 ∷ 0x80 ∷ 0x80 ∷ 0x80 ∷ 0x80 ∷ 0x0F ∷ []) (refused 7 10)
     ∷ reads (0xF0 ∷ 0x80 ∷ 0x80 ∷ 0x80 ∷ 0x80 ∷ 0x80 ∷ 0x80 ∷ 0x80 ∷ 0x80 ∷ 0x80 ∷ 0x00 ∷ []) (refused 19 10)
     -- values
-    ∷ values (0x02 ∷ 0xF0 ∷ 0xF1 ∷ 0xFE ∷ 0xFE ∷ 0x7E ∷ []) (done (value 2 0 0) 6)
-    ∷ values (0x21 ∷ []) (done (value 1 0 0) 1)
-    ∷ values (0xF1 ∷ []) (done (value 1 1 0) 1)
+    ∷ values (0x02 ∷ 0xF0 ∷ 0xF1 ∷ 0xFE ∷ 0xFE ∷ 0x7E ∷ []) (done (value 2 0 0 0) 6)
+    ∷ values (0x21 ∷ []) (done (value 1 0 0 0) 1)
+    ∷ values (0xF1 ∷ []) (done (value 1 1 0 0) 1)
+    ∷ values (0xF0 ∷ []) (done (value 0 0 0 15) 1)
+    ∷ values (0x23 ∷ 0x07 ∷ []) (done (value 3 7 0 2) 2)
     ∷ values (0x0A ∷ []) (refused 8 1)
     -- frames: the length bytes, the limit, and whether all is there
     ∷ frame [] (wait 4)
@@ -169,40 +171,40 @@ examples =
     ∷ frame (framed 0x14 1 1 (0x00 ∷ 0x00 ∷ 0x01 ∷ 0x41 ∷ 0x05 ∷ 0xF0 ∷ 0x80 ∷ 0x80 ∷ 0x80 ∷ 0x80 ∷ 0x80 ∷ 0x80 ∷ 0x80 ∷ 0x80 ∷ 0x0F ∷ []))
     (stops 7 24)
     ∷ frame (framed 0x12 2 1 (0x00 ∷ 0x00 ∷ 0x01 ∷ 0x41 ∷ 0x03 ∷ 0x07 ∷ 0x01 ∷ 0x42 ∷ 0x08 ∷ 0x03 ∷ 0x32 ∷ 0x2E ∷ 0x30 ∷ []))
-    (accepted 2 0 0 [] (aPair 12 1 3 7 0 ∷ aPair 16 1 8 19 3 ∷ []) 22)
+    (accepted 2 0 0 [] (aPair 12 1 3 7 0 0 ∷ aPair 16 1 8 19 3 0 ∷ []) 22)
     ∷ frame (framed 0x0F 1 1 (0x00 ∷ 0x00 ∷ 0x02 ∷ 0x41 ∷ 0xFF ∷ 0x00 ∷ 0x02 ∷ 0x41 ∷ 0xFE ∷ 0x00 ∷ [])) (stops 9 19)
     ∷ frameInOne (framed 0x0F 1 1 (0x00 ∷ 0x00 ∷ 0x02 ∷ 0x41 ∷ 0xFF ∷ 0x00 ∷ 0x02 ∷ 0x41 ∷ 0xFE ∷ 0x00 ∷ [])) (stops 9 19)
     ∷ frameInOne twoKeys (stops 10 19)
-    ∷ frame twoKeys (accepted 1 0 0 [] (aPair 12 2 0 0 0 ∷ aPair 16 2 0 0 0 ∷ []) 19)
+    ∷ frame twoKeys (accepted 1 0 0 [] (aPair 12 2 0 0 0 0 ∷ aPair 16 2 0 0 0 0 ∷ []) 19)
     -- lists of messages
     ∷ frame (framed 0x09 3 1 (0x01 ∷ 0x02 ∷ 0x02 ∷ 0x6D ∷ [])) (stops 3 12)
     ∷ frame (framed 0x09 3 1 (0x01 ∷ 0x02 ∷ 0x01 ∷ 0x6D ∷ [])) (stops 3 13)
     ∷ frame (framed 0x0A 3 1 (0x01 ∷ 0x02 ∷ 0x01 ∷ 0x6D ∷ 0x01 ∷ [])) (stops 3 14)
     ∷ frame (framed 0x10 3 1 (0x01 ∷ 0x02 ∷ 0x01 ∷ 0x6D ∷ 0x00 ∷ 0x01 ∷ 0x6E ∷ 0x00 ∷ 0x01 ∷ 0x6F ∷ 0x00 ∷ [])) (stops 10 20)
-    ∷ frame listing (accepted 3 1 2 (aMessage 12 5 0 2 ∷ []) (aPair 19 4 3 7 0 ∷ aPair 26 2 1 1 0 ∷ []) 29)
+    ∷ frame listing (accepted 3 1 2 (aMessage 12 5 0 2 ∷ []) (aPair 19 4 3 7 0 0 ∷ aPair 26 2 1 1 0 0 ∷ []) 29)
     ∷ frame (framed 0x12 3 1 (0x01 ∷ 0x02 ∷ 0x01 ∷ 0x6D ∷ 0x02 ∷ 0x01 ∷ 0x61 ∷ 0x03 ∷ 0x07 ∷ 0x01 ∷ 0x61 ∷ 0x03 ∷ 0x08 ∷ []))
-    (accepted 3 1 2 (aMessage 12 1 0 2 ∷ []) (aPair 15 1 3 7 0 ∷ aPair 19 1 3 8 0 ∷ []) 22)
+    (accepted 3 1 2 (aMessage 12 1 0 2 ∷ []) (aPair 15 1 3 7 0 0 ∷ aPair 19 1 3 8 0 0 ∷ []) 22)
     -- frame sizes
     ∷ sizes 255 256 (refused 13 0)
     ∷ sizes 256 255 (refused 13 0)
     ∷ sizes 256 256 (done tt 256)
     -- what is kept: a frame; a refusal; 2 under the same limit, and 10 with the same rooms
     ∷ kept 25 (room 1 2) listing (record { limit = 26; rooms = room 2 3; behind = 0x00 ∷ 0x00 ∷ [] })
-    (accepted 3 1 2 (aMessage 12 5 0 2 ∷ []) (aPair 19 4 3 7 0 ∷ aPair 26 2 1 1 0 ∷ []) 29)
+    (accepted 3 1 2 (aMessage 12 5 0 2 ∷ []) (aPair 19 4 3 7 0 0 ∷ aPair 26 2 1 1 0 0 ∷ []) 29)
     ∷ kept 10 (room 0 1) (framed 0x0A 1 1 (0x00 ∷ 0x00 ∷ 0x01 ∷ 0x41 ∷ 0x0A ∷ [])) (record { limit = 11; rooms = room 1 2; behind = 0x00 ∷ [] }) (stops 8 14)
     ∷ kept 24 (room 1 1) listing (record { limit = 24; rooms = room 2 3; behind = 0x00 ∷ [] }) (stops 2 4)
     ∷ kept 15 (room 2 1) twoKeys (record { limit = 16; rooms = room 2 1; behind = 0x00 ∷ [] }) (stops 10 19)
-    -- what is read back: two pairs; two messages, with two arguments and with one
-    ∷ kvBack (headOf 2 true false 0 0) 18 (0x41 ∷ 0x42 ∷ 0x32 ∷ 0x2E ∷ 0x30 ∷ []) (0 ∷ 1 ∷ 3 ∷ 7 ∷ 0 ∷ 1 ∷ 1 ∷ 8 ∷ 2 ∷ 3 ∷ []) 2
-    (framed 0x12 2 1 (0x00 ∷ 0x00 ∷ 0x01 ∷ 0x41 ∷ 0x03 ∷ 0x07 ∷ 0x01 ∷ 0x42 ∷ 0x08 ∷ 0x03 ∷ 0x32 ∷ 0x2E ∷ 0x30 ∷ []))
+    -- what is read back: two pairs, of which the first has flags; two messages, with two arguments, of which the second has, and with one
+    ∷ kvBack (headOf 2 true false 0 0) 18 (0x41 ∷ 0x42 ∷ 0x32 ∷ 0x2E ∷ 0x30 ∷ []) (0 ∷ 1 ∷ 3 ∷ 7 ∷ 0 ∷ 2 ∷ 1 ∷ 1 ∷ 8 ∷ 2 ∷ 3 ∷ 0 ∷ []) 2
+    (framed 0x12 2 1 (0x00 ∷ 0x00 ∷ 0x01 ∷ 0x41 ∷ 0x23 ∷ 0x07 ∷ 0x01 ∷ 0x42 ∷ 0x08 ∷ 0x03 ∷ 0x32 ∷ 0x2E ∷ 0x30 ∷ []))
     (record { limit = 19; rooms = room 0 2; behind = 0x00 ∷ 0x00 ∷ [] })
-    (accepted 2 0 0 [] (aPair 12 1 3 7 0 ∷ aPair 16 1 8 19 3 ∷ []) 22)
+    (accepted 2 0 0 [] (aPair 12 1 3 7 0 2 ∷ aPair 16 1 8 19 3 0 ∷ []) 22)
     ∷ notifyBack (headOf 3 true false 1 2) 24 (0x6D ∷ 0x6E ∷ 0x61 ∷ 0x62 ∷ []) (0 ∷ 1 ∷ 0 ∷ 2 ∷ 1 ∷ 1 ∷ 2 ∷ 1 ∷ []) 2
-    (2 ∷ 1 ∷ 3 ∷ 7 ∷ 0 ∷ 3 ∷ 1 ∷ 3 ∷ 8 ∷ 0 ∷ 2 ∷ 1 ∷ 1 ∷ 1 ∷ 0 ∷ []) 3
-    (framed 0x18 3 1 (0x01 ∷ 0x02 ∷ 0x01 ∷ 0x6D ∷ 0x02 ∷ 0x01 ∷ 0x61 ∷ 0x03 ∷ 0x07 ∷ 0x01 ∷ 0x62 ∷ 0x03 ∷ 0x08
+    (2 ∷ 1 ∷ 3 ∷ 7 ∷ 0 ∷ 0 ∷ 3 ∷ 1 ∷ 3 ∷ 8 ∷ 0 ∷ 15 ∷ 2 ∷ 1 ∷ 1 ∷ 1 ∷ 0 ∷ 0 ∷ []) 3
+    (framed 0x18 3 1 (0x01 ∷ 0x02 ∷ 0x01 ∷ 0x6D ∷ 0x02 ∷ 0x01 ∷ 0x61 ∷ 0x03 ∷ 0x07 ∷ 0x01 ∷ 0x62 ∷ 0xF3 ∷ 0x08
     ∷ 0x01 ∷ 0x6E ∷ 0x01 ∷ 0x01 ∷ 0x61 ∷ 0x11 ∷ []))
     (record { limit = 25; rooms = room 2 3; behind = 0x00 ∷ 0x00 ∷ [] })
-    (accepted 3 1 2 (aMessage 12 1 0 2 ∷ aMessage 23 1 2 1 ∷ []) (aPair 15 1 3 7 0 ∷ aPair 19 1 3 8 0 ∷ aPair 26 1 1 1 0 ∷ []) 28)
+    (accepted 3 1 2 (aMessage 12 1 0 2 ∷ aMessage 23 1 2 1 ∷ []) (aPair 15 1 3 7 0 0 ∷ aPair 19 1 3 8 0 15 ∷ aPair 26 1 1 1 0 0 ∷ []) 28)
     ∷ []
 
 pub marked : All examples
@@ -213,6 +215,7 @@ unfolding more number groups numberBytes string typed shape signExtended fourNum
     nameBytes messageBytes messageRefusal limited kvAllowed kvAnswer notifyAnswer
 marked =
     (refl, refl) and (refl, refl) and (refl, refl) and (refl, refl) and (refl, refl) and refl and refl and refl and refl and refl and refl and
+    refl and refl and
     refl and refl and refl and refl and refl and refl and refl and refl and refl and refl and refl and refl and refl and refl and refl and
     refl and refl and refl and refl and refl and refl and refl and refl and refl and refl and refl and refl and refl and refl and refl and
     refl and refl and refl and refl and refl and refl and refl and refl and (refl, refl, refl) and (refl, refl, refl) and

@@ -5,6 +5,8 @@
 use crate::show::print_bytes;
 use crate::show::refused;
 use crate::show::verdict;
+use frame::MESSAGE_WIDTH;
+use frame::PAIR_WIDTH;
 use libc::STDOUT_FILENO;
 use parser::FrameRead;
 
@@ -73,8 +75,8 @@ fn pairs() {
     reads(
         b"\x00\x00\x00\x07\x01\x00\x00\x00\x01\x00\x00",
         &[0, 11, 1, 1, 0, 0, 0, 0],
-        &[OLD; 8],
-        &[OLD; 15],
+        &[OLD; 2 * MESSAGE_WIDTH],
+        &[OLD; 2 * PAIR_WIDTH],
     );
     stops(b"\x00\x00\x00\x09\x01\x00\x00\x00\x01\x00\x00\x02A", 3, 12);
     stops(
@@ -90,8 +92,8 @@ fn pairs() {
     reads(
         b"\x00\x00\x00\x12\x02\x00\x00\x00\x01\x00\x00\x01A\x03\x07\x01B\x08\x032.0",
         &[0, 22, 2, 1, 0, 0, 0, 2],
-        &[OLD; 8],
-        &[12, 1, 3, 7, 0, 16, 1, 8, 19, 3, OLD, OLD, OLD, OLD, OLD],
+        &[OLD; 2 * MESSAGE_WIDTH],
+        &[12, 1, 3, 7, 0, 0, 16, 1, 8, 19, 3, 0],
     );
 }
 
@@ -104,8 +106,8 @@ fn keys() {
     reads(
         &TWO_KEYS,
         &[0, 19, 1, 1, 0, 0, 0, 2],
-        &[OLD; 8],
-        &[12, 2, 0, 0, 0, 16, 2, 0, 0, 0, OLD, OLD, OLD, OLD, OLD],
+        &[OLD; 2 * MESSAGE_WIDTH],
+        &[12, 2, 0, 0, 0, 0, 16, 2, 0, 0, 0, 0],
     );
 }
 
@@ -128,13 +130,13 @@ fn messages() {
         &LISTING,
         &[0, 29, 3, 1, 1, 2, 1, 2],
         &[12, 5, 0, 2, OLD, OLD, OLD, OLD],
-        &[19, 4, 3, 7, 0, 26, 2, 1, 1, 0, OLD, OLD, OLD, OLD, OLD],
+        &[19, 4, 3, 7, 0, 0, 26, 2, 1, 1, 0, 0],
     );
     reads(
         b"\x00\x00\x00\x12\x03\x00\x00\x00\x01\x01\x02\x01m\x02\x01a\x03\x07\x01a\x03\x08",
         &[0, 22, 3, 1, 1, 2, 1, 2],
         &[12, 1, 0, 2, OLD, OLD, OLD, OLD],
-        &[15, 1, 3, 7, 0, 19, 1, 3, 8, 0, OLD, OLD, OLD, OLD, OLD],
+        &[15, 1, 3, 7, 0, 0, 19, 1, 3, 8, 0, 0],
     );
 }
 
@@ -149,8 +151,8 @@ fn kept() {
 
 fn frame_kept() {
     let listing = [0, 29, 3, 1, 1, 2, 1, 2];
-    let mut messages = [OLD; 4];
-    let mut pairs = [OLD; 10];
+    let mut messages = [OLD; MESSAGE_WIDTH];
+    let mut pairs = [OLD; 2 * PAIR_WIDTH];
     under(
         25,
         &LISTING,
@@ -158,10 +160,10 @@ fn frame_kept() {
         &mut pairs,
         &listing,
         &[12, 5, 0, 2],
-        &[19, 4, 3, 7, 0, 26, 2, 1, 1, 0],
+        &[19, 4, 3, 7, 0, 0, 26, 2, 1, 1, 0, 0],
     );
-    let mut more_messages = [OLD; 8];
-    let mut more_pairs = [OLD; 15];
+    let mut more_messages = [OLD; 2 * MESSAGE_WIDTH];
+    let mut more_pairs = [OLD; 3 * PAIR_WIDTH];
     under(
         26,
         b"\x00\x00\x00\x19\x03\x00\x00\x00\x01\x01\x02\x05delay\x02\x04slot\x03\x07\x02ok\x11\x00\x00",
@@ -169,13 +171,32 @@ fn frame_kept() {
         &mut more_pairs,
         &listing,
         &[12, 5, 0, 2, OLD, OLD, OLD, OLD],
-        &[19, 4, 3, 7, 0, 26, 2, 1, 1, 0, OLD, OLD, OLD, OLD, OLD],
+        &[
+            19,
+            4,
+            3,
+            7,
+            0,
+            0,
+            26,
+            2,
+            1,
+            1,
+            0,
+            0,
+            OLD,
+            OLD,
+            OLD,
+            OLD,
+            OLD,
+            OLD,
+        ],
     );
 }
 
 fn refusal_kept() {
     let eight = [8, 14, 0, 0, 0, 0, 0, 0];
-    let mut pairs = [OLD; 5];
+    let mut pairs = [OLD; PAIR_WIDTH];
     under(
         10,
         b"\x00\x00\x00\x0A\x01\x00\x00\x00\x01\x00\x00\x01A\x0A",
@@ -183,59 +204,59 @@ fn refusal_kept() {
         &mut pairs,
         &eight,
         &[],
-        &[OLD; 5],
+        &[OLD; PAIR_WIDTH],
     );
-    let mut messages = [OLD; 4];
-    let mut more_pairs = [OLD; 10];
+    let mut messages = [OLD; MESSAGE_WIDTH];
+    let mut more_pairs = [OLD; 2 * PAIR_WIDTH];
     under(
         11,
         b"\x00\x00\x00\x0A\x01\x00\x00\x00\x01\x00\x00\x01A\x0A\x00",
         &mut messages,
         &mut more_pairs,
         &eight,
-        &[OLD; 4],
-        &[OLD; 10],
+        &[OLD; MESSAGE_WIDTH],
+        &[OLD; 2 * PAIR_WIDTH],
     );
 }
 
 fn limit_kept() {
     let two = [2, 4, 0, 0, 0, 0, 0, 0];
-    let mut messages = [OLD; 4];
-    let mut pairs = [OLD; 5];
+    let mut messages = [OLD; MESSAGE_WIDTH];
+    let mut pairs = [OLD; PAIR_WIDTH];
     under(
         24,
         &LISTING,
         &mut messages,
         &mut pairs,
         &two,
-        &[OLD; 4],
-        &[OLD; 5],
+        &[OLD; MESSAGE_WIDTH],
+        &[OLD; PAIR_WIDTH],
     );
-    let mut more_messages = [OLD; 8];
-    let mut more_pairs = [OLD; 15];
+    let mut more_messages = [OLD; 2 * MESSAGE_WIDTH];
+    let mut more_pairs = [OLD; 3 * PAIR_WIDTH];
     under(
         24,
         b"\x00\x00\x00\x19\x03\x00\x00\x00\x01\x01\x02\x05delay\x02\x04slot\x03\x07\x02ok\x11\x00",
         &mut more_messages,
         &mut more_pairs,
         &two,
-        &[OLD; 8],
-        &[OLD; 15],
+        &[OLD; 2 * MESSAGE_WIDTH],
+        &[OLD; 3 * PAIR_WIDTH],
     );
 }
 
 fn room_kept() {
     let ten = [10, 19, 0, 0, 0, 0, 0, 0];
-    let mut messages = [OLD; 8];
-    let mut pairs = [OLD; 5];
+    let mut messages = [OLD; 2 * MESSAGE_WIDTH];
+    let mut pairs = [OLD; PAIR_WIDTH];
     under(
         15,
         &TWO_KEYS,
         &mut messages,
         &mut pairs,
         &ten,
-        &[OLD; 8],
-        &[OLD; 5],
+        &[OLD; 2 * MESSAGE_WIDTH],
+        &[OLD; PAIR_WIDTH],
     );
     under(
         16,
@@ -243,8 +264,8 @@ fn room_kept() {
         &mut messages,
         &mut pairs,
         &ten,
-        &[OLD; 8],
-        &[OLD; 5],
+        &[OLD; 2 * MESSAGE_WIDTH],
+        &[OLD; PAIR_WIDTH],
     );
 }
 
@@ -262,18 +283,22 @@ fn stops(input: &[u8], number: u64, at: u64) {
     reads(
         input,
         &[number, at, 0, 0, 0, 0, 0, 0],
-        &[OLD; 8],
-        &[OLD; 15],
+        &[OLD; 2 * MESSAGE_WIDTH],
+        &[OLD; 2 * PAIR_WIDTH],
     );
 }
 
-// Not accepted, with room for one pair: four numbers more are no second one.
+// Not accepted, with room for one pair: all numbers of a second one but its last are no room.
 fn stops_in_one(input: &[u8], number: u64, at: u64) {
-    let mut messages = [OLD; 8];
-    let mut pairs = [OLD; 9];
+    let mut messages = [OLD; 2 * MESSAGE_WIDTH];
+    let mut pairs = [OLD; 2 * PAIR_WIDTH - 1];
     let told = answer_to(LIMIT, input, &mut messages, &mut pairs);
     let right = same_numbers(&told, &[number, at, 0, 0, 0, 0, 0, 0]);
-    verdict(right && same_numbers(&messages, &[OLD; 8]) && same_numbers(&pairs, &[OLD; 9]));
+    verdict(
+        right
+            && same_numbers(&messages, &[OLD; 2 * MESSAGE_WIDTH])
+            && same_numbers(&pairs, &[OLD; 2 * PAIR_WIDTH - 1]),
+    );
 }
 
 // Reads under a limit into the tables lent. The answer is to be as marked, and so are the tables afterwards.
@@ -293,20 +318,24 @@ pub(crate) fn under(
     verdict(right && same_numbers(messages, marked_messages) && same_numbers(pairs, marked_pairs));
 }
 
-// Reads with room for two messages and three pairs. The answer is to be as marked, and so are the tables afterwards.
-fn reads(input: &[u8], marked: &[u64; 8], marked_messages: &[u64; 8], marked_pairs: &[u64; 15]) {
-    let mut messages = [OLD; 8];
-    let mut pairs = [OLD; 15];
+// Reads with room for two messages and three pairs. The answer is to be as marked, and so are the tables afterwards; the third pair stays.
+fn reads(
+    input: &[u8],
+    marked: &[u64; 8],
+    marked_messages: &[u64; 2 * MESSAGE_WIDTH],
+    marked_pairs: &[u64; 2 * PAIR_WIDTH],
+) {
+    let mut messages = [OLD; 2 * MESSAGE_WIDTH];
+    let mut pairs = [OLD; 3 * PAIR_WIDTH];
     let told = answer_to(LIMIT, input, &mut messages, &mut pairs);
-    let right = same_numbers(&told, marked);
-    verdict(
-        right && same_numbers(&messages, marked_messages) && same_numbers(&pairs, marked_pairs),
-    );
+    let right = same_numbers(&told, marked) && same_numbers(&messages, marked_messages);
+    let first = same_numbers(&pairs[0..2 * PAIR_WIDTH], marked_pairs);
+    verdict(right && first && same_numbers(&pairs[2 * PAIR_WIDTH..], &[OLD; PAIR_WIDTH]));
 }
 
 // Reads the frame, says what was answered, and gives it in numbers.
 fn answer_to(limit: u32, input: &[u8], messages: &mut [u64], pairs: &mut [u64]) -> [u64; 8] {
-    print_number(b"frame (room for ", pairs.len() as u64 / 5);
+    print_number(b"frame (room for ", (pairs.len() / PAIR_WIDTH) as u64);
     io::write_all(STDOUT_FILENO, b") ");
     print_bytes(input);
     io::write_all(STDOUT_FILENO, b": ");

@@ -6,6 +6,8 @@ use crate::show::print_bytes;
 use crate::show::refused;
 use crate::show::verdict;
 use answer::Written;
+use frame::MESSAGE_WIDTH;
+use frame::PAIR_WIDTH;
 use libc::STDOUT_FILENO;
 
 pub(crate) fn frames() {
@@ -18,7 +20,26 @@ pub(crate) fn frames() {
 }
 
 fn agent_hello() {
-    let pairs = [0, 7, 8, 33, 3, 7, 14, 3, 16_380, 0, 21, 12, 8, 0, 0];
+    let pairs = [
+        0,
+        7,
+        8,
+        33,
+        3,
+        0,
+        7,
+        14,
+        3,
+        16_380,
+        0,
+        0,
+        21,
+        12,
+        8,
+        0,
+        0,
+        0,
+    ];
     let mut out = [0u8; 64];
     let answer = writer::write_kv(
         101,
@@ -41,7 +62,7 @@ fn agent_hello() {
 }
 
 fn agent_disconnect() {
-    let pairs = [0, 11, 3, 0, 0, 11, 7, 8, 18, 6];
+    let pairs = [0, 11, 3, 0, 0, 0, 11, 7, 8, 18, 6, 0];
     let mut out = [0u8; 64];
     let answer = writer::write_kv(
         102,
@@ -64,7 +85,7 @@ fn agent_disconnect() {
 }
 
 fn ack() {
-    let actions = [1, 2, 0, 6, 3, 7, 0, 1, 2, 6, 6, 3, 300, 0];
+    let actions = [1, 2, 0, 6, 3, 7, 0, 0, 1, 2, 6, 6, 3, 300, 0, 0];
     let mut out = [0u8; 64];
     let answer = writer::write_actions(
         true,
@@ -88,7 +109,7 @@ fn ack() {
 // The frame of the listing in docs/RULES.md.
 fn upload() {
     let messages = [0, 5, 0, 2];
-    let pairs = [5, 4, 3, 7, 0, 9, 2, 1, 1, 0];
+    let pairs = [5, 4, 3, 7, 0, 0, 9, 2, 1, 1, 0, 0];
     let mut out = [0u8; 64];
     let answer = writer::write_notify(
         true,
@@ -111,18 +132,18 @@ fn upload() {
     );
 }
 
-// Read with two bytes behind it, in tables without a spare record.
+// The first pair has the flags 2. Read with two bytes behind it, in tables without a spare record.
 fn pairs_back() {
-    let pairs = [0, 1, 3, 7, 0, 1, 1, 8, 2, 3];
+    let pairs = [0, 1, 3, 7, 0, 2, 1, 1, 8, 2, 3, 0];
     let mut out = [0u8; 64];
     let answer = writer::write_kv(2, true, false, 0, 0, 18, b"AB2.0", &pairs, 2, &mut out);
     written(
         b"haproxy-disconnect: ",
         answer,
         &out,
-        b"\x00\x00\x00\x12\x02\x00\x00\x00\x01\x00\x00\x01A\x03\x07\x01B\x08\x032.0",
+        b"\x00\x00\x00\x12\x02\x00\x00\x00\x01\x00\x00\x01A\x23\x07\x01B\x08\x032.0",
     );
-    let mut room = [OLD; 10];
+    let mut room = [OLD; 2 * PAIR_WIDTH];
     frames_read::under(
         19,
         &out[0..24],
@@ -130,14 +151,14 @@ fn pairs_back() {
         &mut room,
         &[0, 22, 2, 1, 0, 0, 0, 2],
         &[],
-        &[12, 1, 3, 7, 0, 16, 1, 8, 19, 3],
+        &[12, 1, 3, 7, 0, 2, 16, 1, 8, 19, 3, 0],
     );
 }
 
-// Two messages, with two arguments and with one.
+// Two messages, with two arguments, of which the second has all flags, and with one.
 fn messages_back() {
     let messages = [0, 1, 0, 2, 1, 1, 2, 1];
-    let pairs = [2, 1, 3, 7, 0, 3, 1, 3, 8, 0, 2, 1, 1, 1, 0];
+    let pairs = [2, 1, 3, 7, 0, 0, 3, 1, 3, 8, 0, 15, 2, 1, 1, 1, 0, 0];
     let mut out = [0u8; 64];
     let answer = writer::write_notify(
         true,
@@ -156,10 +177,10 @@ fn messages_back() {
         b"notify: ",
         answer,
         &out,
-        b"\x00\x00\x00\x18\x03\x00\x00\x00\x01\x01\x02\x01m\x02\x01a\x03\x07\x01b\x03\x08\x01n\x01\x01a\x11",
+        b"\x00\x00\x00\x18\x03\x00\x00\x00\x01\x01\x02\x01m\x02\x01a\x03\x07\x01b\xF3\x08\x01n\x01\x01a\x11",
     );
-    let mut rows = [OLD; 8];
-    let mut room = [OLD; 15];
+    let mut rows = [OLD; 2 * MESSAGE_WIDTH];
+    let mut room = [OLD; 3 * PAIR_WIDTH];
     frames_read::under(
         25,
         &out[0..30],
@@ -167,7 +188,7 @@ fn messages_back() {
         &mut room,
         &[0, 28, 3, 1, 1, 2, 2, 3],
         &[12, 1, 0, 2, 23, 1, 2, 1],
-        &[15, 1, 3, 7, 0, 19, 1, 3, 8, 0, 26, 1, 1, 1, 0],
+        &[15, 1, 3, 7, 0, 0, 19, 1, 3, 8, 0, 15, 26, 1, 1, 1, 0, 0],
     );
 }
 

@@ -128,6 +128,7 @@ fn values() {
     value(
         &[0x02, 0xF0, 0xF1, 0xFE, 0xFE, 0x7E],
         2,
+        0,
         Answer {
             number: 0,
             at: 6,
@@ -137,6 +138,7 @@ fn values() {
     value(
         &[0x21],
         1,
+        0,
         Answer {
             number: 0,
             at: 1,
@@ -146,6 +148,7 @@ fn values() {
     value(
         &[0xF1],
         1,
+        0,
         Answer {
             number: 0,
             at: 1,
@@ -153,7 +156,28 @@ fn values() {
         },
     );
     value(
+        &[0xF0],
+        0,
+        15,
+        Answer {
+            number: 0,
+            at: 1,
+            value: 0,
+        },
+    );
+    value(
+        &[0x23, 0x07],
+        3,
+        2,
+        Answer {
+            number: 0,
+            at: 2,
+            value: 7,
+        },
+    );
+    value(
         &[0x0A],
+        0,
         0,
         Answer {
             number: 8,
@@ -163,7 +187,7 @@ fn values() {
     );
 }
 
-fn value(input: &[u8], kind: u64, marked: Answer) {
+fn value(input: &[u8], kind: u64, flags: u64, marked: Answer) {
     io::write_all(STDOUT_FILENO, b"value ");
     print_bytes(input);
     io::write_all(STDOUT_FILENO, b": ");
@@ -173,10 +197,12 @@ fn value(input: &[u8], kind: u64, marked: Answer) {
             io::print_decimal(STDOUT_FILENO, value.kind);
             io::write_all(STDOUT_FILENO, b" number ");
             io::print_decimal(STDOUT_FILENO, value.a);
+            io::write_all(STDOUT_FILENO, b" flags ");
+            io::print_decimal(STDOUT_FILENO, value.flags);
             io::write_all(STDOUT_FILENO, b" from ");
             io::print_decimal(STDOUT_FILENO, used as u64);
             let same = value.kind == kind && value.a == marked.value && value.b == 0;
-            verdict(same && marked.number == 0 && marked.at == used);
+            verdict(same && value.flags == flags && marked.number == 0 && marked.at == used);
         },
         Typed::Refused(r) => {
             refused(r);

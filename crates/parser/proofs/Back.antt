@@ -37,10 +37,10 @@ pub part-moved : (s : List ℕ) (n a b : ℕ) → part s (n + a) b ≡ part (dro
 part-moved s n a b = ap (take b) (sym (drop-drop a n s))
 
 value-moved : (s : List ℕ) (n : ℕ) (v : Record) → meaning s (moved n v) ≡ meaning (drop n s) v
-value-moved s n (value kind a b) = by-shape (points (shape kind))
+value-moved s n (value kind a b f) = by-shape (points (shape kind))
   where
-    by-shape : (p : Bool) → means kind (cond p 0 (cond p (n + a) a)) (cond p (part s (cond p (n + a) a) b) []) ≡ means kind (cond p 0 a) (cond p (part (drop n s) a b) [])
-    by-shape true = ap (means kind 0) (part-moved s n a b)
+    by-shape : (p : Bool) → means kind (cond p 0 (cond p (n + a) a)) f (cond p (part s (cond p (n + a) a) b) []) ≡ means kind (cond p 0 a) f (cond p (part (drop n s) a b) [])
+    by-shape true = ap (means kind 0 f) (part-moved s n a b)
     by-shape false = refl
 
 -- Law: a pair behind n other bytes means what it means without them.
@@ -77,22 +77,22 @@ module _ (buffer k : List ℕ) (v : Record) (small : length k < 2 ^ 64) (fields 
       ap (meaning (form ++ (r ++ t))) (done-same (sym more ∙ b .reads) .0) ∙ b .same
 
   whole : (u : Record) → typed (form ++ r) ≡ done u (length form) → PairBack buffer k v r t
-  whole (value kind a b) e =
+  whole (value kind a b f) e =
       let s = string-reads-back k (form ++ r) small in
       let q = string-reads-back k (form ++ (r ++ t)) small in
-      let p = pairOf (span (ahead k) (length k)) (moved (length key) (value kind a b)) in
+      let p = pairOf (span (ahead k) (length k)) (moved (length key) (value kind a b f)) in
       record {
         found = p;
         reads =
-            pair-whole ((key ++ form) ++ r) (ahead k) (length k) (length key) (ap string (key-first r) ∙ s .0) (value kind a b) (length form) (ap typed (key-behind r) ∙ e)
+            pair-whole ((key ++ form) ++ r) (ahead k) (length k) (length key) (ap string (key-first r) ∙ s .0) (value kind a b f) (length form) (ap typed (key-behind r) ∙ e)
             ∙ ap (done p) (sym (length-append key form));
         key = ap (λ (l : List ℕ). part l (ahead k) (length k)) (key-first r) ∙ s .1;
         same =
             ap₂ (λ (x : List ℕ) (y : Meaning). (x, y))
             (ap (λ (l : List ℕ). part l (ahead k) (length k)) (key-first (r ++ t)) ∙ q .1)
-            (value-moved ((key ++ form) ++ (r ++ t)) (length key) (value kind a b)
-            ∙ ap (λ (l : List ℕ). meaning l (value kind a b)) (key-behind (r ++ t))
-            ∙ again (value kind a b) e);
+            (value-moved ((key ++ form) ++ (r ++ t)) (length key) (value kind a b f)
+            ∙ ap (λ (l : List ℕ). meaning l (value kind a b f)) (key-behind (r ++ t))
+            ∙ again (value kind a b f) e);
       }
 
   -- Law: it does.

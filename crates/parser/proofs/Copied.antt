@@ -10,7 +10,7 @@ use Rattle.answer.specs.Answer.{Answer, done, behind, written, leaves}
 use Rattle.answer.specs.Table.{joined}
 use Rattle.frame.specs.declared.Pair.{Pair}
 use Rattle.frame.specs.declared.Message.{Message}
-use Rattle.frame.specs.Records.{messageNumbers, pairNumbers}
+use Rattle.frame.specs.Records.{messageWidth, messageNumbers, pairWidth, pairNumbers}
 use Rattle.parser.specs.Pair.{movedPair}
 use Rattle.parser.specs.Payload.{Contents, payload, movedMessage, movedContents}
 use Rattle.parser.specs.Promise.{Counts, countsOf, payloadTells, roomsOf, Fills}
@@ -35,27 +35,27 @@ module _ (s : List ℕ) (base : ℕ) (ownMessages newMessages ownPairs newPairs 
   filled : Fills (behind movedContents base (done (found .0) used)) ownMessages newMessages ownPairs newPairs
   filled = rw (found .1) at (fills (found .0) used (found .1))
 
-  message-numbers : length (joined messageNumbers (map (movedMessage base) (found .0 .messages))) ≡ m * 4
+  message-numbers : length (joined messageNumbers (map (movedMessage base) (found .0 .messages))) ≡ m * messageWidth
   message-numbers =
       ap length (joined-map messageNumbers (movedMessage base) (found .0 .messages))
       ∙ messages-wide base (found .0 .messages)
-      ∙ ap (λ (k : Counts). k .0 * 4) (found .2)
+      ∙ ap (λ (k : Counts). k .0 * messageWidth) (found .2)
 
-  pair-numbers : length (joined pairNumbers (map (movedPair base) (found .0 .pairs))) ≡ p * 5
+  pair-numbers : length (joined pairNumbers (map (movedPair base) (found .0 .pairs))) ≡ p * pairWidth
   pair-numbers =
       ap length (joined-map pairNumbers (movedPair base) (found .0 .pairs))
       ∙ pairs-wide base (found .0 .pairs)
-      ∙ ap (λ (k : Counts). k .1 * 5) (found .2)
+      ∙ ap (λ (k : Counts). k .1 * pairWidth) (found .2)
 
   -- the records stand at the front of these tables
-  pub own-messages : (take (m * 4) newMessages ≡ joined messageNumbers (map (movedMessage base) (found .0 .messages))) × (m * 4 ≤ length newMessages)
-  own-messages = front _ ownMessages newMessages (m * 4) message-numbers (filled .messages)
+  pub own-messages : (take (m * messageWidth) newMessages ≡ joined messageNumbers (map (movedMessage base) (found .0 .messages))) × (m * messageWidth ≤ length newMessages)
+  own-messages = front _ ownMessages newMessages (m * messageWidth) message-numbers (filled .messages)
 
-  pub own-pairs : (take (p * 5) newPairs ≡ joined pairNumbers (map (movedPair base) (found .0 .pairs))) × (p * 5 ≤ length newPairs)
-  own-pairs = front _ ownPairs newPairs (p * 5) pair-numbers (filled .pairs)
+  pub own-pairs : (take (p * pairWidth) newPairs ≡ joined pairNumbers (map (movedPair base) (found .0 .pairs))) × (p * pairWidth ≤ length newPairs)
+  own-pairs = front _ ownPairs newPairs (p * pairWidth) pair-numbers (filled .pairs)
 
   -- and are copied to the front of others that have room for them
-  module _ (messages pairs : List ℕ) (hm : m ≤ length messages / 4) (hp : p ≤ length pairs / 5) where
+  module _ (messages pairs : List ℕ) (hm : m ≤ length messages / messageWidth) (hp : p ≤ length pairs / pairWidth) where
     same : payload false (roomsOf messages pairs) s ≡ done (found .0) used
     same =
         payload-fits false (roomsOf ownMessages ownPairs) s (found .0) used (roomsOf messages pairs)
@@ -67,7 +67,7 @@ module _ (s : List ℕ) (base : ℕ) (ownMessages newMessages ownPairs newPairs 
     copied-says = ap (λ (k : Counts). done k used) (sym (found .2)) ∙ ap payloadTells (sym same)
 
     pub copied-fills : (afterMessages afterPairs : List ℕ)
-        → afterMessages ≡ leaves (written (take (m * 4) newMessages)) messages → afterPairs ≡ leaves (written (take (p * 5) newPairs)) pairs
+        → afterMessages ≡ leaves (written (take (m * messageWidth) newMessages)) messages → afterPairs ≡ leaves (written (take (p * pairWidth) newPairs)) pairs
         → Fills (behind movedContents base (payload false (roomsOf messages pairs) s)) messages afterMessages pairs afterPairs
     copied-fills afterMessages afterPairs em ep =
         rw same

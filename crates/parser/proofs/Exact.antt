@@ -48,22 +48,22 @@ pair-exact s p used small e =
     pair-cases s
     (λ n place r. not-both e (pair-key s n place r))
     (λ start len u key n place r. not-both e (pair-value s start len u key n place r))
-    (λ start len u key kind a b n d.
-    let is = done-same (sym (pair-whole s start len u key (value kind a b) n d) ∙ e) in
-    rw (sym (is .0), sym (is .1)) (found start len u key kind a b n d))
+    (λ start len u key kind a b f n d.
+    let is = done-same (sym (pair-whole s start len u key (value kind a b f) n d) ∙ e) in
+    rw (sym (is .0), sym (is .1)) (found start len u key kind a b f n d))
   where
-    found : (start len u : ℕ) → string s ≡ done (span start len) u → (kind a b n : ℕ) → typed (drop u s) ≡ done (value kind a b) n
-        → PairExact s (pairOf (span start len) (moved u (value kind a b))) (u + n)
-    found start len u key kind a b n d =
+    found : (start len u : ℕ) → string s ≡ done (span start len) u → (kind a b f n : ℕ) → typed (drop u s) ≡ done (value kind a b f) n
+        → PairExact s (pairOf (span start len) (moved u (value kind a b f))) (u + n)
+    found start len u key kind a b f n d =
         let k = string-accepted s start len u key in
-        let v = typed-accepted (drop u s) kind a b n d in
+        let v = typed-accepted (drop u s) kind a b f n d in
         let there : u < length s = omega (arith, length-drop u s) in
         let split = drop-cons s u 0 there in
         let end : start + len + 1 ≡ suc u = omega arith in
         let taken : u + n - suc u ≡ n - 1 = omega arith in
         record {
           key = string-exact s start len u small key;
-          inner = rw (end, taken, unmoved (points (shape kind)) u a) (typed-exact (getD s u 0) (drop (suc u) s) kind a b n (bytes-drop (suc u) s small) (ap typed (sym split) ∙ d));
+          inner = rw (end, taken, unmoved (points (shape kind)) u a) (typed-exact (getD s u 0) (drop (suc u) s) kind a b f n (bytes-drop (suc u) s small) (ap typed (sym split) ∙ d));
         }
       where
         unmoved : (y : Bool) (m c : ℕ) → cond y (cond y (m + c) c - suc m) (cond y (m + c) c) ≡ cond y (c - 1) c

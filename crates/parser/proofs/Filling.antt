@@ -91,11 +91,11 @@ pairBehind base p = pairNumbers (movedPair base p)
 abbrev pub messageBehind : ℕ → Message → List ℕ
 messageBehind base m = messageNumbers (movedMessage base m)
 
-pub pairs-wide : (base : ℕ) (ps : List Pair) → length (joined (pairBehind base) ps) ≡ length ps * 5
-pairs-wide base ps = joined-width (pairBehind base) 5 (λ p. refl) ps
+pub pairs-wide : (base : ℕ) (ps : List Pair) → length (joined (pairBehind base) ps) ≡ length ps * pairWidth
+pairs-wide base ps = joined-width (pairBehind base) pairWidth (λ p. refl) ps
 
-pub messages-wide : (base : ℕ) (ms : List Message) → length (joined (messageBehind base) ms) ≡ length ms * 4
-messages-wide base ms = joined-width (messageBehind base) 4 (λ m. refl) ms
+pub messages-wide : (base : ℕ) (ms : List Message) → length (joined (messageBehind base) ms) ≡ length ms * messageWidth
+messages-wide base ms = joined-width (messageBehind base) messageWidth (λ m. refl) ms
 
 -- How far the second pass is: what it met is filled in, and what is left comes to what the payload does.
 pub record Filling (kv : Bool) (s : List ℕ) (base : ℕ) (oldMessages oldPairs : List ℕ) (x : State) (messages pairs : List ℕ) : Type 0 where
@@ -123,48 +123,48 @@ tail-room n width table h = rw (lent-tail n table) (omega (arith, length-drop n 
 module _ {kv : Bool} {s : List ℕ} {base : ℕ} {oldMessages oldPairs : List ℕ} {x : State} {messages pairs : List ℕ}
     (f : Filling kv s base oldMessages oldPairs x messages pairs) where
   -- so many numbers are filled in, which lie in the tables
-  pair-count : length (joined (pairBehind base) (f .met .pairs)) ≡ x .pairs * 5
-  pair-count = pairs-wide base (f .met .pairs) ∙ ap (λ (n : ℕ). n * 5) (f .stands .pairs)
+  pair-count : length (joined (pairBehind base) (f .met .pairs)) ≡ x .pairs * pairWidth
+  pair-count = pairs-wide base (f .met .pairs) ∙ ap (λ (n : ℕ). n * pairWidth) (f .stands .pairs)
 
-  message-count : length (joined (messageBehind base) (f .met .messages)) ≡ x .messages * 4
-  message-count = messages-wide base (f .met .messages) ∙ ap (λ (n : ℕ). n * 4) (f .stands .messages)
+  message-count : length (joined (messageBehind base) (f .met .messages)) ≡ x .messages * messageWidth
+  message-count = messages-wide base (f .met .messages) ∙ ap (λ (n : ℕ). n * messageWidth) (f .stands .messages)
 
-  pub pairs-in : (x .pairs * 5 ≤ length oldPairs) × (length pairs ≡ length oldPairs)
+  pub pairs-in : (x .pairs * pairWidth ≤ length oldPairs) × (length pairs ≡ length oldPairs)
   pairs-in = (omega (arith, pair-count, f .in-pairs .room), filled-length (f .in-pairs))
 
-  pub messages-in : (x .messages * 4 ≤ length oldMessages) × (length messages ≡ length oldMessages)
+  pub messages-in : (x .messages * messageWidth ≤ length oldMessages) × (length messages ≡ length oldMessages)
   messages-in = (omega (arith, message-count, f .in-messages .room), filled-length (f .in-messages))
 
   -- one more
   module _ (h : x .at < length s) (y : State) where
     pub filling-pair : (p : Pair) → oneItem kv (roomsOf oldMessages oldPairs) (x .at) (f .met) s ≡ done (withPair (f .met) p) (y .at)
-        → Stands kv s y (withPair (f .met) p) → x .pairs * 5 + 5 ≤ length oldPairs
-        → (tail : List ℕ) → tail ≡ leaves (written (pairBehind base p)) (take (length pairs - x .pairs * 5) (drop (x .pairs * 5) pairs))
-        → Filling kv s base oldMessages oldPairs y messages (putMid (x .pairs * 5) (length pairs - x .pairs * 5) pairs tail)
+        → Stands kv s y (withPair (f .met) p) → x .pairs * pairWidth + pairWidth ≤ length oldPairs
+        → (tail : List ℕ) → tail ≡ leaves (written (pairBehind base p)) (take (length pairs - x .pairs * pairWidth) (drop (x .pairs * pairWidth) pairs))
+        → Filling kv s base oldMessages oldPairs y messages (putMid (x .pairs * pairWidth) (length pairs - x .pairs * pairWidth) pairs tail)
     filling-pair p item st room tail l =
         record {
           met = withPair (f .met) p;
           stands = st;
           goes = goes-on (f .goes) h (withPair (f .met) p) (y .at) item;
           in-messages = f .in-messages;
-          in-pairs = filled-more (f .in-pairs) p (x .pairs * 5) pair-count room tail l;
+          in-pairs = filled-more (f .in-pairs) p (x .pairs * pairWidth) pair-count room tail l;
         }
 
     pub filling-message : (start len count : ℕ)
         → oneItem kv (roomsOf oldMessages oldPairs) (x .at) (f .met) s ≡ done (withMessage (f .met) (span start len) count) (y .at)
-        → Stands kv s y (withMessage (f .met) (span start len) count) → x .messages * 4 + 4 ≤ length oldMessages
+        → Stands kv s y (withMessage (f .met) (span start len) count) → x .messages * messageWidth + messageWidth ≤ length oldMessages
         → (tail : List ℕ)
         → tail
         ≡ leaves (written (messageNumbers (record { start = base + start; len = len; first = x .pairs; count = count })))
-        (take (length messages - x .messages * 4) (drop (x .messages * 4) messages))
-        → Filling kv s base oldMessages oldPairs y (putMid (x .messages * 4) (length messages - x .messages * 4) messages tail) pairs
+        (take (length messages - x .messages * messageWidth) (drop (x .messages * messageWidth) messages))
+        → Filling kv s base oldMessages oldPairs y (putMid (x .messages * messageWidth) (length messages - x .messages * messageWidth) messages tail) pairs
     filling-message start len count item st room tail l =
         record {
           met = withMessage (f .met) (span start len) count;
           stands = st;
           goes = goes-on (f .goes) h _ _ item;
           in-messages =
-              filled-more (f .in-messages) (record { start = start; len = len; first = length (f .met .pairs); count = count }) (x .messages * 4) message-count room tail (rw (f .stands .pairs) l);
+              filled-more (f .in-messages) (record { start = start; len = len; first = length (f .met .pairs); count = count }) (x .messages * messageWidth) message-count room tail (rw (f .stands .pairs) l);
           in-pairs = f .in-pairs;
         }
 
@@ -174,8 +174,8 @@ module _ {kv : Bool} {s : List ℕ} {base : ℕ} {oldMessages oldPairs : List �
         → onePair kv (roomsOf oldMessages oldPairs) (x .at) (f .met) s ≡ done d (y .at)
         → (tail : List ℕ)
         → ((p : Pair) (end : ℕ) → pairFrom (x .at) s ≡ done p end
-        → tail ≡ leaves (written (pairBehind base p)) (take (length pairs - x .pairs * 5) (drop (x .pairs * 5) pairs)))
-        → Filling kv s base oldMessages oldPairs y messages (putMid (x .pairs * 5) (length pairs - x .pairs * 5) pairs tail)
+        → tail ≡ leaves (written (pairBehind base p)) (take (length pairs - x .pairs * pairWidth) (drop (x .pairs * pairWidth) pairs)))
+        → Filling kv s base oldMessages oldPairs y messages (putMid (x .pairs * pairWidth) (length pairs - x .pairs * pairWidth) pairs tail)
     taken-pair t e tail l =
         let rooms = roomsOf oldMessages oldPairs in
         let p = pair-says kv rooms (x .at) (f .met) s d (y .at) e in
@@ -191,15 +191,15 @@ module _ {kv : Bool} {s : List ℕ} {base : ℕ} {oldMessages oldPairs : List �
         → ((start len place : ℕ) → stringFrom (x .at) s ≡ done (span start len) place
         → tail
         ≡ leaves (written (messageNumbers (record { start = base + start; len = len; first = x .pairs; count = getD s place 0 })))
-        (take (length messages - x .messages * 4) (drop (x .messages * 4) messages)))
-        → Filling kv s base oldMessages oldPairs y (putMid (x .messages * 4) (length messages - x .messages * 4) messages tail) pairs
+        (take (length messages - x .messages * messageWidth) (drop (x .messages * messageWidth) messages)))
+        → Filling kv s base oldMessages oldPairs y (putMid (x .messages * messageWidth) (length messages - x .messages * messageWidth) messages tail) pairs
     taken-message t e tail l = by-name (m .name) (m .from) (m .is)
       where
         m : MessageTaken (roomsOf oldMessages oldPairs) (x .at) (f .met) s d (y .at)
         m = message-says (roomsOf oldMessages oldPairs) (x .at) (f .met) s d (y .at) e
 
         by-name : (name : Span) → stringFrom (x .at) s ≡ done name (m .place) → withMessage (f .met) name (getD s (m .place) 0) ≡ d
-            → Filling kv s base oldMessages oldPairs y (putMid (x .messages * 4) (length messages - x .messages * 4) messages tail) pairs
+            → Filling kv s base oldMessages oldPairs y (putMid (x .messages * messageWidth) (length messages - x .messages * messageWidth) messages tail) pairs
         by-name (span start len) from is =
             let q = f .stands .messages in
             let r = m .room in
@@ -253,16 +253,16 @@ module _ {kv : Bool} {s : List ℕ} {base : ℕ} {oldMessages oldPairs : List �
     pub pair-there : PairThere s (x .at)
     pair-there = record { pair = pair-next .taken .pair; end = pair-next .end; from = pair-next .taken .from }
 
-    pub pair-room : x .pairs * 5 + 5 ≤ length oldPairs
+    pub pair-room : x .pairs * pairWidth + pairWidth ≤ length oldPairs
     pair-room = let r = pair-next .taken .room in let e = f .stands .pairs in omega arith
 
-    pub pair-tail : 5 ≤ length (take (length pairs - x .pairs * 5) (drop (x .pairs * 5) pairs))
-    pair-tail = tail-room (x .pairs * 5) 5 pairs (omega (arith, pair-room, pairs-in f))
+    pub pair-tail : pairWidth ≤ length (take (length pairs - x .pairs * pairWidth) (drop (x .pairs * pairWidth) pairs))
+    pair-tail = tail-room (x .pairs * pairWidth) pairWidth pairs (omega (arith, pair-room, pairs-in f))
 
     pub pair-filled : (tail : List ℕ) (y : State)
         → y ≡ afterPair x (pair-next .end)
-        → tail ≡ leaves (written (pairBehind base (pair-next .taken .pair))) (take (length pairs - x .pairs * 5) (drop (x .pairs * 5) pairs))
-        → Filling kv s base oldMessages oldPairs y messages (putMid (x .pairs * 5) (length pairs - x .pairs * 5) pairs tail)
+        → tail ≡ leaves (written (pairBehind base (pair-next .taken .pair))) (take (length pairs - x .pairs * pairWidth) (drop (x .pairs * pairWidth) pairs))
+        → Filling kv s base oldMessages oldPairs y messages (putMid (x .pairs * pairWidth) (length pairs - x .pairs * pairWidth) pairs tail)
     pair-filled tail y e l =
         let p = pair-next .taken in
         rw e
@@ -276,10 +276,10 @@ module _ {kv : Bool} {s : List ℕ} {base : ℕ} {oldMessages oldPairs : List �
     pub record MessageNext : Type 0 where
       pub there : MessageThere s (x .at)
       pub item : oneItem kv (roomsOf oldMessages oldPairs) (x .at) (f .met) s ≡ done (withMessage (f .met) (span (there .start) (there .len)) (getD s (there .place) 0)) (there .place + 1)
-      pub room : x .messages * 4 + 4 ≤ length oldMessages
+      pub room : x .messages * messageWidth + messageWidth ≤ length oldMessages
 
     apart : (d : Contents) (end : ℕ) → oneItem kv (roomsOf oldMessages oldPairs) (x .at) (f .met) s ≡ done d end
-        → (name : Span) (place : ℕ) → stringFrom (x .at) s ≡ done name place → place < length s → length (f .met .messages) < length oldMessages / 4
+        → (name : Span) (place : ℕ) → stringFrom (x .at) s ≡ done name place → place < length s → length (f .met .messages) < length oldMessages / messageWidth
         → withMessage (f .met) name (getD s place 0) ≡ d → place + 1 ≡ end → MessageNext
     apart d end e (span start len) place from byte room is ends =
         record {
@@ -295,15 +295,15 @@ module _ {kv : Bool} {s : List ℕ} {base : ℕ} {oldMessages oldPairs : List �
         let m = message-says (roomsOf oldMessages oldPairs) (x .at) (f .met) s d n (sym (item-message kv (roomsOf oldMessages oldPairs) (x .at) (f .met) s (next-message t)) ∙ e) in
         apart d n e (m .name) (m .place) (m .from) (m .byte) (m .room) (m .is) (m .ends))
 
-    pub message-tail : 4 ≤ length (take (length messages - x .messages * 4) (drop (x .messages * 4) messages))
-    message-tail = tail-room (x .messages * 4) 4 messages (omega (arith, message-next .room, messages-in f))
+    pub message-tail : messageWidth ≤ length (take (length messages - x .messages * messageWidth) (drop (x .messages * messageWidth) messages))
+    message-tail = tail-room (x .messages * messageWidth) messageWidth messages (omega (arith, message-next .room, messages-in f))
 
     pub message-filled : (tail : List ℕ) (y : State)
         → y ≡ afterMessage x (message-next .there .place + 1) (getD s (message-next .there .place) 0)
         → tail
         ≡ leaves (written (messageNumbers (record { start = base + message-next .there .start; len = message-next .there .len; first = x .pairs; count = getD s (message-next .there .place) 0 })))
-        (take (length messages - x .messages * 4) (drop (x .messages * 4) messages))
-        → Filling kv s base oldMessages oldPairs y (putMid (x .messages * 4) (length messages - x .messages * 4) messages tail) pairs
+        (take (length messages - x .messages * messageWidth) (drop (x .messages * messageWidth) messages))
+        → Filling kv s base oldMessages oldPairs y (putMid (x .messages * messageWidth) (length messages - x .messages * messageWidth) messages tail) pairs
     message-filled tail y e l =
         let m = message-next .there in
         let y = afterMessage x (m .place + 1) (getD s (m .place) 0) in

@@ -219,7 +219,7 @@ frame-contents m (refused n place) = refl
 pair-stays : (p : Pair) → movedPair 0 p ≡ p
 pair-stays p =
     let key : 0 + p .start ≡ p .start = omega arith in
-    ap₂ (λ (x y : ℕ). pairOf (span x (p .len)) (value (p .value .kind) y (p .value .b))) key (stays (points (shape (p .value .kind))))
+    ap₂ (λ (x y : ℕ). pairOf (span x (p .len)) (value (p .value .kind) y (p .value .b) (p .value .flags))) key (stays (points (shape (p .value .kind))))
   where
     stays : (y : Bool) → cond y (0 + p .value .a) (p .value .a) ≡ p .value .a
     stays true = omega arith

@@ -43,12 +43,12 @@ module _ (s : List ℕ) where
   pub pair-cases : {G : Type 0}
       → ((n place : ℕ) → string s ≡ refused n place → G)
       → ((start len used : ℕ) → string s ≡ done (span start len) used → (n place : ℕ) → typed (drop used s) ≡ refused n place → G)
-      → ((start len used : ℕ) → string s ≡ done (span start len) used → (kind a b n : ℕ) → typed (drop used s) ≡ done (value kind a b) n → G)
+      → ((start len used : ℕ) → string s ≡ done (span start len) used → (kind a b f n : ℕ) → typed (drop used s) ≡ done (value kind a b f) n → G)
       → G
   pair-cases {G} bad-key bad-value whole = go (string s) refl
     where
       after-key : (start len used : ℕ) → string s ≡ done (span start len) used → (x : Answer Record) → typed (drop used s) ≡ x → G
-      after-key start len used key (done (value kind a b) n) e = whole start len used key kind a b n e
+      after-key start len used key (done (value kind a b f) n) e = whole start len used key kind a b f n e
       after-key start len used key (refused n place) e = bad-value start len used key n place e
 
       go : (x : Answer Span) → string s ≡ x → G
@@ -78,15 +78,15 @@ pair-accepted s p used e =
     pair-cases s
     (λ n place r. not-both e (pair-key s n place r))
     (λ start len u key n place r. not-both e (pair-value s start len u key n place r))
-    (λ start len u key kind a b n d.
-    let is = done-same (sym (pair-whole s start len u key (value kind a b) n d) ∙ e) in
-    rw (sym (is .0), sym (is .1)) (found start len u key kind a b n d))
+    (λ start len u key kind a b f n d.
+    let is = done-same (sym (pair-whole s start len u key (value kind a b f) n d) ∙ e) in
+    rw (sym (is .0), sym (is .1)) (found start len u key kind a b f n d))
   where
-    found : (start len u : ℕ) → string s ≡ done (span start len) u → (kind a b n : ℕ) → typed (drop u s) ≡ done (value kind a b) n
-        → Inside (length s) (pairOf (span start len) (moved u (value kind a b))) (u + n)
-    found start len u key kind a b n d =
+    found : (start len u : ℕ) → string s ≡ done (span start len) u → (kind a b f n : ℕ) → typed (drop u s) ≡ done (value kind a b f) n
+        → Inside (length s) (pairOf (span start len) (moved u (value kind a b f))) (u + n)
+    found start len u key kind a b f n d =
         let k = string-accepted s start len u key in
-        let v = typed-accepted (drop u s) kind a b n d in
+        let v = typed-accepted (drop u s) kind a b f n d in
         record {
           some = omega arith;
           most = omega (arith, length-drop u s);
@@ -103,7 +103,7 @@ pair-place s n place e =
     (λ start len u key m q r.
     let one = refused-same (sym (pair-value s start len u key m q r) ∙ e) in
     omega (arith, typed-place (drop u s) m q r, string-accepted s start len u key, length-drop u s))
-    (λ start len u key kind a b m d. not-both (pair-whole s start len u key (value kind a b) m d) e)
+    (λ start len u key kind a b f m d. not-both (pair-whole s start len u key (value kind a b f) m d) e)
 
 -- ---- the pair that stands at a place
 
@@ -122,9 +122,9 @@ moved-twice m n p = twice (points (shape (p .value .kind)))
     key = omega arith
 
     twice : (y : Bool)
-        → pairOf (span (m + (n + p .start)) (p .len)) (value (p .value .kind) (cond y (m + cond y (n + p .value .a) (p .value .a)) (cond y (n + p .value .a) (p .value .a))) (p .value .b))
-        ≡ pairOf (span (m + n + p .start) (p .len)) (value (p .value .kind) (cond y (m + n + p .value .a) (p .value .a)) (p .value .b))
+        → pairOf (span (m + (n + p .start)) (p .len)) (value (p .value .kind) (cond y (m + cond y (n + p .value .a) (p .value .a)) (cond y (n + p .value .a) (p .value .a))) (p .value .b) (p .value .flags))
+        ≡ pairOf (span (m + n + p .start) (p .len)) (value (p .value .kind) (cond y (m + n + p .value .a) (p .value .a)) (p .value .b) (p .value .flags))
     twice true =
         let a : m + (n + p .value .a) ≡ m + n + p .value .a = omega arith in
-        ap₂ (λ (x y : ℕ). pairOf (span x (p .len)) (value (p .value .kind) y (p .value .b))) key a
-    twice false = ap (λ (x : ℕ). pairOf (span x (p .len)) (value (p .value .kind) (p .value .a) (p .value .b))) key
+        ap₂ (λ (x y : ℕ). pairOf (span x (p .len)) (value (p .value .kind) y (p .value .b) (p .value .flags))) key a
+    twice false = ap (λ (x : ℕ). pairOf (span x (p .len)) (value (p .value .kind) (p .value .a) (p .value .b) (p .value .flags))) key

@@ -13,7 +13,7 @@ use Rattle.frame.specs.declared.Pair.{Pair}
 
 -- where a key stands and a value, as a record
 abbrev pub pairOf : Span → Record → Pair
-pairOf (span start len) (value kind a b) = record { start = start; len = len; value = record { kind = kind; a = a; b = b } }
+pairOf (span start len) (value kind a b flags) = record { start = start; len = len; value = record { kind = kind; a = a; b = b; flags = flags } }
 
 -- a pair behind n other bytes: its starts move
 abbrev pub movedPair : ℕ → Pair → Pair

@@ -26,7 +26,7 @@ ghost use Rattle.parser.specs.Payload.{payload as payloadOf, movedConten
 ghost use Rattle.parser.specs.Promise.{roomsOf, Fills, payloadSaid, payloadTells, ReadPayload};
 ghost use Rattle.parser.specs.Inner.{PairThere, MessageThere, FillsPair, FillsMessage, Accepted};
 
-// Writes the five numbers of a pair.
+// Writes the numbers of a pair.
 pub(crate) fn put_pair(pair: Pair, table: &mut [u64])
     requires { ⌜ pairWidth ≤ length (now table) ⌝ }
     ensures { λ _. ⌜ now (table .exit) ≡ leaves (written (pairNumbers pair)) (now (table .entry)) ⌝ }
@@ -36,9 +36,10 @@ pub(crate) fn put_pair(pair: Pair, table: &mut [u64])
     table[2] = pair.value.kind;
     table[3] = pair.value.a;
     table[4] = pair.value.b;
+    table[5] = pair.value.flags;
 }
 
-// Writes the four numbers of a message.
+// Writes the numbers of a message.
 pub(crate) fn put_message(message: Message, table: &mut [u64])
     requires { ⌜ messageWidth ≤ length (now table) ⌝ }
     ensures { λ _. ⌜ now (table .exit) ≡ leaves (written (messageNumbers message)) (now (table .entry)) ⌝ }

@@ -74,6 +74,7 @@ fn moved_value(value: Value, n: u64) -> Value
         kind,
         a: n + value.a,
         b: value.b,
+        flags: value.flags,
     }
 }
 

@@ -9,7 +9,7 @@ use Rattle.answer.specs.Answer.{Answer, done, refused, next, written, leaves}
 use Rattle.answer.specs.Table.{joined}
 use Rattle.answer.proofs.Records.{joined-none, joined-on, joined-both}
 use Rattle.frame.specs.declared.Pair.{Pair}
-use Rattle.frame.specs.Records.{messageWidth, pairNumbers}
+use Rattle.frame.specs.Records.{messageWidth, pairWidth, pairNumbers}
 use Rattle.parser.specs.declared.Rooms.{Rooms}
 use Rattle.parser.specs.declared.FrameRead.{FrameRead}
 use Rattle.parser.specs.Payload.{Contents}
@@ -28,19 +28,19 @@ read-frame-records-unique input limit r q oldMessages newMessages otherMessages 
 -- ---- the same as numbers
 
 -- how long the numbers of pairs are, and where those behind the first n start
-pairs-wide : (ps : List Pair) → length (joined pairNumbers ps) ≡ length ps * 5
-pairs-wide ps = joined-width pairNumbers 5 (λ p. refl) ps
+pairs-wide : (ps : List Pair) → length (joined pairNumbers ps) ≡ length ps * pairWidth
+pairs-wide ps = joined-width pairNumbers pairWidth (λ p. refl) ps
 
-drop-joined : (n : ℕ) (ps : List Pair) → drop (n * 5) (joined pairNumbers ps) ≡ joined pairNumbers (drop n ps)
+drop-joined : (n : ℕ) (ps : List Pair) → drop (n * pairWidth) (joined pairNumbers ps) ≡ joined pairNumbers (drop n ps)
 drop-joined zero ps = refl
-drop-joined (suc n) [] = rw (joined-none pairNumbers) (drop-none (suc n * 5))
+drop-joined (suc n) [] = rw (joined-none pairNumbers) (drop-none (suc n * pairWidth))
   where
     drop-none : (k : ℕ) → drop {A = ℕ} k [] ≡ []
     drop-none zero = refl
     drop-none (suc k) = refl
 drop-joined (suc n) (p ∷ ps) =
-    let five : suc n * 5 ≡ suc (suc (suc (suc (suc (n * 5))))) = omega arith in
-    ap₂ (λ (k : ℕ) (l : List ℕ). drop k l) five (joined-on pairNumbers p ps) ∙ drop-joined n ps
+    let more : suc n * pairWidth ≡ suc (suc (suc (suc (suc (suc (n * pairWidth)))))) = omega arith in
+    ap₂ (λ (k : ℕ) (l : List ℕ). drop k l) more (joined-on pairNumbers p ps) ∙ drop-joined n ps
 
 -- what is left of both
 left-same : (a : Answer Contents) (old : List Pair)
@@ -51,13 +51,13 @@ left-same (done c used) old =
     ∙ ap (λ (l : List ℕ). joined pairNumbers (c .pairs) ++ l) (drop-joined (length (c .pairs)) old)
     ∙ sym (joined-both pairNumbers (c .pairs) (drop (length (c .pairs)) old))
 
--- Law: the records are read as their numbers are. With a table that has the five numbers of each record one behind the other, `read_frame` gives the
+-- Law: the records are read as their numbers are. With a table that has the numbers of each record one behind the other, `read_frame` gives the
 -- same answer and the same messages, and leaves the numbers of the records that are left here.
 pub records-as-numbers : (input : List ℕ) (limit : ℕ) (r q : FrameRead) (oldMessages newMessages otherMessages : List ℕ) (oldPairs newPairs : List Pair) (numbers : List ℕ)
     → ReadFrameRecords input limit r oldMessages newMessages oldPairs newPairs → ReadFrame input limit q oldMessages otherMessages (joined pairNumbers oldPairs) numbers
     → (r ≡ q) × (newMessages ≡ otherMessages) × (numbers ≡ joined pairNumbers newPairs)
 records-as-numbers input limit r q oldMessages newMessages otherMessages oldPairs newPairs numbers p s =
-    let room : length (joined pairNumbers oldPairs) / 5 ≡ length oldPairs = omega (arith, pairs-wide oldPairs) in
+    let room : length (joined pairNumbers oldPairs) / pairWidth ≡ length oldPairs = omega (arith, pairs-wide oldPairs) in
     let same : roomsOf oldMessages (joined pairNumbers oldPairs) ≡ roomsFor oldMessages oldPairs =
     ap (λ (n : ℕ). record { messages = length oldMessages / messageWidth; pairs = n }) room in (
       frame-same r q (p .says ∙ ap (λ (x : Rooms). frameTells (frameRead limit x input)) (sym same) ∙ sym (s .says)),

@@ -55,6 +55,7 @@ fn taken(input: &[u8], place: Place) -> Taken
                     kind: 0,
                     a: 0,
                     b: 0,
+                    flags: 0,
                 },
             },
             next: place,

@@ -268,10 +268,12 @@ fn value_line(fields: &[u8]) -> Verdict {
         kind: want[2],
         a: want[3],
         b: want[4],
+        flags: 0,
     };
     valued(&input[0..length], want[0], want[1], value)
 }
 
+// The Rust passes the flags over, so they are not compared.
 fn valued(input: &[u8], answer: u64, at: u64, want: Value) -> Verdict {
     match types::typed_data(input) {
         Typed::Done { value, used } => {

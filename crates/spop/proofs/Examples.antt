@@ -21,16 +21,16 @@ use Rattle.writer.specs.Message.{nameBytes, messageBytes, messageRefusal}
 use Rattle.writer.specs.Frame.{headOf, limited, kvAllowed, kvAnswer, notifyAnswer}
 use Rattle.spop.proofs.ReadBack.{ReadBack, kv-read-back, notify-read-back, argumentOf, notify-arguments}
 
--- HAPROXY-DISCONNECT with A, which is 7, and B, which is the text 2.0
+-- HAPROXY-DISCONNECT with A, which is 7 and has the flags 2, and B, which is the text 2.0
 abbrev pub text : List ℕ
 text = 0x41 ∷ 0x42 ∷ 0x32 ∷ 0x2E ∷ 0x30 ∷ []
 
 abbrev pub two : List ℕ
-two = 0 ∷ 1 ∷ 3 ∷ 7 ∷ 0 ∷ 1 ∷ 1 ∷ 8 ∷ 2 ∷ 3 ∷ []
+two = 0 ∷ 1 ∷ 3 ∷ 7 ∷ 0 ∷ 2 ∷ 1 ∷ 1 ∷ 8 ∷ 2 ∷ 3 ∷ 0 ∷ []
 
 abbrev pub pairs-frame : List ℕ
 pairs-frame =
-    0 ∷ 0 ∷ 0 ∷ 18 ∷ 2 ∷ 0 ∷ 0 ∷ 0 ∷ 1 ∷ 0 ∷ 0 ∷ 0x01 ∷ 0x41 ∷ 0x03 ∷ 0x07 ∷ 0x01 ∷ 0x42 ∷ 0x08 ∷ 0x03 ∷ 0x32 ∷ 0x2E ∷ 0x30 ∷ []
+    0 ∷ 0 ∷ 0 ∷ 18 ∷ 2 ∷ 0 ∷ 0 ∷ 0 ∷ 1 ∷ 0 ∷ 0 ∷ 0x01 ∷ 0x41 ∷ 0x23 ∷ 0x07 ∷ 0x01 ∷ 0x42 ∷ 0x08 ∷ 0x03 ∷ 0x32 ∷ 0x2E ∷ 0x30 ∷ []
 
 pub pairs-written : kvAnswer (headOf 2 true false 0 0) 18 text two 2 ≡ done pairs-frame 22
 unfolding groups numberBytes rows follow inRange front rowFor step bySteps isUtf8 lossy same sameText shape inOrder some firstRefused records joined
@@ -42,7 +42,7 @@ kv-example =
     kv-read-back (headOf 2 true false 0 0) 18 text pairs-frame 22 (omega arith) (omega arith) (omega arith) 19 (omega arith) _ (0 ∷ 0 ∷ []) two 2 pairs-written (omega arith) refl
     (omega arith)
 
--- NOTIFY of m, with a and b, and of n, with a
+-- NOTIFY of m, with a and b, which has all flags, and of n, with a
 abbrev pub names : List ℕ
 names = 0x6D ∷ 0x6E ∷ 0x61 ∷ 0x62 ∷ []
 
@@ -50,11 +50,11 @@ abbrev pub both : List ℕ
 both = 0 ∷ 1 ∷ 0 ∷ 2 ∷ 1 ∷ 1 ∷ 2 ∷ 1 ∷ []
 
 abbrev pub three : List ℕ
-three = 2 ∷ 1 ∷ 3 ∷ 7 ∷ 0 ∷ 3 ∷ 1 ∷ 3 ∷ 8 ∷ 0 ∷ 2 ∷ 1 ∷ 1 ∷ 1 ∷ 0 ∷ []
+three = 2 ∷ 1 ∷ 3 ∷ 7 ∷ 0 ∷ 0 ∷ 3 ∷ 1 ∷ 3 ∷ 8 ∷ 0 ∷ 15 ∷ 2 ∷ 1 ∷ 1 ∷ 1 ∷ 0 ∷ 0 ∷ []
 
 abbrev pub messages-frame : List ℕ
 messages-frame =
-    0 ∷ 0 ∷ 0 ∷ 24 ∷ 3 ∷ 0 ∷ 0 ∷ 0 ∷ 1 ∷ 0x01 ∷ 0x02 ∷ 0x01 ∷ 0x6D ∷ 0x02 ∷ 0x01 ∷ 0x61 ∷ 0x03 ∷ 0x07 ∷ 0x01 ∷ 0x62 ∷ 0x03 ∷ 0x08
+    0 ∷ 0 ∷ 0 ∷ 24 ∷ 3 ∷ 0 ∷ 0 ∷ 0 ∷ 1 ∷ 0x01 ∷ 0x02 ∷ 0x01 ∷ 0x6D ∷ 0x02 ∷ 0x01 ∷ 0x61 ∷ 0x03 ∷ 0x07 ∷ 0x01 ∷ 0x62 ∷ 0xF3 ∷ 0x08
     ∷ 0x01 ∷ 0x6E ∷ 0x01 ∷ 0x01 ∷ 0x61 ∷ 0x11 ∷ []
 
 pub messages-written : notifyAnswer (headOf 3 true false 1 2) 24 names both 2 three 3 ≡ done messages-frame 28
@@ -71,7 +71,7 @@ read-again =
     notify-read-back (headOf 3 true false 1 2) 24 names messages-frame 28 (omega arith) (omega arith) (omega arith) 25 (omega arith) again (0 ∷ 0 ∷ []) both 2 three 3
     messages-written refl (omega arith) (omega arith)
 
-pub notify-example : pairMeaning (messages-frame ++ (0 ∷ 0 ∷ [])) (argumentOf (read-again .contents) 1 0) ≡ (0x61 ∷ [], means 1 1 [])
+pub notify-example : pairMeaning (messages-frame ++ (0 ∷ 0 ∷ [])) (argumentOf (read-again .contents) 1 0) ≡ (0x61 ∷ [], means 1 1 0 [])
 unfolding messageAt pairAt shape
 notify-example =
     notify-arguments (headOf 3 true false 1 2) 24 names messages-frame 28 (omega arith) (omega arith) (omega arith) 25 (omega arith) again (0 ∷ 0 ∷ []) both 2 three 3

@@ -98,7 +98,7 @@ abbrev pub noMessage : Message
 noMessage = record { start = 0; len = 0; first = 0; count = 0 }
 
 abbrev pub noPair : Pair
-noPair = record { start = 0; len = 0; value = record { kind = 0; a = 0; b = 0 } }
+noPair = record { start = 0; len = 0; value = record { kind = 0; a = 0; b = 0; flags = 0 } }
 
 abbrev pub messageOf : Contents → ℕ → Message
 messageOf c i = getD (c .messages) i noMessage

@@ -240,7 +240,7 @@ module _ (x : Payload) where
         ∙ pair-taken kv rooms (r .place) (r .contents) s read end from new (omega (arith, as-many (keyOf s) (keyOf buffer) (pairAt pairs) (r .contents .pairs) i (r .keys), room))
 
     long : 0 < length form
-    long = omega (arith, ap length (pair-bytes buffer at-pair) ∙ length-append (stringBytes (keyOf buffer at-pair)) (valueBytes buffer (recordOf (at-pair .value))), value-some buffer (at-pair .value .kind) (at-pair .value .a) (at-pair .value .b) (ok .fields))
+    long = omega (arith, ap length (pair-bytes buffer at-pair) ∙ length-append (stringBytes (keyOf buffer at-pair)) (valueBytes buffer (recordOf (at-pair .value))), value-some buffer (at-pair .value .kind) (at-pair .value .a) (at-pair .value .b) (at-pair .value .flags) (ok .fields))
 
     -- Law: the pair is read as it was written.
     pub reads-pair : Reads (i + 1) j (left - 1) rest

@@ -1,4 +1,4 @@
--- What a C program has in numbers: a value is three of them, kind, a and b; a pair five, and a frame's head six.
+-- What a C program has in numbers: a value is four of them, kind, a, b and flags; a pair and a frame's head are six each.
 use mathlib.Core.List.{List, [], _∷_}
 use Prim.Native.Nat.{ℕ}
 use lib.ListN.{length, getD}
@@ -11,11 +11,11 @@ use Rattle.parser.specs.Payload.{Contents}
 
 -- the record that the numbers are
 abbrev pub recordIn : List ℕ → Record
-recordIn l = value (getD l 0 0) (getD l 1 0) (getD l 2 0)
+recordIn l = value (getD l 0 0) (getD l 1 0) (getD l 2 0) (getD l 3 0)
 
 -- the numbers of what was read, in the place of what was there before
 abbrev pub numbersOf : Answer Record → List ℕ → List ℕ
-numbersOf (done (value kind a b) n) before = kind ∷ a ∷ b ∷ []
+numbersOf (done (value kind a b flags) n) before = kind ∷ a ∷ b ∷ flags ∷ []
 numbersOf (refused number place) before = before
 
 abbrev pub pairNumbersOf : Answer Pair → List ℕ → List ℕ

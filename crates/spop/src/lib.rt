@@ -6,12 +6,14 @@
 use answer::Refusal;
 use answer::WAIT;
 use answer::Written;
+use frame::PAIR_WIDTH;
 use frame::Pair;
 use hello::Chosen;
 use hello::Size;
 use parser::FrameRead;
 use parser::PairRead;
 use types::Typed;
+use types::VALUE_WIDTH;
 use types::Value;
 use varint::Number;
 ghost use mathlib.Core.Path.{_≡_};
@@ -79,12 +81,12 @@ pub extern "C" fn spop_lossy_text(bytes: &[u8], out: &mut [u8], at: &mut u64) ->
 }
 
 #[no_mangle]
-pub extern "C" fn spop_typed_data(input: &[u8], value: &mut [u64; 3], at: &mut u64) -> u64
+pub extern "C" fn spop_typed_data(input: &[u8], value: &mut [u64; VALUE_WIDTH], at: &mut u64) -> u64
     ensures { λ r. ⌜ SpopTypedData (now (input .entry)) r (now (at .exit)) (now (value .entry)) (now (value .exit)) ⌝ }
 {
     match types::typed_data(input) {
         Typed::Done { value: v, used } => {
-            *value = [v.kind, v.a, v.b];
+            *value = [v.kind, v.a, v.b, v.flags];
             *at = used as u64;
             DONE
         },
@@ -93,14 +95,14 @@ pub extern "C" fn spop_typed_data(input: &[u8], value: &mut [u64; 3], at: &mut u
 }
 
 #[no_mangle]
-pub extern "C" fn spop_value_len(value: &[u64; 3], buffer: &[u8]) -> u64
+pub extern "C" fn spop_value_len(value: &[u64; VALUE_WIDTH], buffer: &[u8]) -> u64
     ensures { λ r. ⌜ SpopValueLen (now (value .entry)) (now (buffer .entry)) r ⌝ }
 {
     types::value_len(value_of(value), buffer) as u64
 }
 
 #[no_mangle]
-pub extern "C" fn spop_check_value(value: &[u64; 3], buffer: &[u8]) -> u64
+pub extern "C" fn spop_check_value(value: &[u64; VALUE_WIDTH], buffer: &[u8]) -> u64
     ensures { λ r. ⌜ SpopCheckValue (now (value .entry)) (now (buffer .entry)) r ⌝ }
 {
     types::check_value(value_of(value), buffer)
@@ -108,7 +110,7 @@ pub extern "C" fn spop_check_value(value: &[u64; 3], buffer: &[u8]) -> u64
 
 #[no_mangle]
 pub extern "C" fn spop_write_value(
-    value: &[u64; 3],
+    value: &[u64; VALUE_WIDTH],
     buffer: &[u8],
     out: &mut [u8],
     at: &mut u64,
@@ -119,24 +121,32 @@ pub extern "C" fn spop_write_value(
     tell(answer, at)
 }
 
-// The record that three lent numbers are.
-fn value_of(value: &[u64; 3]) -> Value
+// The record that a value's lent numbers are.
+fn value_of(value: &[u64; VALUE_WIDTH]) -> Value
     ensures { λ r. ⌜ recordOf r ≡ recordIn (now (value .entry)) ⌝ }
 {
     Value {
         kind: value[0],
         a: value[1],
         b: value[2],
+        flags: value[3],
     }
 }
 
 #[no_mangle]
-pub extern "C" fn spop_read_pair(input: &[u8], pair: &mut [u64; 5], at: &mut u64) -> u64
+pub extern "C" fn spop_read_pair(input: &[u8], pair: &mut [u64; PAIR_WIDTH], at: &mut u64) -> u64
     ensures { λ r. ⌜ SpopReadPair (now (input .entry)) r (now (at .exit)) (now (pair .entry)) (now (pair .exit)) ⌝ }
 {
     match parser::read_pair(input) {
         PairRead::Done { pair: p, used } => {
-            *pair = [p.start, p.len, p.value.kind, p.value.a, p.value.b];
+            *pair = [
+                p.start,
+                p.len,
+                p.value.kind,
+                p.value.a,
+                p.value.b,
+                p.value.flags,
+            ];
             *at = used as u64;
             DONE
         },

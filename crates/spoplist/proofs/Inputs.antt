@@ -1,4 +1,5 @@
--- A whole listing loses nothing: inputs with the same listing have the same frames, one by one, and stop at the same place for the same reason.
+-- A whole listing loses nothing but flags of values, which no line shows: inputs with the same listing have the same frames, one by one, and stop at
+-- the same place for the same reason.
 use mathlib.Core.Path.{_≡_, refl, sym, ap₂, _∙_}
 use mathlib.Core.Logic.{_⊎_, inl, inr, ⊎-elim}
 use mathlib.Core.List.{List, [], _∷_, _++_, append-assoc, head-eq-of-cons-eq, map}
@@ -35,7 +36,7 @@ listing limit rooms s =
 
 -- ---- what its frames mean
 
--- What a frame means: its type and ids, how many bytes it takes, and what its messages and its pairs mean.
+-- What a frame means as far as lines say it: its type and ids, how many bytes it takes, and what its messages and its pairs mean but for flags.
 pub record FrameMeans : Type 0 where
   pub kind : ℕ
   pub stream : ℕ

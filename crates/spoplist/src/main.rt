@@ -5,6 +5,8 @@
 use answer::Refusal;
 use answer::WAIT;
 use answer::Written;
+use frame::MESSAGE_WIDTH;
+use frame::PAIR_WIDTH;
 use libc::STDIN_FILENO;
 use libc::STDOUT_FILENO;
 use listing::Place;
@@ -19,10 +21,10 @@ ghost use Rattle.spoplist.specs.Inner.{Takes, Ends};
 // The longest frame that is read, its length bytes aside.
 const LIMIT: u32 = 65_532;
 
-// Numbers of the two tables: 64 messages of four, and 256 pairs of five.
-const MESSAGES: usize = 256;
+// Numbers of the two tables: 64 messages, and 256 pairs.
+const MESSAGES: usize = 64 * MESSAGE_WIDTH;
 
-const PAIRS: usize = 1_280;
+const PAIRS: usize = 256 * PAIR_WIDTH;
 
 // Bytes for a line. The longest has two digits for each of a frame's bytes, and 128 others at most.
 const LINE: usize = 131_200;

@@ -22,51 +22,50 @@ one-more s n h l = omega (arith, length-drop 1 s)
 tail : {A : Type 0} (reader : List ℕ → Answer A) (s : List ℕ) {a b : Answer A} → a ≡ reader (take (length s - 1) (drop 1 s)) → a ≡ b → reader (drop 1 s) ≡ b
 tail reader s e is = ap reader (sym (lent-tail 1 s)) ∙ sym e ∙ is
 
-module _ (kind : ℕ) (s : List ℕ) where
+module _ (kind flags : ℕ) (s : List ℕ) where
   -- by the number that was read there
   module _ (pre : (0 < length s) × ((2 ≤ kind) × (kind < 6))) {a : Answer ℕ} (read : a ≡ number (take (length s - 1) (drop 1 s))) where
-    pub integer-none : (n place : ℕ) → a ≡ refused n place → (1 + place ≤ length s) × ReadsKind kind s (refused n (1 + place))
+    pub integer-none : (n place : ℕ) → a ≡ refused n place → (1 + place ≤ length s) × ReadsKind kind flags s (refused n (1 + place))
     integer-none n place is =
         let e = tail number s read is in (
           one-more s place (pre .0) (number-place (drop 1 s) n place e),
-          λ flags. sym (shape-integer kind (pre .1 .0) (pre .1 .1) (λ w row. behind-refused kind flags (drop 1 s) (integer w) row n place (integer-refused kind flags (drop 1 s) w n place e))),
+          sym (shape-integer kind (pre .1 .0) (pre .1 .1) (λ w row. behind-refused kind flags (drop 1 s) (integer w) row n place (integer-refused kind flags (drop 1 s) w n place e))),
         )
 
     pub integer-some : (n used r : ℕ) → a ≡ done n used → ((w : Width) → shape kind ≡ integer w → r ≡ narrowed w n)
-        → (1 + used ≤ length s) × ReadsKind kind s (done (value kind r 0) (1 + used))
+        → (1 + used ≤ length s) × ReadsKind kind flags s (done (value kind r 0 flags) (1 + used))
     integer-some n used r is kept =
         let e = tail number s read is in (
           one-more s used (pre .0) (accepted (drop 1 s) n used e .2),
-          λ flags.
-              sym
+          sym
               (shape-integer kind (pre .1 .0) (pre .1 .1)
-              (λ w row. behind-plain kind flags (drop 1 s) (integer w) row (narrowed w n) 0 used refl (integer-whole kind flags (drop 1 s) w n used e)
-              ∙ ap (λ (x : ℕ). done (value kind x 0) (1 + used)) (sym (kept w row)))),
+              (λ w row. behind-plain kind flags (drop 1 s) (integer w) row (narrowed w n) 0 flags used refl (integer-whole kind flags (drop 1 s) w n used e)
+              ∙ ap (λ (x : ℕ). done (value kind x 0 flags) (1 + used)) (sym (kept w row)))),
         )
 
   -- by the string
   module _ (pre : (0 < length s) × (shape kind ≡ text)) {a : Answer Span} (read : a ≡ string (take (length s - 1) (drop 1 s))) where
-    pub text-none : (n place : ℕ) → a ≡ refused n place → (1 + place ≤ length s) × ReadsKind kind s (refused n (1 + place))
+    pub text-none : (n place : ℕ) → a ≡ refused n place → (1 + place ≤ length s) × ReadsKind kind flags s (refused n (1 + place))
     text-none n place is =
         let e = tail string s read is in (
           one-more s place (pre .0) (string-place (drop 1 s) n place e),
-          λ flags. sym (behind-refused kind flags (drop 1 s) text (pre .1) n place (text-refused kind flags (drop 1 s) n place e)),
+          sym (behind-refused kind flags (drop 1 s) text (pre .1) n place (text-refused kind flags (drop 1 s) n place e)),
         )
 
     pub text-some : (start len used : ℕ) → a ≡ done (span start len) used
-        → (1 + start ≤ length s) × (1 + used ≤ length s) × ReadsKind kind s (done (value kind (1 + start) len) (1 + used))
+        → (1 + start ≤ length s) × (1 + used ≤ length s) × ReadsKind kind flags s (done (value kind (1 + start) len flags) (1 + used))
     text-some start len used is =
         let e = tail string s read is in
         let o = string-accepted (drop 1 s) start len used e in (
           one-more s start (pre .0) (omega arith),
           one-more s used (pre .0) (omega arith),
-          λ flags. sym (behind-start kind flags (drop 1 s) text (pre .1) start len used refl (text-whole kind flags (drop 1 s) start len used e)),
+          sym (behind-start kind flags (drop 1 s) text (pre .1) start len flags used refl (text-whole kind flags (drop 1 s) start len used e)),
         )
 
   -- by the test of an address's length
   module _ (n : ℕ) (row : shape kind ≡ address n) where
-    pub address-none : length s - 1 < n → ReadsKind kind s (refused 3 1)
-    address-none h flags = sym (behind-refused kind flags (drop 1 s) (address n) row 3 0 (address-short kind flags (drop 1 s) n (simp length-drop h)))
+    pub address-none : length s - 1 < n → ReadsKind kind flags s (refused 3 1)
+    address-none h = sym (behind-refused kind flags (drop 1 s) (address n) row 3 0 (address-short kind flags (drop 1 s) n (simp length-drop h)))
 
-    pub address-some : n ≤ length s - 1 → ReadsKind kind s (done (value kind 1 n) (1 + n))
-    address-some h flags = sym (behind-start kind flags (drop 1 s) (address n) row 0 n n refl (address-whole kind flags (drop 1 s) n (simp length-drop h)))
+    pub address-some : n ≤ length s - 1 → ReadsKind kind flags s (done (value kind 1 n flags) (1 + n))
+    address-some h = sym (behind-start kind flags (drop 1 s) (address n) row 0 n flags n refl (address-whole kind flags (drop 1 s) n (simp length-drop h)))

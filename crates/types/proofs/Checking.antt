@@ -1,5 +1,5 @@
 -- Laws about the checks: how they unroll, and that a value which passes them has its written form.
-use mathlib.Core.Path.{_≡_, ap}
+use mathlib.Core.Path.{_≡_, refl, ap}
 use mathlib.Core.Bool.{true, false, not, _||_}
 use mathlib.Core.List.{List}
 use Prim.Native.Nat.{ℕ, _+_, _≤_}
@@ -16,7 +16,7 @@ use Rattle.types.specs.Value.{Record, value, shape, points, typed}
 use Rattle.types.specs.Form.{part, inside, valueBytes, writableRecord, ranged, valueAnswer}
 use Rattle.types.specs.Check.{stringChecks, partChecks, valueChecks}
 use Rattle.types.proofs.Reading.{typed-accepted}
-use Rattle.types.proofs.Shapes.{shape-is, in-fields}
+use Rattle.types.proofs.Shapes.{shape-is, in-record}
 use Rattle.types.proofs.Writing.{form-whole}
 
 -- ---- strings
@@ -46,17 +46,17 @@ module _ (buffer : List ℕ) (start len : ℕ) where
 
 -- ---- values
 
-module _ (buffer : List ℕ) (kind a b : ℕ) where
+module _ (buffer : List ℕ) (kind a b flags : ℕ) where
   -- of kind 8 it is a string's
-  pub part-string : kind ≡ 8 → first (partChecks buffer (value kind a b)) ≡ first (stringChecks buffer a b)
+  pub part-string : kind ≡ 8 → first (partChecks buffer (value kind a b flags)) ≡ first (stringChecks buffer a b)
   unfolding inOrder
   part-string e = rw (e, ap points (shape-is .8))
 
-  pub part-outside : ranged buffer (value kind a b) ≡ false → first (partChecks buffer (value kind a b)) ≡ 16
+  pub part-outside : ranged buffer (value kind a b flags) ≡ false → first (partChecks buffer (value kind a b flags)) ≡ 16
   unfolding inOrder
   part-outside h = rw h
 
-  pub part-within : (kind ≡ 8 → ⊥) → ranged buffer (value kind a b) ≡ true → first (partChecks buffer (value kind a b)) ≡ 0
+  pub part-within : (kind ≡ 8 → ⊥) → ranged buffer (value kind a b flags) ≡ true → first (partChecks buffer (value kind a b flags)) ≡ 0
   unfolding inOrder
   part-within e h = rw (h, ne-eqb kind 8 e)
 
@@ -68,27 +68,27 @@ module _ (buffer : List ℕ) (v : Record) where
   value-part h = first-holds 14 (writableRecord v) (partChecks buffer v) h
 
 -- Law: what passes the second check is in range, and a string's text is UTF-8.
-pub part-passed : (buffer : List ℕ) (kind a b : ℕ) → first (partChecks buffer (value kind a b)) ≡ 0
-    → (ranged buffer (value kind a b) ≡ true) × (kind ≡ 8 → isUtf8 (part buffer a b) ≡ true)
-part-passed buffer kind a b e =
-    let one = first-passed 16 (ranged buffer (value kind a b)) _ (λ z. omega arith) e in
+pub part-passed : (buffer : List ℕ) (kind a b flags : ℕ) → first (partChecks buffer (value kind a b flags)) ≡ 0
+    → (ranged buffer (value kind a b flags) ≡ true) × (kind ≡ 8 → isUtf8 (part buffer a b) ≡ true)
+part-passed buffer kind a b flags e =
+    let one = first-passed 16 (ranged buffer (value kind a b flags)) _ (λ z. omega arith) e in
     let two = first-passed 15 (not (eqb kind 8) || isUtf8 (part buffer a b)) _ (λ z. omega arith) (one .1) in
     (one .0, λ k. rw (eq-eqb kind 8 k) at (two .0))
 
 -- Law: a value that passes has its written form, and a string's text is UTF-8.
-pub passed : (buffer : List ℕ) (kind a b : ℕ) → first (valueChecks buffer (value kind a b)) ≡ 0
-    → (writableRecord (value kind a b) ≡ true) × (ranged buffer (value kind a b) ≡ true)
-    × (valueAnswer buffer (value kind a b) ≡ written (valueBytes buffer (value kind a b))) × (kind ≡ 8 → isUtf8 (part buffer a b) ≡ true)
-passed buffer kind a b e =
-    let one = first-passed 14 (writableRecord (value kind a b)) (partChecks buffer (value kind a b)) (λ z. omega arith) e in
-    let two = part-passed buffer kind a b (one .1) in
-    (one .0, two .0, form-whole buffer (value kind a b) (one .0) (two .0), two .1)
+pub passed : (buffer : List ℕ) (kind a b flags : ℕ) → first (valueChecks buffer (value kind a b flags)) ≡ 0
+    → (writableRecord (value kind a b flags) ≡ true) × (ranged buffer (value kind a b flags) ≡ true)
+    × (valueAnswer buffer (value kind a b flags) ≡ written (valueBytes buffer (value kind a b flags))) × (kind ≡ 8 → isUtf8 (part buffer a b) ≡ true)
+passed buffer kind a b flags e =
+    let one = first-passed 14 (writableRecord (value kind a b flags)) (partChecks buffer (value kind a b flags)) (λ z. omega arith) e in
+    let two = part-passed buffer kind a b flags (one .1) in
+    (one .0, two .0, form-whole buffer (value kind a b flags) (one .0) (two .0), two .1)
 
 -- Law: an accepted value is writable, and where it points, points into the bytes that it was read from.
 pub accepted-writable : (s : List ℕ) (v : Record) (used : ℕ) → typed s ≡ done v used → (writableRecord v ≡ true) × (ranged s v ≡ true)
-accepted-writable s (value kind a b) used e =
-    let o = typed-accepted s kind a b used e in
-    (in-fields (shape kind) a b (o .3), bool-cases (points (shape kind)) (λ p. rw p (within (o .1) (o .4 p .1))) (λ p. rw p))
+accepted-writable s (value kind a b flags) used e =
+    let o = typed-accepted s kind a b flags used e in
+    (in-record kind a b flags (shape kind) refl (o .5) (o .3), bool-cases (points (shape kind)) (λ p. rw p (within (o .1) (o .4 p .1))) (λ p. rw p))
   where
     within : used ≤ length s → a + b ≤ used → inside s a b ≡ true
     within h l = le-leb (a + b) (length s) (omega arith)

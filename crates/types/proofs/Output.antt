@@ -87,6 +87,10 @@ pub record Begun (front rest old : List ℕ) (n : ℕ) (out : List ℕ) : Type 0
 pub begun-byte : (b : ℕ) (rest old : List ℕ) → length (b ∷ rest) ≤ length old → Begun (b ∷ []) rest old 1 (set old 0 b)
 begun-byte b rest old room = record { first = record { counts = refl; holds = leaves-byte b old (omega arith) }; room = room }
 
+-- by what the byte is
+pub begun-known : {b t : ℕ} (rest old : List ℕ) → b ≡ t → length (t ∷ rest) ≤ length old → Begun (t ∷ []) rest old 1 (set old 0 b)
+begun-known rest old e room = rw e (begun-byte _ rest old room)
+
 -- the second goes behind it, by whoever is lent `&mut out[n..]`
 module _ {front rest old out : List ℕ} {n : ℕ} (b : Begun front rest old n out) where
   pub begun-start : n ≤ length out

@@ -1,4 +1,4 @@
--- Laws about the table of kinds: each kind's line, the 32 bits of an integer, and the test of its two numbers.
+-- Laws about the table of kinds: each kind's line, the 32 bits of an integer, the test of its two numbers and that of its flags.
 use mathlib.Core.Path.{_≡_, refl, sym, ap, _∙_}
 use mathlib.Core.Bool.{true, false, and-false, true≢false}
 use mathlib.Core.Logic.{⊎-elim}
@@ -8,7 +8,8 @@ use lib.Dec.{ltb, eqb}
 use lib.ListN.{List·getD-eq-default}
 use borrow.Author.Tests.{lt-ltb, le-ltb, eq-eqb, ne-eqb, eqb-true, ltb-true}
 use Rattle.answer.proofs.Cases.{lt-or-le, both-true}
-use Rattle.types.specs.Value.{Shape, nothing, flag, integer, address, text, reserved, Width, signed32, unsigned32, whole64, shapes, shape, points, signExtended, inWidth, inFields}
+use Rattle.types.specs.Value.{Shape, nothing, flag, integer, address, text, reserved, Width, signed32, unsigned32, whole64, shapes, shape, value, points, signExtended, inWidth, inFields, inFlags}
+use Rattle.types.specs.Form.{writableRecord}
 
 -- ---- the table
 
@@ -177,6 +178,72 @@ module _ (k a b : ℕ) where
       (λ h. field-at reserved (shape-reserved k h) ∙ sym (le-ltb k 10 h))
       (lt-or-le k 10)
 
-  -- a writable value's kind is at most 9
-  pub writable-kind : inFields (shape k) a b ≡ true → k ≤ 9
-  writable-kind h = shape-listed k (λ r. fields-in reserved a b (sym (field-at reserved r) ∙ h))
+-- ---- flags
+
+-- what `inFlags` tests
+abbrev pub Flags : Shape → ℕ → Type 0
+Flags nothing flags = flags < 16
+Flags flag flags = flags ≡ 0
+Flags (integer w) flags = flags < 16
+Flags (address n) flags = flags < 16
+Flags text flags = flags < 16
+Flags reserved flags = flags < 16
+
+pub in-flags : (sh : Shape) (flags : ℕ) → Flags sh flags → inFlags sh flags ≡ true
+in-flags nothing flags h = lt-ltb flags 16 h
+in-flags flag flags h = eq-eqb flags 0 h
+in-flags (integer w) flags h = lt-ltb flags 16 h
+in-flags (address n) flags h = lt-ltb flags 16 h
+in-flags text flags h = lt-ltb flags 16 h
+in-flags reserved flags h = lt-ltb flags 16 h
+
+pub flags-in : (sh : Shape) (flags : ℕ) → inFlags sh flags ≡ true → Flags sh flags
+flags-in nothing flags h = ltb-true flags 16 h
+flags-in flag flags h = eqb-true flags 0 h
+flags-in (integer w) flags h = ltb-true flags 16 h
+flags-in (address n) flags h = ltb-true flags 16 h
+flags-in text flags h = ltb-true flags 16 h
+flags-in reserved flags h = ltb-true flags 16 h
+
+-- by the kind's number
+module _ (k flags : ℕ) where
+  pub flags-at : (sh : Shape) → shape k ≡ sh → inFlags (shape k) flags ≡ inFlags sh flags
+  flags-at sh is = ap (λ (x : Shape). inFlags x flags) is
+
+  pub flags-bool : k ≡ 1 → inFlags (shape k) flags ≡ eqb flags 0
+  flags-bool e = flags-at flag (row 1 e (shape-is .1))
+
+  pub flags-other : (k ≡ 1 → ⊥) → inFlags (shape k) flags ≡ ltb flags 16
+  flags-other no1 =
+      shape-cases k (λ e is. flags-at nothing is) (λ e is. absurd (no1 e)) (λ w l g is. flags-at (integer w) is)
+      (λ n l g is. flags-at (address n) is) (λ l g is. flags-at text is) (λ l is. flags-at reserved is)
+
+-- ---- a writable record, by its kind's line
+
+module _ (k a b flags : ℕ) (h : writableRecord (value k a b flags) ≡ true) where
+  both : (inFlags (shape k) flags ≡ true) × (inFields (shape k) a b ≡ true)
+  both = both-true (inFlags (shape k) flags) (inFields (shape k) a b) h
+
+  pub writable-flags : (sh : Shape) → shape k ≡ sh → Flags sh flags
+  writable-flags sh is = flags-in sh flags (sym (flags-at k flags sh is) ∙ both .0)
+
+  pub writable-fields : (sh : Shape) → shape k ≡ sh → Fields sh a b
+  writable-fields sh is = fields-in sh a b (sym (field-at k a b sh is) ∙ both .1)
+
+  pub four-bits : flags < 16
+  four-bits =
+      shape-cases k
+      (λ e is. writable-flags nothing is)
+      (λ e is. omega (arith, writable-flags flag is))
+      (λ w l g is. writable-flags (integer w) is)
+      (λ n l g is. writable-flags (address n) is)
+      (λ l g is. writable-flags text is)
+      (λ l is. writable-flags reserved is)
+
+  -- its kind is at most 9
+  pub writable-kind : k ≤ 9
+  writable-kind = shape-listed k (λ r. writable-fields reserved r)
+
+-- what lies in its fields is writable
+pub in-record : (k a b flags : ℕ) (sh : Shape) → shape k ≡ sh → Flags sh flags → Fields sh a b → writableRecord (value k a b flags) ≡ true
+in-record k a b flags sh is f h = rw (is, in-flags sh flags f) (in-fields sh a b h)

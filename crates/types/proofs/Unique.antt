@@ -20,11 +20,11 @@ textRead-same (t.Done s l u) (t.Refused q) e = let z : _≡_ {A = ℕ} 0 1 = cc 
 textRead-same (t.Refused r) (t.Done s l u) e = let z : _≡_ {A = ℕ} 0 1 = cc in absurd (omega arith)
 textRead-same (t.Refused r) (t.Refused q) e = ap t.Refused (refusal-same r q (cc) (cc))
 
-value-same : (a b : Value) → a .kind ≡ b .kind → a .a ≡ b .a → a .b ≡ b .b → a ≡ b
-value-same a b e f g = λ i. record { kind = e i; a = f i; b = g i }
+value-same : (a b : Value) → a .kind ≡ b .kind → a .a ≡ b .a → a .b ≡ b .b → a .flags ≡ b .flags → a ≡ b
+value-same a b e f g h = λ i. record { kind = e i; a = f i; b = g i; flags = h i }
 
 pub typedRead-same : (a b : Typed) → typedRead a ≡ typedRead b → a ≡ b
-typedRead-same (v.Done x u) (v.Done y u′) e = let q : u ≡ u′ = cc in let p = value-same x y (cc) (cc) (cc) in cc
+typedRead-same (v.Done x u) (v.Done y u′) e = let q : u ≡ u′ = cc in let p = value-same x y (cc) (cc) (cc) (cc) in cc
 typedRead-same (v.Done x u) (v.Refused q) e = let z : _≡_ {A = ℕ} 0 1 = cc in absurd (omega arith)
 typedRead-same (v.Refused r) (v.Done x u) e = let z : _≡_ {A = ℕ} 0 1 = cc in absurd (omega arith)
 typedRead-same (v.Refused r) (v.Refused q) e = ap v.Refused (refusal-same r q (cc) (cc))

@@ -1,7 +1,7 @@
 -- Laws about the written form of strings and values: how long it is, when a range lies inside, the bytes of each kind, and what writing
 -- comes to.
 use mathlib.Core.Path.{_≡_, refl, sym, ap, _∙_}
-use mathlib.Core.Bool.{true, false}
+use mathlib.Core.Bool.{true, false, and-false}
 use mathlib.Core.Logic.{⊎-elim}
 use mathlib.Core.List.{List, [], _∷_, _++_}
 use Prim.Native.Nat.{ℕ, _+_, _-_, _*_, _^_, _≤_, _<_}
@@ -9,15 +9,15 @@ use native.Mathlib.Omega.{arith}
 use lib.Dec.{leb}
 use lib.ListN.{length, take, drop, length-append, length-take, length-drop}
 use lib.Seq.{length-take-le}
-use borrow.Author.Tests.{le-leb, lt-leb, ne-eqb, leb-true}
+use borrow.Author.Tests.{le-leb, lt-leb, le-ltb, ne-eqb, leb-true}
 use Rattle.answer.specs.Answer.{refused, written}
 use Rattle.answer.specs.Order.{inOrder, first}
 use Rattle.varint.specs.Number.{numberBytes}
 use Rattle.answer.proofs.Cases.{lt-or-le}
 use Rattle.varint.proofs.Writing.{length-most}
-use Rattle.types.specs.Value.{Shape, nothing, flag, integer, address, text, reserved, shape, Record, value, points, inFields}
-use Rattle.types.specs.Form.{part, inside, stringBytes, dataBytes, valueBytes, writableRecord, ranged, valueAnswer}
-use Rattle.types.proofs.Shapes.{shape-reserved, shape-plain, shape-integer, shape-address, shape-text, shape-cases, points-no, in-fields, fields-in, field-at}
+use Rattle.types.specs.Value.{Shape, nothing, flag, integer, address, text, reserved, shape, Record, value, points, inFields, inFlags}
+use Rattle.types.specs.Form.{part, inside, stringBytes, dataBytes, typeOf, valueBytes, writableRecord, ranged, valueAnswer}
+use Rattle.types.proofs.Shapes.{shape-reserved, shape-plain, shape-integer, shape-address, shape-text, shape-cases, points-no, Flags, Fields, flags-other, field-at, writable-flags, writable-fields, in-record}
 
 -- ---- lengths
 
@@ -53,25 +53,26 @@ pub string-long : (buffer : List ℕ) (start len : ℕ) → start + len ≤ leng
 string-long buffer start len h =
     string-length (part buffer start len) ∙ ap (λ (n : ℕ). length (numberBytes n) + n) (part-length buffer start len h)
 
-pub value-bytes : (buffer : List ℕ) (kind a b : ℕ) → valueBytes buffer (value kind a b) ≡ dataBytes (shape kind) kind a (part buffer a b)
+pub value-bytes : (buffer : List ℕ) (kind a b flags : ℕ)
+    → valueBytes buffer (value kind a b flags) ≡ dataBytes (shape kind) (typeOf kind flags) a (part buffer a b)
 unfolding valueBytes
-value-bytes buffer kind a b = refl
+value-bytes buffer kind a b flags = refl
 
 -- each line's length, in the code's terms
-module _ (k a : ℕ) (bytes : List ℕ) where
-  formed-at : (sh : Shape) → shape k ≡ sh → length (dataBytes sh k a bytes) ≡ length (dataBytes (shape k) k a bytes)
-  formed-at sh is = ap (λ (x : Shape). length (dataBytes x k a bytes)) (sym is)
+module _ (k type a : ℕ) (bytes : List ℕ) where
+  formed-at : (sh : Shape) → shape k ≡ sh → length (dataBytes sh type a bytes) ≡ length (dataBytes (shape k) type a bytes)
+  formed-at sh is = ap (λ (x : Shape). length (dataBytes x type a bytes)) (sym is)
 
-  pub length-plain : k < 2 → 1 ≡ length (dataBytes (shape k) k a bytes)
+  pub length-plain : k < 2 → 1 ≡ length (dataBytes (shape k) type a bytes)
   length-plain h = shape-plain k h (λ e is. formed-at nothing is) (λ e is. formed-at flag is)
 
-  pub length-integer : 2 ≤ k → k < 6 → 1 + length (numberBytes a) ≡ length (dataBytes (shape k) k a bytes)
+  pub length-integer : 2 ≤ k → k < 6 → 1 + length (numberBytes a) ≡ length (dataBytes (shape k) type a bytes)
   length-integer l h = shape-integer k l h (λ w is. omega (arith, formed-at (integer w) is))
 
-  pub length-address : 6 ≤ k → k < 8 → 1 + length bytes ≡ length (dataBytes (shape k) k a bytes)
+  pub length-address : 6 ≤ k → k < 8 → 1 + length bytes ≡ length (dataBytes (shape k) type a bytes)
   length-address l h = shape-address k l h (λ n is. omega (arith, formed-at (address n) is))
 
-  pub length-text : 8 ≤ k → k < 10 → 1 + length (numberBytes (length bytes)) + length bytes ≡ length (dataBytes (shape k) k a bytes)
+  pub length-text : 8 ≤ k → k < 10 → 1 + length (numberBytes (length bytes)) + length bytes ≡ length (dataBytes (shape k) type a bytes)
   length-text l h = let e = formed-at text (shape-text k l h) in omega (arith, string-length bytes)
 
 -- a part that is compared with what the others leave of the room
@@ -90,43 +91,47 @@ pub inside-rest : (buffer : List ℕ) (start len : ℕ) → start ≤ length buf
 inside-rest buffer start len h = rest-fits len start (start + len) (length buffer) refl h
 
 -- a value that points and is in range points inside
-pub ranged-inside : (buffer : List ℕ) (kind a b : ℕ) → points (shape kind) ≡ true → ranged buffer (value kind a b) ≡ true → a + b ≤ length buffer
-ranged-inside buffer kind a b p h = leb-true (a + b) (length buffer) (rw p at h)
+pub ranged-inside : (buffer : List ℕ) (kind a b flags : ℕ) → points (shape kind) ≡ true → ranged buffer (value kind a b flags) ≡ true → a + b ≤ length buffer
+ranged-inside buffer kind a b flags p h = leb-true (a + b) (length buffer) (rw p at h)
 
 -- a writable value in range has as many bytes as it says
-pub part-whole : (buffer : List ℕ) (kind a b : ℕ) → inFields (shape kind) a b ≡ true → ranged buffer (value kind a b) ≡ true → length (part buffer a b) ≡ b
-part-whole buffer kind a b h r =
+pub part-whole : (buffer : List ℕ) (kind a b flags : ℕ) → writableRecord (value kind a b flags) ≡ true → ranged buffer (value kind a b flags) ≡ true → length (part buffer a b) ≡ b
+part-whole buffer kind a b flags h r =
     shape-cases kind
-    (λ e is. unpointed (fields-in nothing a b (sym (field-at kind a b nothing is) ∙ h) .1))
-    (λ e is. unpointed (fields-in flag a b (sym (field-at kind a b flag is) ∙ h) .1))
-    (λ w l g is. unpointed (fields-in (integer w) a b (sym (field-at kind a b (integer w) is) ∙ h) .1))
-    (λ n l g is. part-length buffer a b (ranged-inside buffer kind a b (ap points is) r))
-    (λ l g is. part-length buffer a b (ranged-inside buffer kind a b (ap points is) r))
-    (λ l is. absurd (fields-in reserved a b (sym (field-at kind a b reserved is) ∙ h)))
+    (λ e is. unpointed (writable-fields kind a b flags h nothing is .1))
+    (λ e is. unpointed (writable-fields kind a b flags h flag is .1))
+    (λ w l g is. unpointed (writable-fields kind a b flags h (integer w) is .1))
+    (λ n l g is. part-length buffer a b (ranged-inside buffer kind a b flags (ap points is) r))
+    (λ l g is. part-length buffer a b (ranged-inside buffer kind a b flags (ap points is) r))
+    (λ l is. absurd (writable-fields kind a b flags h reserved is))
   where
     unpointed : b ≡ 0 → length (part buffer a b) ≡ b
     unpointed z = rw z
 
 -- and no more than the buffer
-pub part-small : (buffer : List ℕ) (kind a b : ℕ) → inFields (shape kind) a b ≡ true → ranged buffer (value kind a b) ≡ true → length buffer < 2 ^ 63 → b < 2 ^ 63
-part-small buffer kind a b h r l = omega (arith, simp (length-take, length-drop) at (part-whole buffer kind a b h r))
+pub part-small : (buffer : List ℕ) (kind a b flags : ℕ) → writableRecord (value kind a b flags) ≡ true → ranged buffer (value kind a b flags) ≡ true → length buffer < 2 ^ 63 → b < 2 ^ 63
+part-small buffer kind a b flags h r l = omega (arith, simp (length-take, length-drop) at (part-whole buffer kind a b flags h r))
 
 -- ---- the bytes, by the kind's number
 
-module _ (buffer : List ℕ) (k a b : ℕ) where
-  pub bytes-at : (sh : Shape) → shape k ≡ sh → valueBytes buffer (value k a b) ≡ dataBytes sh k a (part buffer a b)
-  bytes-at sh is = value-bytes buffer k a b ∙ ap (λ (x : Shape). dataBytes x k a (part buffer a b)) is
+module _ (buffer : List ℕ) (k a b flags : ℕ) where
+  pub bytes-at : (sh : Shape) → shape k ≡ sh → valueBytes buffer (value k a b flags) ≡ dataBytes sh (typeOf k flags) a (part buffer a b)
+  bytes-at sh is = value-bytes buffer k a b flags ∙ ap (λ (x : Shape). dataBytes x (typeOf k flags) a (part buffer a b)) is
 
-  -- null, whose unused number is 0, and bool
-  pub plain-bytes : k < 2 → inFields (shape k) a b ≡ true → (a < 2) × (valueBytes buffer (value k a b) ≡ (k + 16 * a) ∷ [])
+  -- null, whose unused number is 0, and bool, whose flags are
+  pub plain-bytes : k < 2 → writableRecord (value k a b flags) ≡ true
+      → (a < 2) × (flags < 16) × (typeOf k flags + 16 * a < 256) × (valueBytes buffer (value k a b flags) ≡ (typeOf k flags + 16 * a) ∷ [])
   plain-bytes h f =
       shape-plain k h
-      (λ e is. let z = fields-in nothing a b (sym (field-at k a b nothing is) ∙ f) in
-      (omega arith, bytes-at nothing is ∙ ap (λ (x : ℕ). x ∷ []) (omega arith)))
-      (λ e is. let z = fields-in flag a b (sym (field-at k a b flag is) ∙ f) in (z .0, bytes-at flag is))
+      (λ e is. let z = writable-fields k a b flags f nothing is in
+      let y = writable-flags k a b flags f nothing is in
+      (omega arith, y, omega arith, bytes-at nothing is ∙ ap (λ (x : ℕ). x ∷ []) (omega arith)))
+      (λ e is. let z = writable-fields k a b flags f flag is in
+      let y = writable-flags k a b flags f flag is in
+      (z .0, omega arith, omega arith, bytes-at flag is))
 
   -- a written value has its type byte
-  pub value-some : inFields (shape k) a b ≡ true → 1 ≤ length (valueBytes buffer (value k a b))
+  pub value-some : writableRecord (value k a b flags) ≡ true → 1 ≤ length (valueBytes buffer (value k a b flags))
   value-some f =
       shape-cases k
       (λ e is. rw (bytes-at nothing is) (omega arith))
@@ -134,19 +139,19 @@ module _ (buffer : List ℕ) (k a b : ℕ) where
       (λ w l g is. rw (bytes-at (integer w) is) (omega arith))
       (λ n l g is. rw (bytes-at (address n) is) (omega arith))
       (λ l g is. rw (bytes-at text is) (omega arith))
-      (λ l is. absurd (fields-in reserved a b (sym (field-at k a b reserved is) ∙ f)))
+      (λ l is. absurd (writable-fields k a b flags f reserved is))
 
 -- Law: a value's written form has at most eleven bytes beside those that it points at. By the table's lines: a type byte, and a number of
 -- at most ten.
-pub value-bound : (buffer : List ℕ) (k a b : ℕ) → length (valueBytes buffer (value k a b)) ≤ 11 + length (part buffer a b)
-value-bound buffer k a b =
+pub value-bound : (buffer : List ℕ) (k a b flags : ℕ) → length (valueBytes buffer (value k a b flags)) ≤ 11 + length (part buffer a b)
+value-bound buffer k a b flags =
     shape-cases k
-    (λ e is. rw (bytes-at buffer k a b _ is) (omega arith))
-    (λ e is. rw (bytes-at buffer k a b _ is) (omega arith))
-    (λ w l g is. rw (bytes-at buffer k a b _ is) (omega (arith, length-most a)))
-    (λ n l g is. rw (bytes-at buffer k a b _ is) (omega arith))
-    (λ l g is. rw (bytes-at buffer k a b _ is) (omega (arith, string-length (part buffer a b), length-most (length (part buffer a b)))))
-    (λ l is. rw (bytes-at buffer k a b _ is) (omega arith))
+    (λ e is. rw (bytes-at buffer k a b flags _ is) (omega arith))
+    (λ e is. rw (bytes-at buffer k a b flags _ is) (omega arith))
+    (λ w l g is. rw (bytes-at buffer k a b flags _ is) (omega (arith, length-most a)))
+    (λ n l g is. rw (bytes-at buffer k a b flags _ is) (omega arith))
+    (λ l g is. rw (bytes-at buffer k a b flags _ is) (omega (arith, string-length (part buffer a b), length-most (length (part buffer a b)))))
+    (λ l is. rw (bytes-at buffer k a b flags _ is) (omega arith))
 
 module _ (buffer : List ℕ) (v : Record) where
   pub form-unwritable : writableRecord v ≡ false → valueAnswer buffer v ≡ refused 14 0
@@ -163,54 +168,62 @@ module _ (buffer : List ℕ) (v : Record) where
 
 -- ---- what writing comes to, by the kind's number
 
-module _ (buffer : List ℕ) (k a b : ℕ) where
-  unpointed : k < 6 → ranged buffer (value k a b) ≡ true
+module _ (buffer : List ℕ) (k a b flags : ℕ) where
+  unpointed : k < 6 → ranged buffer (value k a b flags) ≡ true
   unpointed h = rw (points-no k h)
 
-  pub form-plain : k < 2 → inFields (shape k) a b ≡ true → valueAnswer buffer (value k a b) ≡ written ((k + 16 * a) ∷ [])
-  form-plain h f = form-whole buffer (value k a b) f (unpointed (omega arith)) ∙ ap (λ (s : List ℕ). written s) (plain-bytes buffer k a b h f .1)
+  pub form-plain : k < 2 → writableRecord (value k a b flags) ≡ true → valueAnswer buffer (value k a b flags) ≡ written ((typeOf k flags + 16 * a) ∷ [])
+  form-plain h f = form-whole buffer (value k a b flags) f (unpointed (omega arith)) ∙ ap (λ (s : List ℕ). written s) (plain-bytes buffer k a b flags h f .3)
 
-  pub form-integer : 2 ≤ k → k < 6 → inFields (shape k) a b ≡ true → valueAnswer buffer (value k a b) ≡ written (k ∷ numberBytes a)
+  pub form-integer : 2 ≤ k → k < 6 → writableRecord (value k a b flags) ≡ true → valueAnswer buffer (value k a b flags) ≡ written (typeOf k flags ∷ numberBytes a)
   form-integer l h f =
-      form-whole buffer (value k a b) f (unpointed h)
-      ∙ ap (λ (s : List ℕ). written s) (shape-integer k l h (λ w is. bytes-at buffer k a b (integer w) is))
+      form-whole buffer (value k a b flags) f (unpointed h)
+      ∙ ap (λ (s : List ℕ). written s) (shape-integer k l h (λ w is. bytes-at buffer k a b flags (integer w) is))
 
   -- a value that points has its bytes where they lie inside, as they are lent, and else none
-  module _ (sh : Shape) (is : shape k ≡ sh) (p : points sh ≡ true) (f : inFields sh a b ≡ true) where
-    fields : inFields (shape k) a b ≡ true
-    fields = field-at k a b sh is ∙ f
+  module _ (sh : Shape) (is : shape k ≡ sh) (p : points sh ≡ true) (g : Flags sh flags) (f : Fields sh a b) where
+    fields : writableRecord (value k a b flags) ≡ true
+    fields = in-record k a b flags sh is g f
 
-    range : ranged buffer (value k a b) ≡ inside buffer a b
+    range : ranged buffer (value k a b flags) ≡ inside buffer a b
     range = rw (ap points is ∙ p)
 
-    pointed : inside buffer a b ≡ true → valueAnswer buffer (value k a b) ≡ written (dataBytes sh k a (take (a + b - a) (drop a buffer)))
+    pointed : inside buffer a b ≡ true → valueAnswer buffer (value k a b flags) ≡ written (dataBytes sh (typeOf k flags) a (take (a + b - a) (drop a buffer)))
     pointed i =
-        form-whole buffer (value k a b) fields (range ∙ i)
-        ∙ ap (λ (s : List ℕ). written s) (bytes-at buffer k a b sh is)
-        ∙ ap (λ (s : List ℕ). written (dataBytes sh k a s)) (sym (part-lent buffer a b))
+        form-whole buffer (value k a b flags) fields (range ∙ i)
+        ∙ ap (λ (s : List ℕ). written s) (bytes-at buffer k a b flags sh is)
+        ∙ ap (λ (s : List ℕ). written (dataBytes sh (typeOf k flags) a s)) (sym (part-lent buffer a b))
 
-    beyond : inside buffer a b ≡ false → valueAnswer buffer (value k a b) ≡ refused 16 0
-    beyond i = form-outside buffer (value k a b) fields (range ∙ i)
+    beyond : inside buffer a b ≡ false → valueAnswer buffer (value k a b flags) ≡ refused 16 0
+    beyond i = form-outside buffer (value k a b flags) fields (range ∙ i)
+
+  -- numbers outside their fields, and flags of more than four bits
+  unfit : inFields (shape k) a b ≡ false → valueAnswer buffer (value k a b flags) ≡ refused 14 0
+  unfit h = form-unwritable buffer (value k a b flags) (rw h (and-false (inFlags (shape k) flags)))
+
+  pub form-flags : 6 ≤ k → 16 ≤ flags → valueAnswer buffer (value k a b flags) ≡ refused 14 0
+  form-flags l h = form-unwritable buffer (value k a b flags) (rw (flags-other k flags (λ e. omega arith) ∙ le-ltb flags 16 h))
 
   -- an address, by the length of its kind
   module _ (n : ℕ) (is : shape k ≡ address n) where
-    pub form-length : (b ≡ n → ⊥) → valueAnswer buffer (value k a b) ≡ refused 14 0
-    form-length other = form-unwritable buffer (value k a b) (field-at k a b (address n) is ∙ ne-eqb b n other)
+    pub form-length : (b ≡ n → ⊥) → valueAnswer buffer (value k a b flags) ≡ refused 14 0
+    form-length other = unfit (field-at k a b (address n) is ∙ ne-eqb b n other)
 
-    pub form-address : b ≡ n → inside buffer a n ≡ true → valueAnswer buffer (value k a b) ≡ written (k ∷ take (a + n - a) (drop a buffer))
-    form-address e i =
-        pointed (address n) is refl (in-fields (address n) a b e) (rw e i) ∙ ap (λ (m : ℕ). written (k ∷ take (a + m - a) (drop a buffer))) e
+    module _ (g : flags < 16) where
+      pub form-address : b ≡ n → inside buffer a n ≡ true → valueAnswer buffer (value k a b flags) ≡ written (typeOf k flags ∷ take (a + n - a) (drop a buffer))
+      form-address e i =
+          pointed (address n) is refl g e (rw e i) ∙ ap (λ (m : ℕ). written (typeOf k flags ∷ take (a + m - a) (drop a buffer))) e
 
-    pub form-address-outside : b ≡ n → inside buffer a n ≡ false → valueAnswer buffer (value k a b) ≡ refused 16 0
-    form-address-outside e i = beyond (address n) is refl (in-fields (address n) a b e) (rw e i)
+      pub form-address-outside : b ≡ n → inside buffer a n ≡ false → valueAnswer buffer (value k a b flags) ≡ refused 16 0
+      form-address-outside e i = beyond (address n) is refl g e (rw e i)
 
   -- a string or a binary
-  module _ (low : 8 ≤ k) (high : k < 10) (f : b < 2 ^ 64) where
-    pub form-text : inside buffer a b ≡ true → valueAnswer buffer (value k a b) ≡ written (k ∷ stringBytes (take (a + b - a) (drop a buffer)))
-    form-text i = pointed text (shape-text k low high) refl (in-fields text a b f) i
+  module _ (low : 8 ≤ k) (high : k < 10) (f : b < 2 ^ 64) (g : flags < 16) where
+    pub form-text : inside buffer a b ≡ true → valueAnswer buffer (value k a b flags) ≡ written (typeOf k flags ∷ stringBytes (take (a + b - a) (drop a buffer)))
+    form-text i = pointed text (shape-text k low high) refl g f i
 
-    pub form-text-outside : inside buffer a b ≡ false → valueAnswer buffer (value k a b) ≡ refused 16 0
-    form-text-outside i = beyond text (shape-text k low high) refl (in-fields text a b f) i
+    pub form-text-outside : inside buffer a b ≡ false → valueAnswer buffer (value k a b flags) ≡ refused 16 0
+    form-text-outside i = beyond text (shape-text k low high) refl g f i
 
-  pub form-reserved : 10 ≤ k → valueAnswer buffer (value k a b) ≡ refused 14 0
-  form-reserved h = form-unwritable buffer (value k a b) (field-at k a b reserved (shape-reserved k h))
+  pub form-reserved : 10 ≤ k → valueAnswer buffer (value k a b flags) ≡ refused 14 0
+  form-reserved h = unfit (field-at k a b reserved (shape-reserved k h))

@@ -16,8 +16,8 @@ stringChecks buffer start len =
 
 -- a value's range, and a string's text
 abbrev pub partChecks : List ℕ → Record → List Check
-partChecks buffer (value kind a b) =
-    (16, ranged buffer (value kind a b))
+partChecks buffer (value kind a b flags) =
+    (16, ranged buffer (value kind a b flags))
     ∷ (15, not (eqb kind 8) || isUtf8 (part buffer a b)) ∷ []
 
 -- the numbers of its record, and then these

@@ -9,9 +9,9 @@ use Rattle.types.specs.Value.{shape, Record, moved, content}
 use Rattle.types.specs.Form.{valueAnswer, lengthOf}
 use Rattle.types.specs.Promise.{recordOf}
 
--- What the reader of one kind is to answer: it is lent the type byte too, of which the kind is known and the flags do not matter.
-abbrev pub ReadsKind : ℕ → List ℕ → Answer Record → Type 0
-ReadsKind kind input a = (flags : ℕ) → a ≡ behind moved 1 (content (shape kind) kind flags (drop 1 input))
+-- What the reader of one kind is to answer: it is lent the type byte too, of which the kind and the flags are known.
+abbrev pub ReadsKind : ℕ → ℕ → List ℕ → Answer Record → Type 0
+ReadsKind kind flags input a = a ≡ behind moved 1 (content (shape kind) kind flags (drop 1 input))
 
 -- A writer inside, of what is to give the answer a: it counts the bytes, 0 where it refuses, and those lent to it, old before, are
 -- new afterwards.

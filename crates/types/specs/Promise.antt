@@ -22,9 +22,9 @@ abbrev pub textRead : Text → Answer Span
 textRead (t.Done start len used) = done (span start len) used
 textRead (t.Refused r) = refused (r .number) (r .place)
 
--- a value's three numbers
+-- a value's four numbers
 abbrev pub recordOf : Value → Record
-recordOf x = value (x .kind) (x .a) (x .b)
+recordOf x = value (x .kind) (x .a) (x .b) (x .flags)
 
 -- what the value reader's answer says
 abbrev pub typedRead : Typed → Answer Record

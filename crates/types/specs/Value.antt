@@ -16,7 +16,7 @@
 --     10 -> 15  unused/reserved
 --
 -- (The line of 5 is misprinted there as 32 bits, UNIT64.) The type is the low half of the first byte and the flags are the high
--- half, as the Rust has them. A boolean is the lowest flag.
+-- half, as the Rust has them. A boolean is the lowest flag; the flags of the other kinds are unused, and are kept.
 use mathlib.Core.Bool.{Bool, true, false, cond, _&&_}
 use mathlib.Core.List.{List, [], _∷_}
 use Prim.Native.Nat.{ℕ, _+_, _-_, _/_, _%_, _^_}
@@ -71,9 +71,9 @@ shape kind = getD shapes kind reserved
 
 -- ---- values
 
--- a value as the records of docs/RULES.md have it: its kind and two numbers
+-- a value as the records of docs/RULES.md have it: its kind, two numbers and its flags
 pub data Record : Type 0 where
-  value : ℕ → ℕ → ℕ → Record
+  value : ℕ → ℕ → ℕ → ℕ → Record
 
 -- whether the two numbers are a start and a length
 abbrev pub points : Shape → Bool
@@ -86,7 +86,7 @@ points reserved = false
 
 -- such a start moves
 abbrev pub moved : ℕ → Record → Record
-moved n (value kind a b) = value kind (cond (points (shape kind)) (n + a) a) b
+moved n (value kind a b flags) = value kind (cond (points (shape kind)) (n + a) a) b flags
 
 -- the low 32 bits, and where the highest of them is set, 32 ones above them
 unfoldable pub signExtended : ℕ → ℕ
@@ -97,26 +97,31 @@ narrowed signed32 n = signExtended n
 narrowed unsigned32 n = n % 2 ^ 32
 narrowed whole64 n = n
 
-abbrev pub spanned : ℕ → Span → Record
-spanned kind (span start len) = value kind start len
+abbrev pub spanned : ℕ → ℕ → Span → Record
+spanned kind flags (span start len) = value kind start len flags
 
--- The value whose DATA stands at the front. An address that is too short is 3 right after the type byte, which is here.
+-- The value whose DATA stands at the front, of the kind and with the flags of its type byte. A boolean has its lowest flag as its number
+-- and keeps none. An address that is too short is 3 right after the type byte, which is here.
 abbrev pub content : Shape → ℕ → ℕ → List ℕ → Answer Record
-content nothing kind flags s = done (value kind 0 0) 0
-content flag kind flags s = done (value kind (flags % 2) 0) 0
-content (integer w) kind flags s = next (number s) (λ n used. done (value kind (narrowed w n) 0) used)
-content (address n) kind flags s = cond (leb n (length s)) (done (value kind 0 n) n) (refused 3 0)
-content text kind flags s = next (string s) (λ p used. done (spanned kind p) used)
+content nothing kind flags s = done (value kind 0 0 flags) 0
+content flag kind flags s = done (value kind (flags % 2) 0 0) 0
+content (integer w) kind flags s = next (number s) (λ n used. done (value kind (narrowed w n) 0 flags) used)
+content (address n) kind flags s = cond (leb n (length s)) (done (value kind 0 n flags) n) (refused 3 0)
+content text kind flags s = next (string s) (λ p used. done (spanned kind flags p) used)
 content reserved kind flags s = refused 8 0
+
+-- a type byte's upper four bits
+abbrev pub upper : ℕ → ℕ
+upper b = b / 16 % 16
 
 -- The value at the front: its type byte, and its DATA behind that.
 unfoldable pub typed : List ℕ → Answer Record
 typed [] = refused 3 0
-typed (b ∷ s) = behind moved 1 (content (shape (b % 16)) (b % 16) (b / 16) s)
+typed (b ∷ s) = behind moved 1 (content (shape (b % 16)) (b % 16) (upper b) s)
 
 -- ---- fields
 
--- Whether a kind's two numbers lie in their fields: where not, it is 14 (docs/RULES.md). An unused number is 0, an i32's number is its
+-- Whether a kind's numbers lie in their fields: where not, it is 14 (docs/RULES.md). An unused number is 0, an i32's number is its
 -- sign extension to 64 bits, an address has its length, and no integer or length passes 64 bits. A start has no field of its own: one
 -- that is too large points outside, which is 16.
 abbrev pub inWidth : Width → ℕ → Bool
@@ -131,3 +136,12 @@ inFields (integer w) a b = inWidth w a && eqb b 0
 inFields (address n) a b = eqb b n
 inFields text a b = ltb b (2 ^ 64)
 inFields reserved a b = false
+
+-- The flags are four bits, and none where they are the boolean itself.
+abbrev pub inFlags : Shape → ℕ → Bool
+inFlags nothing flags = ltb flags 16
+inFlags flag flags = eqb flags 0
+inFlags (integer w) flags = ltb flags 16
+inFlags (address n) flags = ltb flags 16
+inFlags text flags = ltb flags 16
+inFlags reserved flags = ltb flags 16

@@ -5,7 +5,7 @@ use answer::NOT_WRITABLE;
 use answer::OUTSIDE;
 ghost use mathlib.Core.Path.{_≡_};
 ghost use Prim.Native.Nat.{_<_};
-ghost use Rattle.types.specs.Value.{shape, inFields};
+ghost use Rattle.types.specs.Value.{shape, inFields, inFlags};
 ghost use Rattle.types.specs.Form.{inside, ranged};
 ghost use Rattle.types.specs.Promise.{recordOf, Writable, CheckString, CheckPart, CheckValue};
 
@@ -13,18 +13,37 @@ ghost use Rattle.types.specs.Promise.{recordOf, Writable, CheckString, C
 pub fn writable(value: Value) -> bool
     ensures { λ r. ⌜ Writable value r ⌝ }
 {
-    let kind = value.kind;
+    if !in_flags(value.kind, value.flags) {
+        return false;
+    }
+    in_fields(value.kind, value.a, value.b)
+}
+
+// Whether the flags are four bits, and none of a boolean.
+pub(crate) fn in_flags(kind: u64, flags: u64) -> bool
+    ensures { λ r. ⌜ r ≡ inFlags (shape kind) flags ⌝ }
+{
+    if kind == 1 {
+        return flags == 0;
+    }
+    flags < 16
+}
+
+// Whether the other two numbers lie in their fields.
+fn in_fields(kind: u64, a: u64, b: u64) -> bool
+    ensures { λ r. ⌜ r ≡ inFields (shape kind) a b ⌝ }
+{
     if kind < 6 {
-        if value.b != 0 {
+        if b != 0 {
             return false;
         }
-        return in_field(kind, value.a);
+        return in_field(kind, a);
     }
     if kind == 6 {
-        return value.b == 4;
+        return b == 4;
     }
     if kind == 7 {
-        return value.b == 16;
+        return b == 16;
     }
     kind < 10
 }

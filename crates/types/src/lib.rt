@@ -28,13 +28,18 @@ pub enum Text {
     Refused(Refusal),
 }
 
-// A value as the records have it: its kind and two numbers, as docs/RULES.md sets them out for each kind.
+// A value as the records have it: its kind and two numbers, as docs/RULES.md sets them out for each kind, and the flags of its type byte, the
+// upper four bits, which a boolean has as its number.
 #[repr(C)]
 pub struct Value {
     pub kind: u64,
     pub a: u64,
     pub b: u64,
+    pub flags: u64,
 }
+
+// How many numbers that are.
+pub const VALUE_WIDTH: usize = 4;
 
 // What the value reader answers.
 pub enum Typed {

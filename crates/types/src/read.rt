@@ -50,30 +50,40 @@ pub fn typed_data(input: &[u8]) -> Typed
     }
     let first = input[0];
     let kind = (first % 16) as u64;
+    let flags = (first / 16 % 16) as u64;
     if kind == 0 {
         return Typed::Done {
-            value: Value { kind, a: 0, b: 0 },
+            value: Value {
+                kind,
+                a: 0,
+                b: 0,
+                flags,
+            },
             used: 1,
         };
     }
     if kind == 1 {
-        let a = (first / 16 % 2) as u64;
         return Typed::Done {
-            value: Value { kind, a, b: 0 },
+            value: Value {
+                kind,
+                a: flags % 2,
+                b: 0,
+                flags: 0,
+            },
             used: 1,
         };
     }
     if kind < 6 {
-        return read_integer(kind, input);
+        return read_integer(kind, flags, input);
     }
     if kind == 6 {
-        return read_address(6, 4, input);
+        return read_address(6, 4, flags, input);
     }
     if kind == 7 {
-        return read_address(7, 16, input);
+        return read_address(7, 16, flags, input);
     }
     if kind < 10 {
-        return read_bytes(kind, input);
+        return read_bytes(kind, flags, input);
     }
     Typed::Refused(Refusal {
         number: NO_TYPE,
@@ -82,10 +92,10 @@ pub fn typed_data(input: &[u8]) -> Typed
 }
 
 // Reads the number behind the type byte, of a kind that is an integer.
-fn read_integer(kind: u64, input: &[u8]) -> Typed
+fn read_integer(kind: u64, flags: u64, input: &[u8]) -> Typed
     requires { ⌜ 0 < length (now input) ⌝ }
     requires { ⌜ (2 ≤ kind) × (kind < 6) ⌝ }
-    ensures { λ r. ⌜ ReadsKind kind (now (input .entry)) (typedRead r) ⌝ }
+    ensures { λ r. ⌜ ReadsKind kind flags (now (input .entry)) (typedRead r) ⌝ }
 {
     match varint::decode_varint(&input[1..]) {
         Number::Refused(r) => {
@@ -99,7 +109,12 @@ fn read_integer(kind: u64, input: &[u8]) -> Typed
             let a = narrow(kind, value);
             let taken = 1 + used;
             return Typed::Done {
-                value: Value { kind, a, b: 0 },
+                value: Value {
+                    kind,
+                    a,
+                    b: 0,
+                    flags,
+                },
                 used: taken,
             };
         },
@@ -121,10 +136,10 @@ fn narrow(kind: u64, n: u64) -> u64
 }
 
 // Finds the address of len bytes behind the type byte.
-fn read_address(kind: u64, len: usize, input: &[u8]) -> Typed
+fn read_address(kind: u64, len: usize, flags: u64, input: &[u8]) -> Typed
     requires { ⌜ 0 < length (now input) ⌝ }
     requires { ⌜ shape kind ≡ address len ⌝ }
-    ensures { λ r. ⌜ ReadsKind kind (now (input .entry)) (typedRead r) ⌝ }
+    ensures { λ r. ⌜ ReadsKind kind flags (now (input .entry)) (typedRead r) ⌝ }
 {
     if input.len() - 1 < len {
         return Typed::Refused(Refusal {
@@ -138,16 +153,17 @@ fn read_address(kind: u64, len: usize, input: &[u8]) -> Typed
             kind,
             a: 1,
             b: len as u64,
+            flags,
         },
         used: taken,
     }
 }
 
 // Finds the bytes of a string or a binary behind the type byte.
-fn read_bytes(kind: u64, input: &[u8]) -> Typed
+fn read_bytes(kind: u64, flags: u64, input: &[u8]) -> Typed
     requires { ⌜ 0 < length (now input) ⌝ }
     requires { ⌜ shape kind ≡ text ⌝ }
-    ensures { λ r. ⌜ ReadsKind kind (now (input .entry)) (typedRead r) ⌝ }
+    ensures { λ r. ⌜ ReadsKind kind flags (now (input .entry)) (typedRead r) ⌝ }
 {
     match read_string(&input[1..]) {
         Text::Refused(r) => {
@@ -165,6 +181,7 @@ fn read_bytes(kind: u64, input: &[u8]) -> Typed
                     kind,
                     a,
                     b: len as u64,
+                    flags,
                 },
                 used: taken,
             };

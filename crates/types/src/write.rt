@@ -17,7 +17,7 @@ ghost use lib.ListN.{length};
 ghost use Rattle.answer.specs.Answer.{written};
 ghost use Rattle.varint.specs.Number.{numberBytes};
 ghost use Rattle.types.specs.Value.{address, shape};
-ghost use Rattle.types.specs.Form.{stringBytes, dataBytes, writableRecord};
+ghost use Rattle.types.specs.Form.{stringBytes, dataBytes, typeOf, writableRecord};
 ghost use Rattle.types.specs.Promise.{recordOf, ValueLen, WriteString, WriteValue};
 ghost use Rattle.types.specs.Inner.{Puts, PutsValue, WhyNot};
 
@@ -38,7 +38,7 @@ pub fn value_len(value: Value, buffer: &[u8]) -> usize
 fn form_len(value: Value) -> usize
     requires { ⌜ writableRecord (recordOf value) ≡ true ⌝ }
     requires { ⌜ value .b < 2 ^ 63 ⌝ }
-    ensures { λ r. ⌜ ((bytes : List ℕ) → length bytes ≡ value .b → r ≡ length (dataBytes (shape (value .kind)) (value .kind) (value .a) bytes)) ⌝ }
+    ensures { λ r. ⌜ ((bytes : List ℕ) → length bytes ≡ value .b → r ≡ length (dataBytes (shape (value .kind)) (typeOf (value .kind) (value .flags)) (value .a) bytes)) ⌝ }
 {
     let kind = value.kind;
     if kind < 2 {
@@ -121,6 +121,9 @@ fn put_value(value: Value, buffer: &[u8], out: &mut [u8]) -> usize
     if kind < 6 {
         return put_integer(value, out);
     }
+    if 16 <= value.flags {
+        return 0;
+    }
     if kind == 6 {
         return put_address(value, 4, buffer, out);
     }
@@ -144,7 +147,7 @@ fn put_plain(value: Value, out: &mut [u8]) -> usize
     if out.len() == 0 {
         return 0;
     }
-    out[0] = (value.kind + 16 * value.a) as u8;
+    out[0] = (value.kind + 16 * value.flags + 16 * value.a) as u8;
     1
 }
 
@@ -159,14 +162,14 @@ fn put_integer(value: Value, out: &mut [u8]) -> usize
     if !number_fits(value.a, out.len()) {
         return 0;
     }
-    out[0] = value.kind as u8;
+    out[0] = type_byte(value.kind, value.flags);
     1 + answer::wrote(varint::encode_varint(value.a, &mut out[1..]))
 }
 
 // The same of an address of len bytes, which each caller says outright, so that the copy has a fixed length.
 fn put_address(value: Value, len: usize, buffer: &[u8], out: &mut [u8]) -> usize
     requires { ⌜ shape (value .kind) ≡ address len ⌝ }
-    requires { ⌜ (value .kind < 8) × (len ≤ 16) ⌝ }
+    requires { ⌜ (value .kind < 8) × (len ≤ 16) × (value .flags < 16) ⌝ }
     ensures { λ r. ⌜ PutsValue value (now (buffer .entry)) r (now (out .entry)) (now (out .exit)) ⌝ }
 {
     if value.b != len as u64 {
@@ -178,7 +181,7 @@ fn put_address(value: Value, len: usize, buffer: &[u8], out: &mut [u8]) -> usize
     if out.len() <= len {
         return 0;
     }
-    out[0] = value.kind as u8;
+    out[0] = type_byte(value.kind, value.flags);
     let from = value.a as usize;
     let to = from + len;
     1 + put_few(&buffer[from..to], &mut out[1..])
@@ -186,7 +189,7 @@ fn put_address(value: Value, len: usize, buffer: &[u8], out: &mut [u8]) -> usize
 
 // The same of a string or a binary.
 fn put_text(value: Value, buffer: &[u8], out: &mut [u8]) -> usize
-    requires { ⌜ (8 ≤ value .kind) × (value .kind < 10) ⌝ }
+    requires { ⌜ (8 ≤ value .kind) × (value .kind < 10) × (value .flags < 16) ⌝ }
     ensures { λ r. ⌜ PutsValue value (now (buffer .entry)) r (now (out .entry)) (now (out .exit)) ⌝ }
 {
     let b = value.b;
@@ -200,10 +203,18 @@ fn put_text(value: Value, buffer: &[u8], out: &mut [u8]) -> usize
     if !number_fits(b, out.len() - len) {
         return 0;
     }
-    out[0] = value.kind as u8;
+    out[0] = type_byte(value.kind, value.flags);
     let from = value.a as usize;
     let to = from + len;
     1 + put_string(&buffer[from..to], &mut out[1..])
+}
+
+// The type byte of a kind other than a boolean.
+fn type_byte(kind: u64, flags: u64) -> u8
+    requires { ⌜ (kind < 16) × (flags < 16) ⌝ }
+    ensures { λ r. ⌜ r ≡ typeOf kind flags ⌝ }
+{
+    (kind + 16 * flags) as u8
 }
 
 // Whether a type byte and the written form of n have at most `room` bytes. Eleven are always enough, and spare the measuring.

@@ -58,7 +58,7 @@ formed-passed buffer p e =
     record {
       fields = one .0;
       key = string-range buffer (p .start) (p .len) key;
-      range = part-passed buffer (v .kind) (v .a) (v .b) (sym (pair-part buffer p (one .0) key) ∙ e) .0;
+      range = part-passed buffer (v .kind) (v .a) (v .b) (v .flags) (sym (pair-part buffer p (one .0) key) ∙ e) .0;
     }
 
 -- ---- its bytes

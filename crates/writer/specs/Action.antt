@@ -27,15 +27,15 @@ actionBytes buffer x =
     (1 ∷ 3 ∷ x .scope ∷ pairBytes buffer (x .pair))
     (2 ∷ 2 ∷ x .scope ∷ stringBytes (keyOf buffer (x .pair)))
 
--- three numbers that are 0
+-- four numbers that are 0
 abbrev pub noValue : Record → Bool
-noValue (value kind a b) = eqb kind 0 && (eqb a 0 && eqb b 0)
+noValue (value kind a b flags) = eqb kind 0 && (eqb a 0 && (eqb b 0 && eqb flags 0))
 
 -- a scope from 0 to 4, and a set with any value or an unset with none
 unfoldable pub actionWritable : Action → Bool
 actionWritable x = leb (x .scope) 4 && (eqb (x .verb) 1 || (eqb (x .verb) 2 && noValue (recordOf (x .pair .value))))
 
--- its own numbers, and then as a pair: an unset's three numbers are those of a null, which is refused with none
+-- its own numbers, and then as a pair: an unset's numbers are those of a null without flags, which is refused with none
 abbrev pub actionChecks : List ℕ → Action → List Check
 actionChecks buffer x = (14, actionWritable x) ∷ pairChecks buffer (x .pair)
 

@@ -48,12 +48,13 @@ fn action_at(actions: &[u64], i: usize) -> Action
                 kind: actions[at + 4],
                 a: actions[at + 5],
                 b: actions[at + 6],
+                flags: actions[at + 7],
             },
         },
     }
 }
 
-// Whether a value's three numbers are 0.
+// Whether a value's four numbers are 0.
 fn no_value(value: Value) -> bool
     ensures { λ r. ⌜ r ≡ noValue (recordOf value) ⌝ }
 {
@@ -63,7 +64,10 @@ fn no_value(value: Value) -> bool
     if value.a != 0 {
         return false;
     }
-    value.b == 0
+    if value.b != 0 {
+        return false;
+    }
+    value.flags == 0
 }
 
 // Whether an action's own numbers lie in their fields.

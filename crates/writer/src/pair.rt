@@ -27,6 +27,7 @@ pub(crate) fn pair_at(pairs: &[u64], i: usize) -> Pair
             kind: pairs[at + 2],
             a: pairs[at + 3],
             b: pairs[at + 4],
+            flags: pairs[at + 5],
         },
     }
 }

@@ -1,4 +1,4 @@
--- `spop::spop_value_len` meets its contract: the record is the three lent numbers.
+-- `spop::spop_value_len` meets its contract: the record is the lent numbers.
 -- Assumes nothing.
 use mathlib.Core.Path.{ap, _∙_}
 use borrow.Author.Needs.{needs}

@@ -1,4 +1,4 @@
--- `spop::spop_write_value` meets its contract: the record is the three lent numbers, what the writer answers is told, and what it
+-- `spop::spop_write_value` meets its contract: the record is the lent numbers, what the writer answers is told, and what it
 -- leaves is left.
 -- Assumes nothing.
 use mathlib.Core.Path.{ap, subst}

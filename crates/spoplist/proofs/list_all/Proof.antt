@@ -8,6 +8,7 @@ use Prim.Native.Nat.{ℕ, _-_, _/_, _≤_}
 use native.Mathlib.Omega.{arith}
 use lib.ListN.{length, drop, length-drop}
 use Rattle.answer.proofs.Output.{lent-tail}
+use Rattle.frame.specs.Records.{messageWidth, pairWidth}
 use Rattle.parser.specs.Promise.{roomsOf}
 use Rattle.spoplist.proofs.Stopping.{Taken, Stopping, stopping-none, stopping-on, stopping-stop, stopping-over}
 use Rattle.spoplist.specs.Inner.{limit, Takes}
@@ -23,7 +24,7 @@ abbrev μ-loop : tie.MeasureT-loop
 
 -- rooms go by lengths
 rooms-same : (m n p q : List ℕ) → length m ≡ length n → length p ≡ length q → roomsOf m p ≡ roomsOf n q
-rooms-same m n p q e f = ap₂ (λ (a b : ℕ). record { messages = a / 4; pairs = b / 5 }) e f
+rooms-same m n p q e f = ap₂ (λ (a b : ℕ). record { messages = a / messageWidth; pairs = b / pairWidth }) e f
 
 -- what was answered of the bytes that are left, with the rooms that there were at first
 left : (c : tie.After-list-next Inv-loop μ-loop)

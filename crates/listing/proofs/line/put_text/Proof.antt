@@ -17,22 +17,22 @@ use Rattle.listing.proofs.line.put_text.Statement.{statement}
 use Rattle.listing.proofs.line.put_text.Tie as tie
 
 low : (c : tie.Else4) → c .before .before .before .before .before .before .args .value .kind < 10
-low c = let v = c .before .before .before .before .before .before .args .value in omega (arith, writable-kind (v .kind) (v .a) (v .b) (c .before .before .before .before .before .before .pre .0 .fields))
+low c = let v = c .before .before .before .before .before .before .args .value in omega (arith, writable-kind (v .kind) (v .a) (v .b) (v .flags) (c .before .before .before .before .before .before .pre .0 .fields))
 
 inside-frame : (c : tie.Else4) → c .before .before .before .before .before .before .args .value .a + c .before .before .before .before .before .before .args .value .b ≤ length (c .before .before .before .before .before .before .args .frame .now)
 inside-frame c =
     let v = c .before .before .before .before .before .before .args .value in
-    range-in (c .before .before .before .before .before .before .args .frame .now) (v .kind) (v .a) (v .b) (c .if4 .left) (low c) (c .before .before .before .before .before .before .pre .0 .range)
+    range-in (c .before .before .before .before .before .before .args .frame .now) (v .kind) (v .a) (v .b) (v .flags) (c .if4 .left) (low c) (c .before .before .before .before .before .before .pre .0 .range)
 
 bytes : (c : tie.Else4)
     → let v = c .before .before .before .before .before .before .args .value in
     valueText (c .before .before .before .before .before .before .args .frame .now) (recordOf v) ≡ shown (part (c .before .before .before .before .before .before .args .frame .now) (v .a) (v .b))
 bytes c =
     let v = c .before .before .before .before .before .before .args .value in
-    text-bytes (c .before .before .before .before .before .before .args .frame .now) (v .kind) (v .a) (v .b) (c .if4 .left) (low c)
+    text-bytes (c .before .before .before .before .before .before .args .frame .now) (v .kind) (v .a) (v .b) (v .flags) (c .if4 .left) (low c)
 
 slice-write-out : tie.Need-slice-write-out
-slice-write-out c = let a = c .before .before .before in let v = a .args .value in omega (arith, a .pre .1, ap length (text-null (a .args .frame .now) (v .kind) (v .a) (v .b) (c .if1 .taken)))
+slice-write-out c = let a = c .before .before .before in let v = a .args .value in omega (arith, a .pre .1, ap length (text-null (a .args .frame .now) (v .kind) (v .a) (v .b) (v .flags) (c .if1 .taken)))
 
 same-length : tie.Need-same-length
 same-length c = search needs
@@ -40,35 +40,35 @@ same-length c = search needs
 returns : tie.Need-returns
 returns c = let a = c .before .before .before in
     let v = a .args .value in
-    let e = text-null (a .args .frame .now) (v .kind) (v .a) (v .b) (c .if1 .taken) in
+    let e = text-null (a .args .frame .now) (v .kind) (v .a) (v .b) (v .flags) (c .if1 .taken) in
     rw e (record { counts = refl; holds = leaves-byte dash (a .args .out .now) (omega (arith, a .pre .1, ap length e)) })
 
 put-signed-requires : tie.Need-put-signed-requires
-put-signed-requires c κs = let a = c .before .before .before .before .before in let v = a .args .value in rw (text-signed32 (a .args .frame .now) (v .kind) (v .a) (v .b) (c .before .if2 .taken)) at (a .pre .1)
+put-signed-requires c κs = let a = c .before .before .before .before .before in let v = a .args .value in rw (text-signed32 (a .args .frame .now) (v .kind) (v .a) (v .b) (v .flags) (c .before .if2 .taken)) at (a .pre .1)
 
 same-length-2 : tie.Need-same-length-2
 same-length-2 c = search needs
 
 returns-2 : tie.Need-returns-2
-returns-2 c = let a = c .before .before .before .before .before .before .before .before in let v = a .args .value in rw (text-signed32 (a .args .frame .now) (v .kind) (v .a) (v .b) (c .before .before .before .before .if2 .taken)) (c .before .before .put-signed .ensures)
+returns-2 c = let a = c .before .before .before .before .before .before .before .before in let v = a .args .value in rw (text-signed32 (a .args .frame .now) (v .kind) (v .a) (v .b) (v .flags) (c .before .before .before .before .if2 .taken)) (c .before .before .put-signed .ensures)
 
 put-signed-requires-2 : tie.Need-put-signed-requires-2
-put-signed-requires-2 c κs = let a = c .before .before .before .before .before .before in let v = a .args .value in rw (text-signed64 (a .args .frame .now) (v .kind) (v .a) (v .b) (c .before .if3 .taken)) at (a .pre .1)
+put-signed-requires-2 c κs = let a = c .before .before .before .before .before .before in let v = a .args .value in rw (text-signed64 (a .args .frame .now) (v .kind) (v .a) (v .b) (v .flags) (c .before .if3 .taken)) at (a .pre .1)
 
 same-length-3 : tie.Need-same-length-3
 same-length-3 c = search needs
 
 returns-3 : tie.Need-returns-3
-returns-3 c = let a = c .before .before .before .before .before .before .before .before .before in let v = a .args .value in rw (text-signed64 (a .args .frame .now) (v .kind) (v .a) (v .b) (c .before .before .before .before .if3 .taken)) (c .before .before .put-signed2 .ensures)
+returns-3 c = let a = c .before .before .before .before .before .before .before .before .before in let v = a .args .value in rw (text-signed64 (a .args .frame .now) (v .kind) (v .a) (v .b) (v .flags) (c .before .before .before .before .if3 .taken)) (c .before .before .put-signed2 .ensures)
 
 put-digits-requires : tie.Need-put-digits-requires
-put-digits-requires c κs = let a = c .before .before .before .before .before .before .before in let v = a .args .value in rw (text-number (a .args .frame .now) (v .kind) (v .a) (v .b) (c .before .before .before .before .if1 .left) (c .before .before .before .if2 .left) (c .before .before .if3 .left) (c .before .if4 .taken)) at (a .pre .1)
+put-digits-requires c κs = let a = c .before .before .before .before .before .before .before in let v = a .args .value in rw (text-number (a .args .frame .now) (v .kind) (v .a) (v .b) (v .flags) (c .before .before .before .before .if1 .left) (c .before .before .before .if2 .left) (c .before .before .if3 .left) (c .before .if4 .taken)) at (a .pre .1)
 
 same-length-4 : tie.Need-same-length-4
 same-length-4 c = search needs
 
 returns-4 : tie.Need-returns-4
-returns-4 c = let a = c .before .before .before .before .before .before .before .before .before .before in let v = a .args .value in rw (text-number (a .args .frame .now) (v .kind) (v .a) (v .b) (c .before .before .before .before .before .before .before .if1 .left) (c .before .before .before .before .before .before .if2 .left) (c .before .before .before .before .before .if3 .left) (c .before .before .before .before .if4 .taken)) (c .before .before .put-digits .ensures)
+returns-4 c = let a = c .before .before .before .before .before .before .before .before .before .before in let v = a .args .value in rw (text-number (a .args .frame .now) (v .kind) (v .a) (v .b) (v .flags) (c .before .before .before .before .before .before .before .if1 .left) (c .before .before .before .before .before .before .if2 .left) (c .before .before .before .before .before .if3 .left) (c .before .before .before .before .if4 .taken)) (c .before .before .put-digits .ensures)
 
 add-to : tie.Need-add-to
 add-to c = omega (arith, inside-frame c, c .before .before .before .before .before .before .good)

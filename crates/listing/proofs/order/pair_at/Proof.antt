@@ -1,4 +1,4 @@
--- `listing::order::pair_at` meets its contract: five reads.
+-- `listing::order::pair_at` meets its contract: six reads.
 -- Assumes nothing.
 use borrow.Author.Needs.{needs}
 use native.Mathlib.Nat.{add-zero}
@@ -14,6 +14,9 @@ pub pair-at-spec : {M : Type 1} → statement M
 pair-at-spec =
     tie.close
     (tie.spec
+    (λ c. search needs)
+    (λ c. search needs)
+    (λ c. search needs)
     (λ c. search needs)
     (λ c. search needs)
     (λ c. search needs)

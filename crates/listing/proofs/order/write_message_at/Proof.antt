@@ -5,7 +5,7 @@ use native.Mathlib.Omega.{arith}
 use lib.ListN.{length}
 use borrow.Author.Tests.{le-leb, lt-leb}
 use Rattle.answer.specs.Answer.{written}
-use Rattle.frame.specs.Records.{messageAt}
+use Rattle.frame.specs.Records.{messageWidth, messageAt}
 use Rattle.listing.specs.Lines.{messageLine}
 use Rattle.listing.specs.Check.{messageChecks}
 use Rattle.listing.specs.Order.{behindMessage}
@@ -20,7 +20,7 @@ returns c = let a = c .before .before .before .before .args in
     let x = messageAt (a .messages .now) k in
     comes-refused 16 _ (a .out .now)
     (after-fails 16 _ (messageChecks (a .frame .now) x) (written (messageLine k (a .frame .now) x))
-    (lt-leb ((k + 1) * 4) (length (a .messages .now)) (omega (arith, c .if1 .taken))) (λ z. omega arith))
+    (lt-leb ((k + 1) * messageWidth) (length (a .messages .now)) (omega (arith, c .if1 .taken))) (λ z. omega arith))
 
 message-at-requires : tie.Need-message-at-requires
 message-at-requires c κs = search needs
@@ -42,7 +42,7 @@ returns-2 c = let a = c .before .before .before .before .before .before .before 
     let k = a .place .messages in
     let x = messageAt (a .messages .now) k in
     comes-line {answer = c .before .before .before .write-message-line .result} (behindMessage (a .place) (x .count))
-    (rw (after-holds 16 _ (messageChecks (a .frame .now) x) (written (messageLine k (a .frame .now) x)) (le-leb ((k + 1) * 4) (length (a .messages .now)) (omega (arith, c .before .before .before .before .before .before .if1 .left))))
+    (rw (after-holds 16 _ (messageChecks (a .frame .now) x) (written (messageLine k (a .frame .now) x)) (le-leb ((k + 1) * messageWidth) (length (a .messages .now)) (omega (arith, c .before .before .before .before .before .before .if1 .left))))
     (rw (c .before .before .before .before .before .message-at .ensures) at (c .before .before .before .write-message-line .ensures)))
     (rw (c .before .before .before .before .before .message-at .ensures) at (c .step .ensures))
 

@@ -5,7 +5,7 @@ use native.Mathlib.Omega.{arith}
 use lib.ListN.{length}
 use borrow.Author.Tests.{le-leb, lt-leb}
 use Rattle.answer.specs.Answer.{written}
-use Rattle.frame.specs.Records.{pairAt}
+use Rattle.frame.specs.Records.{pairWidth, pairAt}
 use Rattle.listing.specs.Lines.{pairLine}
 use Rattle.listing.specs.Check.{pairChecks}
 use Rattle.listing.specs.Order.{behindPair}
@@ -20,7 +20,7 @@ returns c = let a = c .before .before .before .before .args in
     let x = pairAt (a .pairs .now) k in
     comes-refused 16 _ (a .out .now)
     (after-fails 16 _ (pairChecks (a .frame .now) x) (written (pairLine k (a .frame .now) x))
-    (lt-leb ((k + 1) * 5) (length (a .pairs .now)) (omega (arith, c .if1 .taken))) (λ z. omega arith))
+    (lt-leb ((k + 1) * pairWidth) (length (a .pairs .now)) (omega (arith, c .if1 .taken))) (λ z. omega arith))
 
 pair-at-requires : tie.Need-pair-at-requires
 pair-at-requires c κs = search needs
@@ -45,7 +45,7 @@ returns-2 c = let a = c .before .before .before .before .before .before .before 
     let k = a .place .pairs in
     let x = pairAt (a .pairs .now) k in
     comes-line {answer = c .before .before .before .before .write-pair-line .result} (behindPair (a .place))
-    (rw (after-holds 16 _ (pairChecks (a .frame .now) x) (written (pairLine k (a .frame .now) x)) (le-leb ((k + 1) * 5) (length (a .pairs .now)) (omega (arith, c .before .before .before .before .before .before .before .if1 .left))))
+    (rw (after-holds 16 _ (pairChecks (a .frame .now) x) (written (pairLine k (a .frame .now) x)) (le-leb ((k + 1) * pairWidth) (length (a .pairs .now)) (omega (arith, c .before .before .before .before .before .before .before .if1 .left))))
     (rw (c .before .before .before .before .before .before .pair-at .ensures) at (c .before .before .before .before .write-pair-line .ensures)))
     (rw (c .before .less .ensures) at (c .step .ensures))
 

@@ -8,7 +8,7 @@ use Prim.Native.Nat.{ℕ, _+_, _-_, _*_, _≤_, _<_}
 use native.Mathlib.Omega.{arith}
 use lib.ListN.{length, take, drop, getD}
 use Rattle.answer.specs.Answer.{written, leaves}
-use Rattle.frame.specs.Records.{messageNumbers}
+use Rattle.frame.specs.Records.{messageWidth, messageNumbers, pairWidth}
 use Rattle.parser.specs.declared.State.{State}
 use Rattle.parser.specs.Promise.{roomsOf}
 use Rattle.parser.specs.Inner.{afterPair, afterMessage, Accepted}
@@ -44,7 +44,7 @@ due : (p : tie.Then2 Inv-loop μ-loop) → start (loop p) .args .kv || ltb 0 (lo
 due p = sym (p .before .pair-next .ensures) ∙ p .if2 .taken
 
 room : (p : tie.Then2 Inv-loop μ-loop)
-    → (loop p .loop .state .pairs * 5 + 5 ≤ length (start (loop p) .args .pairs .now)) × (length (loop p .loop .pairs) ≡ length (start (loop p) .args .pairs .now))
+    → (loop p .loop .state .pairs * pairWidth + pairWidth ≤ length (start (loop p) .args .pairs .now)) × (length (loop p .loop .pairs) ≡ length (start (loop p) .args .pairs .now))
 room p = let l = loop p in (pair-room (l .loop .inv) (accepted l) (p .before .before .if1 .taken) (due p), filled-length (l .loop .inv .in-pairs))
 
 mul-from : tie.Need-mul-from Inv-loop μ-loop
@@ -82,7 +82,7 @@ filled : (k : tie.After-fill-pair Inv-loop μ-loop)
     let l = loop p in
     let a = start l .args in
     let n = pair-next (l .loop .inv) (accepted l) (p .before .before .if1 .taken) (due p) in
-    let tail = take (length (l .loop .pairs) - l .loop .state .pairs * 5) (drop (l .loop .state .pairs * 5) (l .loop .pairs)) in
+    let tail = take (length (l .loop .pairs) - l .loop .state .pairs * pairWidth) (drop (l .loop .state .pairs * pairWidth) (l .loop .pairs)) in
     (k .fill-pair .result ≡ afterPair (l .loop .state) (n .end))
     × (k .fill-pair .last .1 .1 .1 .0 ≡ leaves (written (pairBehind (a .base) (n .taken .pair))) tail)
 filled k =
@@ -114,7 +114,7 @@ not-due : (p : tie.Else2 Inv-loop μ-loop) → start (loop-2 p) .args .kv || ltb
 not-due p = sym (p .before .pair-next .ensures) ∙ p .if2 .left
 
 room-2 : (p : tie.Else2 Inv-loop μ-loop)
-    → (loop-2 p .loop .state .messages * 4 + 4 ≤ length (start (loop-2 p) .args .messages .now))
+    → (loop-2 p .loop .state .messages * messageWidth + messageWidth ≤ length (start (loop-2 p) .args .messages .now))
     × (length (loop-2 p .loop .messages) ≡ length (start (loop-2 p) .args .messages .now))
 room-2 p =
     let l = loop-2 p in
@@ -155,7 +155,7 @@ filled-2 : (k : tie.After-fill-message Inv-loop μ-loop)
     let a = start l .args in
     let m = message-next (l .loop .inv) (accepted l) (p .before .before .if1 .taken) (not-due p) .there in
     let count = getD (a .payload .now) (m .place) 0 in
-    let tail = take (length (l .loop .messages) - l .loop .state .messages * 4) (drop (l .loop .state .messages * 4) (l .loop .messages)) in
+    let tail = take (length (l .loop .messages) - l .loop .state .messages * messageWidth) (drop (l .loop .state .messages * messageWidth) (l .loop .messages)) in
     (k .fill-message .result ≡ afterMessage (l .loop .state) (m .place + 1) count)
     × (k .fill-message .last .1 .1 .1 .0
     ≡ leaves (written (messageNumbers (record { start = a .base + m .start; len = m .len; first = l .loop .state .pairs; count = count }))) tail)

@@ -1,4 +1,4 @@
--- `parser::fill::put_pair` meets its contract: five stores, one after the other.
+-- `parser::fill::put_pair` meets its contract: six stores, one after the other.
 -- Assumes nothing.
 use borrow.Author.Needs.{needs}
 use native.Mathlib.Omega.{arith}
@@ -23,6 +23,9 @@ slice-write-table-4 c = simp length-set (omega arith)
 slice-write-table-5 : tie.Need-slice-write-table-5
 slice-write-table-5 c = simp length-set (omega arith)
 
+slice-write-table-6 : tie.Need-slice-write-table-6
+slice-write-table-6 c = simp length-set (omega arith)
+
 same-length : tie.Need-same-length
 same-length c = search needs
 
@@ -38,5 +41,6 @@ put-pair-spec =
     slice-write-table-3
     slice-write-table-4
     slice-write-table-5
+    slice-write-table-6
     same-length
     returns)

@@ -82,13 +82,13 @@ enum-known-value c = search needs
 moved-value-requires : tie.Need-moved-value-requires
 moved-value-requires c κs h l =
     let t = c .before .before .before in
-    let v = typed-accepted _ _ _ _ _ (value-read t _ (ap typedRead (c .before .value .given .1))) in
+    let v = typed-accepted _ _ _ _ _ _ (value-read t _ (ap typedRead (c .before .value .given .1))) in
     omega (arith, v .4 (points-yes _ h l), v .1, behind-key (t .before .before), length-drop (used t) (bytes t), t .before .before .before .before .before .before .before .good)
 
 add-t21 : tie.Need-add-t21
 add-t21 c =
     let t = c .before .before .before .before in
-    omega (arith, typed-accepted _ _ _ _ _ (value-read t _ (ap typedRead (c .before .before .value .given .1))) .1, behind-key (t .before .before), length-drop (used t) (bytes t), t .before .before .before .before .before .before .before .good)
+    omega (arith, typed-accepted _ _ _ _ _ _ (value-read t _ (ap typedRead (c .before .before .value .given .1))) .1, behind-key (t .before .before), length-drop (used t) (bytes t), t .before .before .before .before .before .before .before .good)
 
 returns-3 : tie.Need-returns-3
 returns-3 c =

@@ -9,6 +9,7 @@ use native.Mathlib.Omega.{arith}
 use lib.ListN.{length, take}
 use lib.Seq.{length-take-le}
 use Rattle.answer.specs.Answer.{done}
+use Rattle.frame.specs.Records.{messageWidth, pairWidth}
 use Rattle.parser.specs.Payload.{payload}
 use Rattle.parser.specs.Promise.{payloadSaid, payloadTells, roomsOf}
 use Rattle.parser.proofs.Copied.{own-messages, own-pairs, copied-says, copied-fills}
@@ -55,10 +56,10 @@ said : (k : tie.After-known-told)
     done (g .0, g .1 .0) (g .1 .1 .0) ≡ payloadSaid (t .take .result)
 said k = ap payloadSaid (sym (k .before .found .given .1))
 
-messages-in : (k : tie.After-known-told) → k .before .found .given .0 .0 * 4 ≤ length (took k .take .last .1 .1 .0)
+messages-in : (k : tie.After-known-told) → k .before .found .given .0 .0 * messageWidth ≤ length (took k .take .last .1 .1 .0)
 messages-in k = own-messages _ _ _ _ _ _ _ _ _ (said k ∙ took k .take .ensures .0) (took k .take .ensures .1) .1
 
-pairs-in : (k : tie.After-known-told) → k .before .found .given .0 .1 .0 * 5 ≤ length (took k .take .last .1 .1 .1 .0)
+pairs-in : (k : tie.After-known-told) → k .before .found .given .0 .1 .0 * pairWidth ≤ length (took k .take .last .1 .1 .1 .0)
 pairs-in k = own-pairs _ _ _ _ _ _ _ _ _ (said k ∙ took k .take .ensures .0) (took k .take .ensures .1) .1
 
 array-share-prefix-own-messages : tie.Need-array-share-prefix-own-messages
@@ -71,7 +72,7 @@ copy-requires : tie.Need-copy-requires
 copy-requires c κs =
     let e = c .before .before in
     let k = e .before .before in
-    let n = length-take-le (k .before .found .given .0 .0 * 4) (took k .take .last .1 .1 .0) (messages-in k) in
+    let n = length-take-le (k .before .found .given .0 .0 * messageWidth) (took k .take .last .1 .1 .0) (messages-in k) in
     omega (arith, n, e .before .if1 .left)
 
 array-share-prefix-own-pairs : tie.Need-array-share-prefix-own-pairs
@@ -84,7 +85,7 @@ copy-requires-2 : tie.Need-copy-requires-2
 copy-requires-2 c κs =
     let e = c .before .before .before .before .before .before .before in
     let k = e .before .before in
-    let n = length-take-le (k .before .found .given .0 .1 .0 * 5) (took k .take .last .1 .1 .1 .0) (pairs-in k) in
+    let n = length-take-le (k .before .found .given .0 .1 .0 * pairWidth) (took k .take .last .1 .1 .1 .0) (pairs-in k) in
     omega (arith, n, e .if2 .left)
 
 same-length : tie.Need-same-length

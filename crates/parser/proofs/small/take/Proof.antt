@@ -12,6 +12,7 @@ use Rattle.answer.specs.Answer.{Answer, done, refused, written, leaves}
 use Rattle.answer.proofs.Cases.{not-both}
 use Rattle.types.specs.Value.{Span, span}
 use Rattle.frame.specs.declared.Pair.{Pair}
+use Rattle.frame.specs.Records.{messageWidth, pairWidth}
 use Rattle.parser.specs.declared.Rooms.{Rooms}
 use Rattle.parser.specs.declared.State.{State}
 use Rattle.parser.specs.Payload.{Contents, onePair, oneMessage, oneItem, payload as payloadOf}
@@ -63,7 +64,7 @@ take-pair-requires c κs =
       l .loop .inv .stands .place,
       (
         start l .pre,
-        λ h. tail-room (l .loop .state .pairs * 5) 5 (l .loop .pairs) (omega (arith, h, pairs-in (l .loop .inv))),
+        λ h. tail-room (l .loop .state .pairs * pairWidth) pairWidth (l .loop .pairs) (omega (arith, h, pairs-in (l .loop .inv))),
       ),
     )
 
@@ -159,7 +160,7 @@ take-message-requires c κs =
       l .loop .inv .stands .place,
       (
         start l .pre,
-        λ h. tail-room (l .loop .state .messages * 4) 4 (l .loop .messages) (omega (arith, h, messages-in (l .loop .inv))),
+        λ h. tail-room (l .loop .state .messages * messageWidth) messageWidth (l .loop .messages) (omega (arith, h, messages-in (l .loop .inv))),
       ),
     )
 

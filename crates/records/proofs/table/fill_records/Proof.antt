@@ -99,7 +99,7 @@ long : (zs ys : List Pair) (i : ℕ) → length zs ≡ i → i ≤ length ys →
 long zs ys i e h = omega (arith, length-append zs (drop i ys), length-drop i ys, e)
 
 no-pair : Pair
-no-pair = record { start = 0; len = 0; value = record { kind = 0; a = 0; b = 0 } }
+no-pair = record { start = 0; len = 0; value = record { kind = 0; a = 0; b = 0; flags = 0 } }
 
 -- ---- the MIR
 abbrev byte : Ty
@@ -114,11 +114,15 @@ bytes = sliceTy (tyRef (named 0) imm byte)
 abbrev records : Ty
 records = sliceTy (tyRef (named 1) mut (pointee (Q.the-row .written)))
 
+-- how many bytes a record takes
+abbrev wide : ℕ
+wide = 48
+
 abbrev turn : Code
 turn = seq (assign (place 8 []) (op2 (lt unsigned) (copy (place 6 [])) (copy (place 3 []))))
     (seq (cond (copy (place 8 [])) skipᴹ (exit 1))
     (seq (call #take-next (copy (place 1 []) ∷ copy (place 5 []) ∷ []) (place 7 []))
-    (seq (assign (place 9 []) (op2 (mul unsigned) (copy (place 6 [])) (int w64 40)))
+    (seq (assign (place 9 []) (op2 (mul unsigned) (copy (place 6 [])) (int w64 wide)))
     (seq (assign (place 10 []) (op2 offset (copy (place 4 (field 0 ∷ []))) (copy (place 9 []))))
     (seq (assign (place 10 (deref Q′.mir ∷ [])) (rvOpd (copy (place 7 (field 0 ∷ [])))))
     (seq (assign (place 5 []) (rvOpd (copy (place 7 (field 1 ∷ [])))))
@@ -305,7 +309,7 @@ module _ {M : Type 1} (𝓤 : URA M) (H : Heap 𝓤) (A : Atoms 𝓤) (W : Given
         -- [the token; what the slice owns; the records; _5; _6; _7; _8; _9; _10; _1; _2; _3; _4; …]
         assigns ! (bin ! (load ! (from ! (stop !)) (look ! 4 refl)) (lit ! tt) (record { fits = place-fits })) (from ! (stop !)) (init ! 7 refl (tt, record { fits = place-fits })) $
         assigns ! (bin ! (load ! (from ! (fld ! refl (stop !))) (look-in ! 12 (sub ! 0 refl (whole !)))) (load ! (from ! (stop !)) (look ! 7 refl)) tt) (from ! (stop !)) (init ! 8 refl (tt, tt)) $
-        rewrite ! 8 (λ (p : ℕ). ‵ (fat fullShare tyPtr l₁₀ 0 (vptr b p))) (sym (place-is 40 o (z .i))) refl $ move ! (2 ∷ []) $
+        rewrite ! 8 (λ (p : ℕ). ‵ (fat fullShare tyPtr l₁₀ 0 (vptr b p))) (sym (place-is wide o (z .i))) refl $ move ! (2 ∷ []) $
         elem-out ! Q.the-row (Is Q.the-row) (shows 𝓤 H A Q.the-row) (LL.vals Q.the-type Q′.the-laws) (LL.tells Q.the-type Q′.the-laws) fullShare (z .zs ++ drop (z .i) ys) (z .i) no-pair b o within (λ _.
         -- [the record's cell; what it owns; the others; the token; what the slice owns; _5; _6; _7; _8; _9; _10; …]
         assigns ! (of-opd ! (load ! (from ! (fld ! refl (stop !))) (look-in ! 7 (sub ! 0 refl (whole !))))) (from ! (hop ! (look ! 10 refl) (stop !))) (store-raw ! 0 refl (LL.lawful Q.the-type Q′.the-laws 𝓤 H A W .typed (k .pair) _ (parts k w is .0) .0)) $
@@ -327,9 +331,9 @@ module _ {M : Type 1} (𝓤 : URA M) (H : Heap 𝓤) (A : Atoms 𝓤) (W : Given
         within : z .i < length (z .zs ++ drop (z .i) ys)
         within = omega (arith, long (z .zs) ys (z .i) (f .many) (omega (arith, f .left, fits)), f .left, fits)
 
-        place-fits : z .i * 40 < 2 ^ 64
+        place-fits : z .i * wide < 2 ^ 64
         place-fits =
-            let most : length ys * 40 < 2 ^ 63 = g .1 in
+            let most : length ys * wide < 2 ^ 63 = g .1 in
             omega (arith, most, f .left, fits)
 
         parts : (k : Taken) (w : Val) → Is K.the-row k (w ∷ []) → Is Q.the-row (k .pair) (Q′.lowered (k .pair) ∷ []) × Is S.the-row (k .next) (S′.lowered (k .next) ∷ [])

@@ -13,7 +13,7 @@ check-string-requires c κs = search needs
 returns : tie.Need-returns
 returns c = let a = c .before .before .before .before .args in
     let v = a .value in
-    c .check-string .ensures ∙ sym (part-string (a .buffer .now) (v .kind) (v .a) (v .b) (c .before .if1 .taken))
+    c .check-string .ensures ∙ sym (part-string (a .buffer .now) (v .kind) (v .a) (v .b) (v .flags) (c .before .if1 .taken))
 
 in-range-requires : tie.Need-in-range-requires
 in-range-requires c κs = search needs
@@ -21,12 +21,12 @@ in-range-requires c κs = search needs
 returns-2 : tie.Need-returns-2
 returns-2 c = let a = c .before .before .before .before .before .args in
     let v = a .value in
-    sym (part-outside (a .buffer .now) (v .kind) (v .a) (v .b) (sym (c .before .in-range .ensures) ∙ not-true _ (c .if2 .taken)))
+    sym (part-outside (a .buffer .now) (v .kind) (v .a) (v .b) (v .flags) (sym (c .before .in-range .ensures) ∙ not-true _ (c .if2 .taken)))
 
 returns-3 : tie.Need-returns-3
 returns-3 c = let a = c .before .before .before .before .before .args in
     let v = a .value in
-    sym (part-within (a .buffer .now) (v .kind) (v .a) (v .b) (c .before .before .if1 .left) (sym (c .before .in-range .ensures) ∙ not-false _ (c .if2 .left)))
+    sym (part-within (a .buffer .now) (v .kind) (v .a) (v .b) (v .flags) (c .before .before .if1 .left) (sym (c .before .in-range .ensures) ∙ not-false _ (c .if2 .left)))
 
 pub check-part-spec : {M : Type 1} → statement M
 check-part-spec =

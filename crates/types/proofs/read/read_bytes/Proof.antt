@@ -26,12 +26,12 @@ enum-known-r c = search needs
 add-place : tie.Need-add-place
 add-place c = let k = c .before .before .before .before in
     let a = k .before .before .before in
-    omega (arith, text-none (a .args .kind) (a .args .input .now) (a .pre) (k .read-string .ensures) _ _ (ap textRead (c .before .before .r .given .1)) .0)
+    omega (arith, text-none (a .args .kind) (a .args .flags) (a .args .input .now) (a .pre) (k .read-string .ensures) _ _ (ap textRead (c .before .before .r .given .1)) .0)
 
 returns : tie.Need-returns
 returns c = let k = c .before .before .before .before in
     let a = k .before .before .before in
-    text-none (a .args .kind) (a .args .input .now) (a .pre) (k .read-string .ensures) _ _ (ap textRead (c .before .before .r .given .1)) .1
+    text-none (a .args .kind) (a .args .flags) (a .args .input .now) (a .pre) (k .read-string .ensures) _ _ (ap textRead (c .before .before .r .given .1)) .1
 
 enum-known-start : tie.Need-enum-known-start
 enum-known-start c = search needs
@@ -39,17 +39,17 @@ enum-known-start c = search needs
 add-a : tie.Need-add-a
 add-a c = let k = c .before .before .before in
     let a = k .before .before .before in
-    omega (arith, text-some (a .args .kind) (a .args .input .now) (a .pre) (k .read-string .ensures) _ _ _ (ap textRead (c .before .start .given .1)) .0)
+    omega (arith, text-some (a .args .kind) (a .args .flags) (a .args .input .now) (a .pre) (k .read-string .ensures) _ _ _ (ap textRead (c .before .start .given .1)) .0)
 
 add-taken : tie.Need-add-taken
 add-taken c = let k = c .before .before .before in
     let a = k .before .before .before in
-    omega (arith, text-some (a .args .kind) (a .args .input .now) (a .pre) (k .read-string .ensures) _ _ _ (ap textRead (c .before .start .given .1)) .1)
+    omega (arith, text-some (a .args .kind) (a .args .flags) (a .args .input .now) (a .pre) (k .read-string .ensures) _ _ _ (ap textRead (c .before .start .given .1)) .1)
 
 returns-2 : tie.Need-returns-2
 returns-2 c = let k = c .before .before .before in
     let a = k .before .before .before in
-    text-some (a .args .kind) (a .args .input .now) (a .pre) (k .read-string .ensures) _ _ _ (ap textRead (c .before .start .given .1)) .2
+    text-some (a .args .kind) (a .args .flags) (a .args .input .now) (a .pre) (k .read-string .ensures) _ _ _ (ap textRead (c .before .start .given .1)) .2
 
 pub read-bytes-spec : {M : Type 1} → statement M
 read-bytes-spec =

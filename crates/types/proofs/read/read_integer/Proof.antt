@@ -26,12 +26,12 @@ enum-known-r c = search needs
 add-place : tie.Need-add-place
 add-place c = let k = c .before .before .before .before in
     let a = k .before .before .before in
-    omega (arith, integer-none (a .args .kind) (a .args .input .now) (a .pre) (k .decode-varint .ensures) _ _ (ap numberRead (c .before .before .r .given .1)) .0)
+    omega (arith, integer-none (a .args .kind) (a .args .flags) (a .args .input .now) (a .pre) (k .decode-varint .ensures) _ _ (ap numberRead (c .before .before .r .given .1)) .0)
 
 returns : tie.Need-returns
 returns c = let k = c .before .before .before .before in
     let a = k .before .before .before in
-    integer-none (a .args .kind) (a .args .input .now) (a .pre) (k .decode-varint .ensures) _ _ (ap numberRead (c .before .before .r .given .1)) .1
+    integer-none (a .args .kind) (a .args .flags) (a .args .input .now) (a .pre) (k .decode-varint .ensures) _ _ (ap numberRead (c .before .before .r .given .1)) .1
 
 enum-known-value : tie.Need-enum-known-value
 enum-known-value c = search needs
@@ -42,12 +42,12 @@ narrow-requires c κs = search needs
 add-taken : tie.Need-add-taken
 add-taken c = let k = c .before .before .before .before in
     let a = k .before .before .before in
-    omega (arith, integer-some (a .args .kind) (a .args .input .now) (a .pre) (k .decode-varint .ensures) _ _ _ (ap numberRead (c .before .before .value .given .1)) (c .narrow .ensures) .0)
+    omega (arith, integer-some (a .args .kind) (a .args .flags) (a .args .input .now) (a .pre) (k .decode-varint .ensures) _ _ _ (ap numberRead (c .before .before .value .given .1)) (c .narrow .ensures) .0)
 
 returns-2 : tie.Need-returns-2
 returns-2 c = let k = c .before .before .before .before in
     let a = k .before .before .before in
-    integer-some (a .args .kind) (a .args .input .now) (a .pre) (k .decode-varint .ensures) _ _ _ (ap numberRead (c .before .before .value .given .1)) (c .narrow .ensures) .1
+    integer-some (a .args .kind) (a .args .flags) (a .args .input .now) (a .pre) (k .decode-varint .ensures) _ _ _ (ap numberRead (c .before .before .value .given .1)) (c .narrow .ensures) .1
 
 pub read-integer-spec : {M : Type 1} → statement M
 read-integer-spec =

@@ -18,7 +18,7 @@ counted : (b : ℕ) (bytes : List ℕ) (r : ℕ) → r ≡ length (numberBytes b
 counted b bytes r e l = rw (l, e)
 
 returns : tie.Need-returns
-returns c = λ bytes e. let a = c .before .args .value in length-plain (a .kind) (a .a) bytes (c .if1 .taken)
+returns c = λ bytes e. let a = c .before .args .value in length-plain (a .kind) _ (a .a) bytes (c .if1 .taken)
 
 varint-len-requires : tie.Need-varint-len-requires
 varint-len-requires c κs = search needs
@@ -28,14 +28,14 @@ add-result c = let v = c .before .before .before .args .value in omega (arith, c
 
 returns-2 : tie.Need-returns-2
 returns-2 c = λ bytes e. let a = c .before .before .before .args .value in
-    ap (λ (n : ℕ). 1 + n) (c .varint-len .ensures) ∙ length-integer (a .kind) (a .a) bytes (c .before .before .if1 .left) (c .before .if2 .taken)
+    ap (λ (n : ℕ). 1 + n) (c .varint-len .ensures) ∙ length-integer (a .kind) _ (a .a) bytes (c .before .before .if1 .left) (c .before .if2 .taken)
 
 add-result-2 : tie.Need-add-result-2
 add-result-2 c = search needs
 
 returns-3 : tie.Need-returns-3
 returns-3 c = λ bytes e. let a = c .before .before .before .args .value in
-    ap (λ (n : ℕ). 1 + n) (sym e) ∙ length-address (a .kind) (a .a) bytes (c .before .if2 .left) (c .if3 .taken)
+    ap (λ (n : ℕ). 1 + n) (sym e) ∙ length-address (a .kind) _ (a .a) bytes (c .before .if2 .left) (c .if3 .taken)
 
 varint-len-requires-2 : tie.Need-varint-len-requires-2
 varint-len-requires-2 c κs = search needs
@@ -49,8 +49,8 @@ add-result-4 c = let v = c .before .before .before .before .args .value in omega
 returns-4 : tie.Need-returns-4
 returns-4 c = λ bytes e. let a = c .before .before .before .before in
     let v = a .args .value in
-    let k = writable-kind (v .kind) (v .a) (v .b) (a .pre .0) in
-    counted (v .b) bytes _ (c .varint-len2 .ensures) e ∙ length-text (v .kind) (v .a) bytes (c .before .if3 .left) (omega arith)
+    let k = writable-kind (v .kind) (v .a) (v .b) (v .flags) (a .pre .0) in
+    counted (v .b) bytes _ (c .varint-len2 .ensures) e ∙ length-text (v .kind) _ (v .a) bytes (c .before .if3 .left) (omega arith)
 
 pub form-len-spec : {M : Type 1} → statement M
 form-len-spec =

@@ -9,9 +9,9 @@ use mathlib.Core.List.{[], _∷_}
 use native.Mathlib.Omega.{arith}
 use lib.ListN.{length, take, drop, set}
 use borrow.Author.Tests.{not-true, not-false, leb-true}
-use Rattle.types.specs.Form.{inside}
+use Rattle.types.specs.Form.{typeOf, inside}
 use Rattle.types.proofs.Writing.{lent-length, form-length, form-address, form-address-outside}
-use Rattle.types.proofs.Output.{puts-refusal, puts-short, puts-whole, Begun, begun-byte, begun-start, begun-room, begun-both, begun-most, begun-length}
+use Rattle.types.proofs.Output.{puts-refusal, puts-short, puts-whole, Begun, begun-known, begun-start, begun-room, begun-both, begun-most, begun-length}
 use Rattle.types.proofs.write.put_address.Statement.{statement}
 use Rattle.types.proofs.write.put_address.Tie as tie
 
@@ -28,16 +28,16 @@ long : (c : tie.Else2)
 long c = let a = c .before .before .before .before .before .before .args in lent-length (a .buffer .now) (a .value .a) (a .len) (ends c)
 
 -- past the third there is room for the type byte and the bytes
-begun : (c : tie.Else3)
-    → let a = c .before .before .before .before .before .before .before .args in
+begun : (c : tie.After-type-byte)
+    → let a = c .before .before .before .before .before .before .before .before .args in
     let v = a .value in
-    Begun (v .kind ∷ []) (take (v .a + a .len - v .a) (drop (v .a) (a .buffer .now))) (a .out .now) 1 (set (a .out .now) 0 (v .kind))
-begun c = begun-byte _ _ _ (omega (arith, c .if3 .left, long (c .before)))
+    Begun (typeOf (v .kind) (v .flags) ∷ []) (take (v .a + a .len - v .a) (drop (v .a) (a .buffer .now))) (a .out .now) 1 (set (a .out .now) 0 (c .type-byte .result))
+begun c = begun-known _ _ (c .type-byte .ensures) (omega (arith, c .before .if3 .left, long (c .before .before)))
 
 returns : tie.Need-returns
 returns c = let a = c .before .before .before .before in
     let v = a .args .value in
-    puts-refusal (length (a .args .out .now)) 14 (a .args .out .now) (form-length (a .args .buffer .now) (v .kind) (v .a) (v .b) (a .args .len) (a .pre .0) (c .if1 .taken))
+    puts-refusal (length (a .args .out .now)) 14 (a .args .out .now) (form-length (a .args .buffer .now) (v .kind) (v .a) (v .b) (v .flags) (a .args .len) (a .pre .0) (c .if1 .taken))
 
 part-inside-requires : tie.Need-part-inside-requires
 part-inside-requires c κs = search needs
@@ -47,18 +47,18 @@ returns-2 c = let p = c .before in
     let a = p .before .before .before .before .before in
     let v = a .args .value in
     puts-refusal (length (a .args .out .now)) 16 (a .args .out .now)
-    (form-address-outside (a .args .buffer .now) (v .kind) (v .a) (v .b) (a .args .len) (a .pre .0) (p .before .if1 .left) (sym (p .part-inside .ensures) ∙ not-true _ (c .if2 .taken)))
+    (form-address-outside (a .args .buffer .now) (v .kind) (v .a) (v .b) (v .flags) (a .args .len) (a .pre .0) (a .pre .1 .2) (p .before .if1 .left) (sym (p .part-inside .ensures) ∙ not-true _ (c .if2 .taken)))
 
 returns-3 : tie.Need-returns-3
 returns-3 c = let e = c .before in
     let a = e .before .before .before .before .before .before in
     let v = a .args .value in
     puts-short _ (a .args .out .now)
-    (form-address (a .args .buffer .now) (v .kind) (v .a) (v .b) (a .args .len) (a .pre .0) (e .before .before .if1 .left) (within-buffer e))
+    (form-address (a .args .buffer .now) (v .kind) (v .a) (v .b) (v .flags) (a .args .len) (a .pre .0) (a .pre .1 .2) (e .before .before .if1 .left) (within-buffer e))
     (omega (arith, c .if3 .taken, long e))
 
-cast-out : tie.Need-cast-out
-cast-out c = search needs
+type-byte-requires : tie.Need-type-byte-requires
+type-byte-requires c κs = let a = c .before .before .before .before .before .before .before in (omega (arith, a .pre .1 .0), a .pre .1 .2)
 
 slice-write-out : tie.Need-slice-write-out
 slice-write-out c = search needs
@@ -76,30 +76,30 @@ part-put-few-end : tie.Need-part-put-few-end
 part-put-few-end c = ends (c .before .before)
 
 sub-put-few-2 : tie.Need-sub-put-few-2
-sub-put-few-2 c = begun-start (begun (c .before .before))
+sub-put-few-2 c = begun-start (begun (c .before))
 
 part-put-few-start-2 : tie.Need-part-put-few-start-2
-part-put-few-start-2 c = begun-start (begun (c .before .before))
+part-put-few-start-2 c = begun-start (begun (c .before))
 
 part-put-few-end-2 : tie.Need-part-put-few-end-2
 part-put-few-end-2 c = search needs
 
 put-few-requires : tie.Need-put-few-requires
-put-few-requires c κs = begun-room (begun (c .before .before .before))
+put-few-requires c κs = begun-room (begun (c .before .before))
 
 add-result : tie.Need-add-result
-add-result c = omega (arith, begun-most (begun (c .before .before .before .before .before .before)) (c .before .before .put-few .ensures))
+add-result c = omega (arith, begun-most (begun (c .before .before .before .before .before)) (c .before .before .put-few .ensures))
 
 same-length : tie.Need-same-length
-same-length c = begun-length (begun (c .before .before .before .before .before .before)) (c .before .before .put-few .ensures)
+same-length c = begun-length (begun (c .before .before .before .before .before)) (c .before .before .put-few .ensures)
 
 returns-4 : tie.Need-returns-4
-returns-4 c = let r = c .before .before .before .before .before .before in
-    let e = r .before in
+returns-4 c = let r = c .before .before .before .before .before in
+    let e = r .before .before in
     let a = e .before .before .before .before .before .before in
     let v = a .args .value in
     puts-whole _ (a .args .out .now)
-    (form-address (a .args .buffer .now) (v .kind) (v .a) (v .b) (a .args .len) (a .pre .0) (e .before .before .if1 .left) (within-buffer e))
+    (form-address (a .args .buffer .now) (v .kind) (v .a) (v .b) (v .flags) (a .args .len) (a .pre .0) (a .pre .1 .2) (e .before .before .if1 .left) (within-buffer e))
     (begun r .room) (begun-both (begun r) (c .before .before .put-few .ensures))
 
 pub put-address-spec : {M : Type 1} → statement M
@@ -110,7 +110,7 @@ put-address-spec =
     part-inside-requires
     returns-2
     returns-3
-    cast-out
+    type-byte-requires
     slice-write-out
     add-to
     sub-put-few

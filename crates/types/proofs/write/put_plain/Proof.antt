@@ -8,7 +8,7 @@ use mathlib.Core.List.{[], _∷_}
 use native.Mathlib.Omega.{arith}
 use lib.ListN.{length}
 use borrow.Author.Tests.{not-true, not-false}
-use Rattle.types.specs.Form.{writableRecord}
+use Rattle.types.specs.Form.{typeOf, writableRecord}
 use Rattle.types.specs.Promise.{recordOf}
 use Rattle.types.proofs.Writing.{plain-bytes, form-unwritable, form-plain}
 use Rattle.types.proofs.Output.{puts-refusal, puts-short, puts-whole, begun-byte}
@@ -18,11 +18,12 @@ use Rattle.types.proofs.write.put_plain.Tie as tie
 fields : (c : tie.Else1) → writableRecord (recordOf (c .before .before .before .args .value)) ≡ true
 fields c = sym (c .before .writable .ensures) ∙ not-false _ (c .if1 .left)
 
--- a bool's number is 0 or 1, and null's is 0
-small : (c : tie.Else1) → c .before .before .before .args .value .a < 2
+-- a bool's number is 0 or 1, and null's is 0; its flags are four bits; and so the byte is one
+small : (c : tie.Else1) → let v = c .before .before .before .args .value in (v .a < 2) × (v .flags < 16) × (typeOf (v .kind) (v .flags) + 16 * v .a < 256)
 small c = let a = c .before .before .before in
     let v = a .args .value in
-    plain-bytes [] (v .kind) (v .a) (v .b) (a .pre) (fields c) .0
+    let p = plain-bytes [] (v .kind) (v .a) (v .b) (v .flags) (a .pre) (fields c) in
+    (p .0, p .1, p .2)
 
 writable-requires : tie.Need-writable-requires
 writable-requires c κs = search needs
@@ -37,16 +38,22 @@ returns-2 : tie.Need-returns-2
 returns-2 c = λ buffer. let e = c .before in
     let a = e .before .before .before in
     let v = a .args .value in
-    puts-short ((v .kind + 16 * v .a) ∷ []) (a .args .out .now) (form-plain buffer (v .kind) (v .a) (v .b) (a .pre) (fields e)) (omega (arith, c .if2 .taken))
+    puts-short ((typeOf (v .kind) (v .flags) + 16 * v .a) ∷ []) (a .args .out .now) (form-plain buffer (v .kind) (v .a) (v .b) (v .flags) (a .pre) (fields e)) (omega (arith, c .if2 .taken))
 
 mul-out : tie.Need-mul-out
-mul-out c = omega (arith, small (c .before .before))
+mul-out c = omega (arith, small (c .before .before) .1)
 
 add-out : tie.Need-add-out
-add-out c = omega (arith, small (c .before .before .before), c .before .before .before .before .before .before .pre)
+add-out c = omega (arith, small (c .before .before .before) .2)
+
+mul-out-2 : tie.Need-mul-out-2
+mul-out-2 c = omega (arith, small (c .before .before .before .before) .0)
+
+add-out-2 : tie.Need-add-out-2
+add-out-2 c = omega (arith, small (c .before .before .before .before) .2)
 
 cast-out : tie.Need-cast-out
-cast-out c = omega (arith, small (c .before .before .before), c .before .before .before .before .before .before .pre)
+cast-out c = omega (arith, small (c .before .before .before .before) .2)
 
 slice-write-out : tie.Need-slice-write-out
 slice-write-out c = search needs
@@ -55,10 +62,10 @@ same-length : tie.Need-same-length
 same-length c = search needs
 
 returns-3 : tie.Need-returns-3
-returns-3 c = λ buffer. let e = c .before .before .before in
+returns-3 c = λ buffer. let e = c .before .before .before .before in
     let a = e .before .before .before in
     let v = a .args .value in
-    puts-whole ((v .kind + 16 * v .a) ∷ []) (a .args .out .now) (form-plain buffer (v .kind) (v .a) (v .b) (a .pre) (fields e))
+    puts-whole ((typeOf (v .kind) (v .flags) + 16 * v .a) ∷ []) (a .args .out .now) (form-plain buffer (v .kind) (v .a) (v .b) (v .flags) (a .pre) (fields e))
     (omega (arith, slice-write-out c)) (begun-byte _ [] (a .args .out .now) (omega (arith, slice-write-out c)) .first)
 
 pub put-plain-spec : {M : Type 1} → statement M
@@ -70,6 +77,8 @@ put-plain-spec =
     returns-2
     mul-out
     add-out
+    mul-out-2
+    add-out-2
     cast-out
     slice-write-out
     same-length

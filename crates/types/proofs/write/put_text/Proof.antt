@@ -11,10 +11,10 @@ use lib.ListN.{length, take, drop, set}
 use borrow.Author.Tests.{not-true, not-false, leb-true, leb-false}
 use Rattle.answer.specs.Answer.{written}
 use Rattle.varint.specs.Number.{numberBytes}
-use Rattle.types.specs.Form.{inside, stringBytes, valueAnswer}
+use Rattle.types.specs.Form.{typeOf, inside, stringBytes, valueAnswer}
 use Rattle.types.specs.Promise.{recordOf}
 use Rattle.types.proofs.Writing.{part-lent, string-long, form-text, form-text-outside}
-use Rattle.types.proofs.Output.{puts-refusal, puts-short, puts-whole, Begun, begun-byte, begun-start, begun-room, begun-both, begun-most, begun-length}
+use Rattle.types.proofs.Output.{puts-refusal, puts-short, puts-whole, Begun, begun-known, begun-start, begun-room, begun-both, begun-most, begun-length}
 use Rattle.types.proofs.write.put_text.Statement.{statement}
 use Rattle.types.proofs.write.put_text.Tie as tie
 
@@ -35,19 +35,20 @@ long c = let a = c .before .before .before .before .args in
 bytes : (c : tie.Else1)
     → let a = c .before .before .before .before .args in
     let v = a .value in
-    valueAnswer (a .buffer .now) (recordOf v) ≡ written (v .kind ∷ stringBytes (take (v .a + v .b - v .a) (drop (v .a) (a .buffer .now))))
+    valueAnswer (a .buffer .now) (recordOf v) ≡ written (typeOf (v .kind) (v .flags) ∷ stringBytes (take (v .a + v .b - v .a) (drop (v .a) (a .buffer .now))))
 bytes c = let a = c .before .before .before .before in
     let v = a .args .value in
-    form-text (a .args .buffer .now) (v .kind) (v .a) (v .b) (a .pre .0) (a .pre .1) (omega (arith, a .good)) (within-buffer c)
+    form-text (a .args .buffer .now) (v .kind) (v .a) (v .b) (v .flags) (a .pre .0) (a .pre .1) (omega (arith, a .good)) (a .pre .2) (within-buffer c)
 
 -- past the others there is room for the type byte and the string
-begun : (c : tie.Else3)
-    → let a = c .before .before .before .before .before .before .before .args in
+begun : (c : tie.After-type-byte)
+    → let a = c .before .before .before .before .before .before .before .before .args in
     let v = a .value in
-    Begun (v .kind ∷ []) (stringBytes (take (v .a + v .b - v .a) (drop (v .a) (a .buffer .now)))) (a .out .now) 1 (set (a .out .now) 0 (v .kind))
-begun c = let a = c .before .before .before .before .before .before .before .args in
-    let h = leb-true (1 + length (numberBytes (a .value .b))) (length (a .out .now) - a .value .b) (sym (c .before .number-fits .ensures) ∙ not-false _ (c .if3 .left)) in
-    begun-byte _ _ _ (omega (arith, h, c .before .before .if2 .left, long (c .before .before .before)))
+    Begun (typeOf (v .kind) (v .flags) ∷ []) (stringBytes (take (v .a + v .b - v .a) (drop (v .a) (a .buffer .now)))) (a .out .now) 1 (set (a .out .now) 0 (c .type-byte .result))
+begun c = let e = c .before in
+    let a = e .before .before .before .before .before .before .before .args in
+    let h = leb-true (1 + length (numberBytes (a .value .b))) (length (a .out .now) - a .value .b) (sym (e .before .number-fits .ensures) ∙ not-false _ (e .if3 .left)) in
+    begun-known _ _ (c .type-byte .ensures) (omega (arith, h, e .before .before .if2 .left, long (e .before .before .before)))
 
 part-inside-requires : tie.Need-part-inside-requires
 part-inside-requires c κs = search needs
@@ -57,7 +58,7 @@ returns c = let p = c .before in
     let a = p .before .before .before in
     let v = a .args .value in
     puts-refusal (length (a .args .out .now)) 16 (a .args .out .now)
-    (form-text-outside (a .args .buffer .now) (v .kind) (v .a) (v .b) (a .pre .0) (a .pre .1) (omega (arith, a .good)) (sym (p .part-inside .ensures) ∙ not-true _ (c .if1 .taken)))
+    (form-text-outside (a .args .buffer .now) (v .kind) (v .a) (v .b) (v .flags) (a .pre .0) (a .pre .1) (omega (arith, a .good)) (a .pre .2) (sym (p .part-inside .ensures) ∙ not-true _ (c .if1 .taken)))
 
 returns-2 : tie.Need-returns-2
 returns-2 c = puts-short _ _ (bytes (c .before)) (omega (arith, c .if2 .taken, long (c .before)))
@@ -75,11 +76,11 @@ returns-3 c = let n = c .before in
     let h = leb-false (1 + length (numberBytes (a .value .b))) (length (a .out .now) - a .value .b) (sym (n .number-fits .ensures) ∙ not-true _ (c .if3 .taken)) in
     puts-short _ _ (bytes e) (omega (arith, h, long e))
 
-cast-out : tie.Need-cast-out
-cast-out c = search needs
+type-byte-requires : tie.Need-type-byte-requires
+type-byte-requires c κs = let a = c .before .before .before .before .before .before .before in (omega (arith, a .pre .1), a .pre .2)
 
 slice-write-out : tie.Need-slice-write-out
-slice-write-out c = omega (arith, begun (c .before) .room)
+slice-write-out c = omega (arith, begun c .room)
 
 add-to : tie.Need-add-to
 add-to c = let e = c .before .before .before .before in omega (arith, ends e, e .before .before .before .before .good)
@@ -94,26 +95,26 @@ part-put-string-end : tie.Need-part-put-string-end
 part-put-string-end c = ends (c .before .before .before .before)
 
 sub-put-string-2 : tie.Need-sub-put-string-2
-sub-put-string-2 c = begun-start (begun (c .before .before))
+sub-put-string-2 c = begun-start (begun (c .before))
 
 part-put-string-start-2 : tie.Need-part-put-string-start-2
-part-put-string-start-2 c = begun-start (begun (c .before .before))
+part-put-string-start-2 c = begun-start (begun (c .before))
 
 part-put-string-end-2 : tie.Need-part-put-string-end-2
 part-put-string-end-2 c = search needs
 
 put-string-requires : tie.Need-put-string-requires
-put-string-requires c κs = begun-room (begun (c .before .before .before))
+put-string-requires c κs = begun-room (begun (c .before .before))
 
 add-result : tie.Need-add-result
-add-result c = omega (arith, begun-most (begun (c .before .before .before .before .before .before)) (c .before .before .put-string .ensures))
+add-result c = omega (arith, begun-most (begun (c .before .before .before .before .before)) (c .before .before .put-string .ensures))
 
 same-length : tie.Need-same-length
-same-length c = begun-length (begun (c .before .before .before .before .before .before)) (c .before .before .put-string .ensures)
+same-length c = begun-length (begun (c .before .before .before .before .before)) (c .before .before .put-string .ensures)
 
 returns-4 : tie.Need-returns-4
-returns-4 c = let e = c .before .before .before .before .before .before in
-    puts-whole _ _ (bytes (e .before .before .before)) (begun e .room) (begun-both (begun e) (c .before .before .put-string .ensures))
+returns-4 c = let e = c .before .before .before .before .before in
+    puts-whole _ _ (bytes (e .before .before .before .before)) (begun e .room) (begun-both (begun e) (c .before .before .put-string .ensures))
 
 pub put-text-spec : {M : Type 1} → statement M
 put-text-spec =
@@ -125,7 +126,7 @@ put-text-spec =
     sub-number-fits
     number-fits-requires
     returns-3
-    cast-out
+    type-byte-requires
     slice-write-out
     add-to
     sub-put-string

@@ -4,7 +4,7 @@ use borrow.Author.Needs.{needs}
 use native.Mathlib.Omega.{arith}
 use lib.ListN.{length}
 use Rattle.types.proofs.Shapes.{shape-is, row}
-use Rattle.types.proofs.Writing.{form-reserved}
+use Rattle.types.proofs.Writing.{form-flags, form-reserved}
 use Rattle.types.proofs.Output.{puts-refusal}
 use Rattle.types.proofs.write.put_value.Statement.{statement}
 use Rattle.types.proofs.write.put_value.Tie as tie
@@ -27,23 +27,28 @@ same-length-2 c = search needs
 returns-2 : tie.Need-returns-2
 returns-2 c = c .before .before .put-integer .ensures (c .before .before .before .before .before .before .before .before .args .buffer .now)
 
+returns-3 : tie.Need-returns-3
+returns-3 c = let a = c .before .before .before .before .before .before .args in
+    let v = a .value in
+    puts-refusal (length (a .out .now)) 14 (a .out .now) (form-flags (a .buffer .now) (v .kind) (v .a) (v .b) (v .flags) (c .before .before .if2 .left) (c .if3 .taken))
+
 put-address-requires : tie.Need-put-address-requires
-put-address-requires c κs = let e = c .before .if3 .taken in (row 6 e (shape-is .6), (omega arith, omega arith))
+put-address-requires c κs = let e = c .before .if4 .taken in (row 6 e (shape-is .6), (omega arith, omega arith, c .before .before .if3 .left))
 
 same-length-3 : tie.Need-same-length-3
 same-length-3 c = search needs
 
-returns-3 : tie.Need-returns-3
-returns-3 c = search needs
+returns-4 : tie.Need-returns-4
+returns-4 c = search needs
 
 put-address-requires-2 : tie.Need-put-address-requires-2
-put-address-requires-2 c κs = let e = c .before .if4 .taken in (row 7 e (shape-is .7), (omega arith, omega arith))
+put-address-requires-2 c κs = let e = c .before .if5 .taken in (row 7 e (shape-is .7), (omega arith, omega arith, c .before .before .before .if3 .left))
 
 same-length-4 : tie.Need-same-length-4
 same-length-4 c = search needs
 
-returns-4 : tie.Need-returns-4
-returns-4 c = search needs
+returns-5 : tie.Need-returns-5
+returns-5 c = search needs
 
 put-text-requires : tie.Need-put-text-requires
 put-text-requires c κs = search needs
@@ -51,13 +56,13 @@ put-text-requires c κs = search needs
 same-length-5 : tie.Need-same-length-5
 same-length-5 c = search needs
 
-returns-5 : tie.Need-returns-5
-returns-5 c = search needs
-
 returns-6 : tie.Need-returns-6
-returns-6 c = let a = c .before .before .before .before .before .before .before .args in
+returns-6 c = search needs
+
+returns-7 : tie.Need-returns-7
+returns-7 c = let a = c .before .before .before .before .before .before .before .before .before .args in
     let v = a .value in
-    puts-refusal (length (a .out .now)) 14 (a .out .now) (form-reserved (a .buffer .now) (v .kind) (v .a) (v .b) (c .if5 .left))
+    puts-refusal (length (a .out .now)) 14 (a .out .now) (form-reserved (a .buffer .now) (v .kind) (v .a) (v .b) (v .flags) (c .if6 .left))
 
 pub put-value-spec : {M : Type 1} → statement M
 put-value-spec =
@@ -69,13 +74,14 @@ put-value-spec =
     put-integer-requires
     same-length-2
     returns-2
+    returns-3
     put-address-requires
     same-length-3
-    returns-3
+    returns-4
     put-address-requires-2
     same-length-4
-    returns-4
+    returns-5
     put-text-requires
     same-length-5
-    returns-5
-    returns-6)
+    returns-6
+    returns-7)

@@ -36,14 +36,14 @@ returns-2 c = let a = c .before .before .before .before .before .args in
 form-len-requires : tie.Need-form-len-requires
 form-len-requires c κs = let a = c .before .before .before .before .before in
     let v = a .args .value in
-    (fields (c .before .before), part-small (a .args .buffer .now) (v .kind) (v .a) (v .b) (fields (c .before .before)) (range c) (omega (arith, a .good)))
+    (fields (c .before .before), part-small (a .args .buffer .now) (v .kind) (v .a) (v .b) (v .flags) (fields (c .before .before)) (range c) (omega (arith, a .good)))
 
 returns-3 : tie.Need-returns-3
 returns-3 c = let a = c .before .before .before .before .before .before .args in
     let v = a .value in
     let e = c .before in
-    c .form-len .ensures (part (a .buffer .now) (v .a) (v .b)) (part-whole (a .buffer .now) (v .kind) (v .a) (v .b) (fields (e .before .before)) (range e))
-    ∙ sym (ap lengthOf (form-whole (a .buffer .now) (recordOf v) (fields (e .before .before)) (range e)) ∙ ap length (value-bytes (a .buffer .now) (v .kind) (v .a) (v .b)))
+    c .form-len .ensures (part (a .buffer .now) (v .a) (v .b)) (part-whole (a .buffer .now) (v .kind) (v .a) (v .b) (v .flags) (fields (e .before .before)) (range e))
+    ∙ sym (ap lengthOf (form-whole (a .buffer .now) (recordOf v) (fields (e .before .before)) (range e)) ∙ ap length (value-bytes (a .buffer .now) (v .kind) (v .a) (v .b) (v .flags)))
 
 pub value-len-spec : {M : Type 1} → statement M
 value-len-spec =

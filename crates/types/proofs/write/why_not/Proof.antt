@@ -40,7 +40,7 @@ returns-3 : tie.Need-returns-3
 returns-3 c = λ room none. let a = c .before .before .before .before .before .args in
     let v = a .value in
     told-short (valueBytes (a .buffer .now) (recordOf v)) room (form-whole (a .buffer .now) (recordOf v) (fields (c .before .before)) (range c))
-    (value-some (a .buffer .now) (v .kind) (v .a) (v .b) (fields (c .before .before))) none
+    (value-some (a .buffer .now) (v .kind) (v .a) (v .b) (v .flags) (fields (c .before .before))) none
 
 pub why-not-spec : {M : Type 1} → statement M
 why-not-spec = tie.close (tie.spec writable-requires returns in-range-requires returns-2 returns-3)

@@ -1,4 +1,4 @@
--- `writer::action::action_at` meets its contract: seven reads.
+-- `writer::action::action_at` meets its contract: eight reads.
 -- Assumes nothing.
 use borrow.Author.Needs.{needs}
 use native.Mathlib.Nat.{add-zero}
@@ -14,6 +14,9 @@ pub action-at-spec : {M : Type 1} → statement M
 action-at-spec =
     tie.close
     (tie.spec
+    (λ c. search needs)
+    (λ c. search needs)
+    (λ c. search needs)
     (λ c. search needs)
     (λ c. search needs)
     (λ c. search needs)

@@ -38,7 +38,7 @@ add-cap-2 : tie.Need-add-cap-2
 add-cap-2 c =
     let s = c .before .before .before .before .before in
     let a = s .args in
-    omega (arith, value-is c, c .before .cap .ensures, capped-most (a .most) (c .before .before .before .varint-len .result + a .pair .len), s .good, s .fits, value-bound (a .buffer .now) (a .pair .value .kind) (a .pair .value .a) (a .pair .value .b), part-within-buffer (a .buffer .now) (a .pair .value .a) (a .pair .value .b))
+    omega (arith, value-is c, c .before .cap .ensures, capped-most (a .most) (c .before .before .before .varint-len .result + a .pair .len), s .good, s .fits, value-bound (a .buffer .now) (a .pair .value .kind) (a .pair .value .a) (a .pair .value .b) (a .pair .value .flags), part-within-buffer (a .buffer .now) (a .pair .value .a) (a .pair .value .b))
 
 cap-requires-2 : tie.Need-cap-requires-2
 cap-requires-2 c κs = search needs
