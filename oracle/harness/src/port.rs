@@ -1,5 +1,11 @@
 //! The port's calls under their C names, and each in a form that Rust can call safely.
 
+/// How many numbers a value has, and each record of a table.
+pub const VALUE_WIDTH: usize = 4;
+pub const MESSAGE_WIDTH: usize = 4;
+pub const PAIR_WIDTH: usize = 6;
+pub const ACTION_WIDTH: usize = 8;
+
 /// Declares the calls. A build without the library gets calls that are never to be reached.
 macro_rules! c_calls {
     ($(fn $name:ident($($arg:ident: $kind:ty),*) -> $answer:ty;)*) => {
@@ -133,23 +139,23 @@ pub fn lossy_text(bytes: &[u8], out: &mut [u8], at: &mut u64) -> u64 {
     unsafe { spop_lossy_text(bytes.as_ptr(), bytes.len(), out.as_mut_ptr(), out.len(), at) }
 }
 
-pub fn typed_data(input: &[u8], value: &mut [u64; 3], at: &mut u64) -> u64 {
-    // SAFETY: the slice is lent with its length, the record has three numbers, and nothing lent overlaps.
+pub fn typed_data(input: &[u8], value: &mut [u64; VALUE_WIDTH], at: &mut u64) -> u64 {
+    // SAFETY: the slice is lent with its length, the record has its numbers, and nothing lent overlaps.
     unsafe { spop_typed_data(input.as_ptr(), input.len(), value.as_mut_ptr(), at) }
 }
 
-pub fn value_len(value: &[u64; 3], buffer: &[u8]) -> u64 {
-    // SAFETY: the record has three numbers, and the slice is lent with its length.
+pub fn value_len(value: &[u64; VALUE_WIDTH], buffer: &[u8]) -> u64 {
+    // SAFETY: the record has its numbers, and the slice is lent with its length.
     unsafe { spop_value_len(value.as_ptr(), buffer.as_ptr(), buffer.len()) }
 }
 
-pub fn check_value(value: &[u64; 3], buffer: &[u8]) -> u64 {
-    // SAFETY: the record has three numbers, and the slice is lent with its length.
+pub fn check_value(value: &[u64; VALUE_WIDTH], buffer: &[u8]) -> u64 {
+    // SAFETY: the record has its numbers, and the slice is lent with its length.
     unsafe { spop_check_value(value.as_ptr(), buffer.as_ptr(), buffer.len()) }
 }
 
-pub fn write_value(value: &[u64; 3], buffer: &[u8], out: &mut [u8], at: &mut u64) -> u64 {
-    // SAFETY: the record has three numbers, each slice is lent with its length, and nothing lent overlaps.
+pub fn write_value(value: &[u64; VALUE_WIDTH], buffer: &[u8], out: &mut [u8], at: &mut u64) -> u64 {
+    // SAFETY: the record has its numbers, each slice is lent with its length, and nothing lent overlaps.
     unsafe {
         spop_write_value(
             value.as_ptr(),
@@ -275,8 +281,8 @@ pub fn write_notify(
     }
 }
 
-pub fn read_pair(input: &[u8], pair: &mut [u64; 5], at: &mut u64) -> u64 {
-    // SAFETY: the slice is lent with its length, the record has five numbers, and nothing lent overlaps.
+pub fn read_pair(input: &[u8], pair: &mut [u64; PAIR_WIDTH], at: &mut u64) -> u64 {
+    // SAFETY: the slice is lent with its length, the record has its numbers, and nothing lent overlaps.
     unsafe { spop_read_pair(input.as_ptr(), input.len(), pair.as_mut_ptr(), at) }
 }
 

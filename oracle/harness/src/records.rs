@@ -3,6 +3,7 @@
 use crate::{
     answers::Answer,
     inputs::{self, Random},
+    port::{PAIR_WIDTH, VALUE_WIDTH},
     text::{Difference, hex},
 };
 use spop::{
@@ -28,8 +29,8 @@ pub const NOT_TEXT: u64 = 15;
 pub const OUTSIDE: u64 = 16;
 pub const TOO_MANY: u64 = 17;
 
-/// Kind, a, b.
-pub type Value = [u64; 3];
+/// Kind, a, b, flags.
+pub type Value = [u64; VALUE_WIDTH];
 
 /// The bytes that a start and a length point at.
 pub fn part(buffer: &[u8], start: u64, length: u64) -> Result<&[u8], u64> {
@@ -46,7 +47,7 @@ pub fn text(buffer: &[u8], start: u64, length: u64) -> Result<String, u64> {
 }
 
 /// Whether each number lies in its field.
-pub fn writable([kind, a, b]: Value) -> Result<(), u64> {
+pub fn writable([kind, a, b, flags]: Value) -> Result<(), u64> {
     let right = match kind {
         0 => a == 0 && b == 0,
         1 => a < 2 && b == 0,
@@ -58,13 +59,18 @@ pub fn writable([kind, a, b]: Value) -> Result<(), u64> {
         8 | 9 => true,
         _ => false,
     };
-    if right { Ok(()) } else { Err(NOT_WRITABLE) }
+    let flagged = if kind == 1 { flags == 0 } else { flags < 16 };
+    if right && flagged {
+        Ok(())
+    } else {
+        Err(NOT_WRITABLE)
+    }
 }
 
-/// The Rust's value, or the first of 14, 16 and 15 that holds.
+/// The Rust's value, which has no flags, or the first of 14, 16 and 15 that holds.
 pub fn value(record: Value, buffer: &[u8]) -> Result<TypedData, u64> {
     writable(record)?;
-    let [kind, a, b] = record;
+    let [kind, a, b, _] = record;
     Ok(match kind {
         0 => TypedData::Null,
         1 => TypedData::Bool(a == 1),
@@ -85,12 +91,35 @@ pub fn value(record: Value, buffer: &[u8]) -> Result<TypedData, u64> {
     })
 }
 
-/// A pair's key and value, or what its five numbers are refused with: 14, 16 and 15 for the key, 16 and 15 for the value.
+/// A pair's key and value, or what its numbers are refused with: 14, 16 and 15 for the key, 16 and 15 for the value.
 pub fn pair(record: &[u64], buffer: &[u8]) -> Result<(String, TypedData), u64> {
-    let numbers = [record[2], record[3], record[4]];
+    let numbers = value_of(record);
     writable(numbers)?;
     let key = text(buffer, record[0], record[1])?;
     Ok((key, value(numbers, buffer)?))
+}
+
+/// The value of a pair or an action, which has the last numbers of its record.
+pub fn value_of(record: &[u64]) -> Value {
+    *record.last_chunk().expect("a record has a value")
+}
+
+/// The flags of a pair's or an action's value, the last of its numbers.
+pub fn flags_of(record: &[u64]) -> u64 {
+    record[record.len() - 1]
+}
+
+/// The flags that are read from a type byte: a bool has none.
+pub fn flags_read(byte: u8) -> u64 {
+    match byte % 16 {
+        1 => 0,
+        _ => u64::from(byte / 16),
+    }
+}
+
+/// Puts flags into a type byte that the Rust wrote, whose own are a bool's.
+pub fn put_flags(byte: &mut u8, flags: u64) {
+    *byte += 16 * flags as u8;
 }
 
 /// Adds the written form of a string.
@@ -104,6 +133,14 @@ pub fn encoding(key: &str, value: &TypedData) -> Vec<u8> {
     let mut bytes = Vec::new();
     add_string(key, &mut bytes);
     value.to_bytes(&mut bytes);
+    bytes
+}
+
+/// The same with the value's flags, of which the Rust writes none.
+pub fn flagged(key: &str, value: &TypedData, flags: u64) -> Vec<u8> {
+    let mut bytes = encoding(key, value);
+    let place = bytes.len() - value.serialized_len();
+    put_flags(&mut bytes[place], flags);
     bytes
 }
 
@@ -183,8 +220,8 @@ pub fn lend(bytes: &[u8], buffer: &mut Vec<u8>) -> [u64; 2] {
     [start, bytes.len() as u64]
 }
 
-/// The five numbers of a pair whose bytes are put behind those of the buffer.
-pub fn lend_pair(key: &str, value: &TypedData, buffer: &mut Vec<u8>) -> [u64; 5] {
+/// The numbers of a pair whose bytes are put behind those of the buffer.
+pub fn lend_pair(key: &str, value: &TypedData, buffer: &mut Vec<u8>) -> [u64; PAIR_WIDTH] {
     let [start, length] = lend(key.as_bytes(), buffer);
     let [kind, a, b] = match value {
         TypedData::UInt32(n) => [3, u64::from(*n), 0],
@@ -195,7 +232,7 @@ pub fn lend_pair(key: &str, value: &TypedData, buffer: &mut Vec<u8>) -> [u64; 5]
         }
         _ => unreachable!("no such value is timed"),
     };
-    [start, length, kind, a, b]
+    [start, length, kind, a, b, 0]
 }
 
 // ---------------------------------------------------------------- writers
@@ -288,6 +325,22 @@ pub fn contents(random: &mut Random) -> Vec<u8> {
 
 /// A value that is right most of the time, in a buffer of this length.
 pub fn drawn_value(random: &mut Random, room: u64) -> Value {
+    let [kind, a, b] = drawn_numbers(random, room);
+    [kind, a, b, drawn_flags(random, kind)]
+}
+
+/// No flags half of the time, and at times some that there are not.
+fn drawn_flags(random: &mut Random, kind: u64) -> u64 {
+    match random.below(32) {
+        0 => 16 + random.below(2),
+        1 => inputs::number(random),
+        2..16 if kind != 1 => random.below(16),
+        _ => 0,
+    }
+}
+
+/// Kind, a, b.
+fn drawn_numbers(random: &mut Random, room: u64) -> [u64; 3] {
     let kind = match random.below(16) {
         0 => 10 + random.below(3),
         _ => random.below(10),

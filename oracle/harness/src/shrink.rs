@@ -1,6 +1,6 @@
 //! Makes an input smaller while the two sides still differ on it.
 
-use crate::answers::Answer;
+use crate::{answers::Answer, port::VALUE_WIDTH};
 
 /// Drops bytes, then lowers them, until neither helps.
 pub fn bytes(start: &[u8], differs: impl Fn(&[u8]) -> bool) -> Vec<u8> {
@@ -182,13 +182,13 @@ pub fn table(numbers: &[u64], count: u64, width: usize) -> Vec<(Vec<u64>, u64)> 
     all
 }
 
-/// The table with null in the place of each value that is none. A value is the last three numbers of its record.
+/// The table with null in the place of each value that is none. A value is the last numbers of its record.
 pub fn with_null(numbers: &[u64], width: usize) -> Vec<Vec<u64>> {
     let ends = (width..=numbers.len()).step_by(width);
-    let valued = ends.filter(|end| numbers[end - 3..*end] != [0; 3]);
+    let valued = ends.filter(|end| numbers[end - VALUE_WIDTH..*end] != [0; VALUE_WIDTH]);
     let plainer = valued.map(|end| {
         let mut plainer = numbers.to_vec();
-        plainer[end - 3..end].fill(0);
+        plainer[end - VALUE_WIDTH..end].fill(0);
         plainer
     });
     plainer.collect()

@@ -150,8 +150,21 @@ fn add(content: &[u8], bytes: &mut Vec<u8>) {
     bytes.extend_from_slice(content);
 }
 
-/// A value of any kind. A string need not be UTF-8, so the Rust does not write it.
+/// A value of any kind, with any flags, which no line shows.
 fn value(random: &mut Random, bytes: &mut Vec<u8>) {
+    let place = bytes.len();
+    plain_value(random, bytes);
+    // Of a bool the lowest flag is its value.
+    let flags = wire::type_flags(random);
+    bytes[place] |= if bytes[place] % 16 == 1 {
+        flags & 0xe0
+    } else {
+        flags
+    };
+}
+
+/// The same without flags. A string need not be UTF-8, so the Rust does not write it.
+fn plain_value(random: &mut Random, bytes: &mut Vec<u8>) {
     let value = match random.below(10) {
         0 => TypedData::Null,
         1 => TypedData::Bool(random.below(2) == 0),

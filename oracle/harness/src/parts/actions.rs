@@ -3,7 +3,7 @@
 use crate::{
     answers::Answer,
     inputs::{self, Random},
-    port,
+    port::{self, ACTION_WIDTH, VALUE_WIDTH},
     reader::back::Written,
     records::{self, Frame, NOT_WRITABLE, OUTSIDE, Wrote},
     shrink::{self, Fields},
@@ -57,28 +57,60 @@ impl Call {
         if !self.fin || self.abort {
             return Err((NOT_WRITABLE, 0));
         }
-        if self.count > self.actions.len() as u64 / 7 {
+        if self.count > (self.actions.len() / ACTION_WIDTH) as u64 {
             return Err((OUTSIDE, 0));
         }
         let mut actions = Vec::new();
-        for (index, record) in self
-            .actions
-            .chunks_exact(7)
-            .take(self.count as usize)
-            .enumerate()
-        {
+        for (index, record) in self.rows().enumerate() {
             let action = action(record, &self.buffer);
             actions.push(action.map_err(|number| (number, index as u64))?);
         }
-        Ok(Frame::ack(self.stream, self.frame, actions).written())
+        Ok(self.written(actions))
+    }
+
+    /// Whether no value has flags, so that the bytes are the Rust's alone.
+    fn is_plain(&self) -> bool {
+        self.rows().all(|row| records::flags_of(row) == 0)
+    }
+
+    fn rows(&self) -> impl Iterator<Item = &[u64]> {
+        self.actions
+            .chunks_exact(ACTION_WIDTH)
+            .take(self.count as usize)
+    }
+
+    /// What the Rust writes, with the values' flags put in, of which it writes none.
+    fn written(&self, actions: Vec<Action>) -> Vec<u8> {
+        let parts: Vec<[usize; 2]> = actions.iter().map(parts).collect();
+        let mut whole = Frame::ack(self.stream, self.frame, actions).written();
+        let mut at = whole.len() - parts.as_flattened().iter().sum::<usize>();
+        for ([name, value], record) in parts.into_iter().zip(self.rows()) {
+            at += name;
+            if value > 0 {
+                records::put_flags(&mut whole[at], records::flags_of(record));
+            }
+            at += value;
+        }
+        whole
     }
 }
 
+/// How many bytes an action has up to its value, and how many the value has, 0 for an unset.
+fn parts(action: &Action) -> [usize; 2] {
+    let (name, value) = match action {
+        Action::SetVar { name, value, .. } => (name, value.serialized_len()),
+        Action::UnSetVar { name, .. } => (name, 0),
+    };
+    let mut front = vec![0; 3];
+    records::add_string(name, &mut front);
+    [front.len(), value]
+}
+
 fn action(record: &[u64], buffer: &[u8]) -> Result<Action, u64> {
-    let value = [record[4], record[5], record[6]];
+    let value = records::value_of(record);
     match record[0] {
         1 => records::writable(value)?,
-        2 if value == [0, 0, 0] => {}
+        2 if value == [0; VALUE_WIDTH] => {}
         _ => return Err(NOT_WRITABLE),
     }
     let scope = scope(record[1])?;
@@ -132,17 +164,18 @@ fn compare_read(call: &Call, port: &Wrote, length: usize) -> Result<(), Differen
 }
 
 pub fn diff(random: &mut Random, rounds: u64) -> Result<String, Difference> {
-    let mut done = 0;
+    let (mut done, mut plain) = (0, 0);
     for _ in 0..rounds {
         let mut call = drawn(random);
         if let Some(length) = checked(&call)? {
             done += 1;
+            plain += u64::from(call.is_plain());
             records::to_an_edge(random, length, &mut call.limit, &mut call.room);
             checked(&call)?;
         }
     }
     Ok(format!(
-        "{rounds} rounds, {done} of them with a frame written and read back"
+        "{rounds} rounds, {done} of them with a frame written and read back, {plain} of these without a flag, as the Rust writes them"
     ))
 }
 
@@ -161,7 +194,7 @@ impl shrink::Call for Call {
     }
 
     fn with_less(&self) -> Vec<Call> {
-        let fewer = shrink::table(&self.actions, self.count, 7);
+        let fewer = shrink::table(&self.actions, self.count, ACTION_WIDTH);
         let fewer = fewer.into_iter().map(|(actions, count)| Call {
             actions,
             count,
@@ -203,11 +236,16 @@ fn drawn(random: &mut Random) -> Call {
             length,
         ]);
         actions.extend(match kind {
-            2 => [records::unused(random), records::unused(random) / 2, 0],
+            2 => [
+                records::unused(random),
+                records::unused(random) / 2,
+                0,
+                records::unused(random) / 2,
+            ],
             _ => records::drawn_value(random, room),
         });
     }
-    actions.extend((0..random.index(7)).map(|_| random.below(3)));
+    actions.extend((0..random.index(ACTION_WIDTH)).map(|_| random.below(3)));
     let plain = random.below(8) > 0;
     Call {
         fin: plain || random.below(2) == 0,

@@ -5,7 +5,7 @@ use crate::{
     answers::{self, Answer},
     counts::ENOUGH,
     inputs::{self, Random},
-    port,
+    port::{self, MESSAGE_WIDTH, PAIR_WIDTH},
     reader::{
         call::{Call, declared},
         classes::Met,
@@ -55,7 +55,7 @@ pub const LISTING: &[u8] =
     b"\0\0\0\x19\x03\0\0\0\x01\x01\x02\x05delay\x02\x04slot\x03\x07\x02ok\x11";
 
 /// Tables for 64 messages and 256 pairs.
-const ROOMY: [usize; 2] = [4 * 64, 5 * 256];
+const ROOMY: [usize; 2] = [MESSAGE_WIDTH * 64, PAIR_WIDTH * 256];
 
 /// The paper's examples of frames, with a limit and the answer: they hold the reading of the paper to it.
 const EXAMPLES: [(&[u8], u32, Answer); 13] = [
@@ -106,7 +106,7 @@ fn examples(met: &mut Met) -> Result<(), Difference> {
     let read = model::frame(LISTING, 65_532, Rooms::of(ROOMY));
     assert_eq!(read.head, [3, 1, 1, 2, 1, 2]);
     assert_eq!(read.messages, [[12, 5, 0, 2]]);
-    assert_eq!(read.pairs, [[19, 4, 3, 7, 0], [26, 2, 1, 1, 0]]);
+    assert_eq!(read.pairs, [[19, 4, 3, 7, 0, 0], [26, 2, 1, 1, 0, 0]]);
     Ok(())
 }
 
@@ -115,7 +115,7 @@ fn around_the_listing(met: &mut Met) -> Result<(), Difference> {
     let mut call = Call {
         input: LISTING.to_vec(),
         limit: 25,
-        lengths: [4, 10],
+        lengths: [MESSAGE_WIDTH, 2 * PAIR_WIDTH],
     };
     for end in 0..LISTING.len() {
         call.input.truncate(LISTING.len() - end);
@@ -276,8 +276,8 @@ pub fn drawn(random: &mut Random) -> Call {
     Call {
         limit,
         lengths: [
-            length(random, drawn.messages, 4),
-            length(random, drawn.pairs, 5),
+            length(random, drawn.messages, MESSAGE_WIDTH),
+            length(random, drawn.pairs, PAIR_WIDTH),
         ],
         input: drawn.bytes,
     }
@@ -305,9 +305,12 @@ fn at_an_edge(random: &mut Random, call: &Call, read: &Read) -> Call {
             .truncate(random.index(4 + declared(&call.input) as usize)),
         1 => edge.limit = declared(&call.input),
         2 => edge.limit = declared(&call.input) - 1,
-        3 => edge.lengths = [4 * rows[0], 5 * rows[1]],
-        4 => edge.lengths[0] = (4 * rows[0]).saturating_sub(1),
-        _ => edge.lengths[1] = (5 * rows[1]).saturating_sub(1 + random.index(10)),
+        3 => edge.lengths = [MESSAGE_WIDTH * rows[0], PAIR_WIDTH * rows[1]],
+        4 => edge.lengths[0] = (MESSAGE_WIDTH * rows[0]).saturating_sub(1),
+        _ => {
+            let fewer = 1 + random.index(2 * PAIR_WIDTH);
+            edge.lengths[1] = (PAIR_WIDTH * rows[1]).saturating_sub(fewer);
+        }
     }
     edge
 }

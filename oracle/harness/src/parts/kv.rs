@@ -3,9 +3,11 @@
 use crate::{
     answers::Answer,
     inputs::{self, Random},
-    port,
+    port::{self, PAIR_WIDTH},
     reader::back::{Writer, Written},
-    records::{self, Frame, NOT_WRITABLE, OUTSIDE, Payload, REPEATED, ROW, Wrote, encoding},
+    records::{
+        self, Frame, NOT_WRITABLE, OUTSIDE, Payload, REPEATED, ROW, Wrote, encoding, flags_of,
+    },
     shrink::{self, Fields},
     text::Difference,
     timing,
@@ -61,7 +63,7 @@ impl Writer for Call {
             spare: [0, 0],
             buffer: &self.buffer,
             messages: &[],
-            pairs: &self.pairs[..5 * self.count as usize],
+            pairs: &self.pairs[..PAIR_WIDTH * self.count as usize],
         }
     }
 }
@@ -85,20 +87,24 @@ impl Call {
 
     fn expected(&self) -> Result<Vec<u8>, (u64, u64)> {
         let kind = self.frame_type()?;
-        if self.count > self.pairs.len() as u64 / 5 {
+        if self.count > (self.pairs.len() / PAIR_WIDTH) as u64 {
             return Err((OUTSIDE, 0));
         }
         let mut pairs: Vec<(String, TypedData)> = Vec::new();
-        for (index, record) in self
-            .pairs
-            .chunks_exact(5)
-            .take(self.count as usize)
-            .enumerate()
-        {
+        for (index, record) in self.rows().enumerate() {
             let pair = self.pair(record, &pairs);
             pairs.push(pair.map_err(|number| (number, index as u64))?);
         }
         Ok(self.written(kind, pairs))
+    }
+
+    /// Whether no value has flags, so that the bytes are the Rust's alone.
+    fn is_plain(&self) -> bool {
+        self.rows().all(|row| flags_of(row) == 0)
+    }
+
+    fn rows(&self) -> impl Iterator<Item = &[u64]> {
+        self.pairs.chunks_exact(PAIR_WIDTH).take(self.count as usize)
     }
 
     fn pair(
@@ -113,12 +119,17 @@ impl Call {
         Ok((key, value))
     }
 
-    /// The Rust's header, and the encodings of the pairs in the records' order. The Rust's own payload has to be
-    /// the same encodings in its map's order.
+    /// The Rust's header, and the encodings of the pairs in the records' order, with the values' flags. The Rust's own
+    /// payload has to be the same encodings in its map's order, without flags.
     fn written(&self, kind: FrameType, pairs: Vec<(String, TypedData)>) -> Vec<u8> {
         let encodings: Vec<Vec<u8>> = pairs
             .iter()
             .map(|(key, value)| encoding(key, value))
+            .collect();
+        let flagged: Vec<Vec<u8>> = pairs
+            .iter()
+            .zip(self.rows())
+            .map(|((key, value), row)| records::flagged(key, value, flags_of(row)))
             .collect();
         let map: HashMap<String, TypedData> = pairs.into_iter().collect();
         let order: Vec<Vec<u8>> = map
@@ -145,7 +156,7 @@ impl Call {
             "the Rust's payload is not its pairs"
         );
         whole.truncate(head);
-        whole.extend(encodings.concat());
+        whole.extend(flagged.concat());
         whole
     }
 }
@@ -180,17 +191,18 @@ fn compare(call: &Call) -> Result<Option<usize>, Difference> {
 }
 
 pub fn diff(random: &mut Random, rounds: u64) -> Result<String, Difference> {
-    let mut done = 0;
+    let (mut done, mut plain) = (0, 0);
     for _ in 0..rounds {
         let mut call = drawn(random);
         if let Some(length) = checked(&call)? {
             done += 1;
+            plain += u64::from(call.is_plain());
             records::to_an_edge(random, length, &mut call.limit, &mut call.room);
             checked(&call)?;
         }
     }
     Ok(format!(
-        "{rounds} rounds, {done} of them with a frame written and read back"
+        "{rounds} rounds, {done} of them with a frame written and read back, {plain} of these without a flag, as the Rust writes them"
     ))
 }
 
@@ -209,7 +221,7 @@ impl shrink::Call for Call {
     }
 
     fn with_less(&self) -> Vec<Call> {
-        let fewer = shrink::table(&self.pairs, self.count, 5);
+        let fewer = shrink::table(&self.pairs, self.count, PAIR_WIDTH);
         let fewer = fewer.into_iter().map(|(pairs, count)| Call {
             pairs,
             count,
@@ -241,7 +253,7 @@ fn drawn(random: &mut Random) -> Call {
     let room = buffer.len() as u64;
     let rows = random.index(MOST + 1);
     let mut pairs = drawn_pairs(random, rows, room);
-    pairs.extend((0..random.index(5)).map(|_| random.below(3)));
+    pairs.extend((0..random.index(PAIR_WIDTH)).map(|_| random.below(3)));
     let kind = [1, 1, 2, 101, 102, 3, 103, 0, 256][random.index(9)];
     let plain = random.below(4) > 0;
     Call {
@@ -302,7 +314,7 @@ pub fn right(random: &mut Random) -> Call {
     };
     call.pairs.clear();
     let mut earlier = Vec::new();
-    for record in drawn_pairs(random, rows, call.buffer.len() as u64).chunks_exact(5) {
+    for record in drawn_pairs(random, rows, call.buffer.len() as u64).chunks_exact(PAIR_WIDTH) {
         if let Ok(pair) = call.pair(record, &earlier) {
             earlier.push(pair);
             call.pairs.extend(record);
@@ -324,7 +336,9 @@ pub fn bench(_: &mut Random) {
         frame: 0,
         limit: 16_384,
         buffer: b"versionmax-frame-sizecapabilities2.0".to_vec(),
-        pairs: vec![0, 7, 8, 33, 3, 7, 14, 3, 16_380, 0, 21, 12, 8, 0, 0],
+        pairs: vec![
+            0, 7, 8, 33, 3, 0, 7, 14, 3, 16_380, 0, 0, 21, 12, 8, 0, 0, 0,
+        ],
         count: 3,
         room: 256,
     };

@@ -6,6 +6,7 @@ use crate::{
     answers::{DONE, WAIT},
     counts::{Class, Counts, ENOUGH},
     inputs::{self, Random},
+    port::{MESSAGE_WIDTH, PAIR_WIDTH},
     reader::{
         again::{Again, Seen},
         back::{Back, Writer},
@@ -14,7 +15,7 @@ use crate::{
         model::{OVERSIZE, Rooms, TABLE_FULL},
         wire,
     },
-    shrink,
+    records, shrink,
     tenth::NOT_FITTING,
     text::Difference,
 };
@@ -96,7 +97,7 @@ fn drawn(random: &mut Random) -> Again {
         first,
         behind,
         raise: raise(random, over),
-        spare: [spare(random, 4), spare(random, 5)],
+        spare: [spare(random, MESSAGE_WIDTH), spare(random, PAIR_WIDTH)],
     }
 }
 
@@ -165,7 +166,7 @@ fn read_back<C: Writer>(random: &mut Random, mut call: C) -> Back<C> {
         call,
         behind: bytes_behind(random),
         raise: u64::from(raise(random, 0)),
-        spare: [spare(random, 4), spare(random, 5)].map(|count| count as u64),
+        spare: [MESSAGE_WIDTH, PAIR_WIDTH].map(|width| spare(random, width) as u64),
     }
 }
 
@@ -340,9 +341,9 @@ fn kv_classes(back: &Back<kv::Call>, length: usize) -> Vec<Class> {
 
 fn notify_classes(back: &Back<notify::Call>, length: usize) -> Vec<Class> {
     let written = back.call.records();
-    let rows: Vec<&[u64]> = written.messages.chunks_exact(4).collect();
+    let rows: Vec<&[u64]> = written.messages.chunks_exact(MESSAGE_WIDTH).collect();
     let empty_first = rows.windows(2).any(|two| two[0][3] == 0 && two[1][3] > 0);
-    let pairs: Vec<&[u64]> = written.pairs.chunks_exact(5).collect();
+    let pairs: Vec<&[u64]> = written.pairs.chunks_exact(PAIR_WIDTH).collect();
     let repeated = pairs.windows(2).any(|two| two[0][..2] == two[1][..2]);
     let mut all = vec![
         ("no message", rows.is_empty()),
@@ -365,7 +366,7 @@ pub const KINDS: [&str; 10] = [
 
 fn classes_of_both<C: Writer>(back: &Back<C>, length: usize) -> Vec<Class> {
     let written = back.call.records();
-    let pairs: Vec<&[u64]> = written.pairs.chunks_exact(5).collect();
+    let pairs: Vec<&[u64]> = written.pairs.chunks_exact(PAIR_WIDTH).collect();
     let of_kind = |kind| pairs.iter().any(|pair| pair[2] == kind);
     let kinds = (0..).zip(KINDS).map(|(kind, name)| (name, of_kind(kind)));
     let just = u64::from(written.limit) + 4 == length as u64;
@@ -383,7 +384,14 @@ fn classes_of_both<C: Writer>(back: &Back<C>, length: usize) -> Vec<Class> {
             back.raise > 0 && written.limit < u32::MAX,
         ),
         ("in tables without a spare record", back.spare == [0, 0]),
-        ("in larger tables", back.spare[0] >= 4 && back.spare[1] >= 5),
+        (
+            "in larger tables",
+            back.spare[0] >= MESSAGE_WIDTH as u64 && back.spare[1] >= PAIR_WIDTH as u64,
+        ),
+        (
+            "flags of a value",
+            pairs.iter().any(|pair| records::flags_of(pair) > 0),
+        ),
     ];
     all.into_iter().chain(kinds).collect()
 }

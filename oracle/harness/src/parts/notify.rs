@@ -4,9 +4,9 @@
 use crate::{
     answers::{self, Answer},
     inputs::{self, Random},
-    port,
+    port::{self, MESSAGE_WIDTH, PAIR_WIDTH},
     reader::back::{Writer, Written},
-    records::{self, Frame, NOT_WRITABLE, OUTSIDE, ROW, TOO_MANY, Wrote},
+    records::{self, Frame, NOT_WRITABLE, OUTSIDE, ROW, TOO_MANY, Wrote, flags_of},
     shrink::{self, Fields},
     text::{Difference, hex},
     timing,
@@ -67,8 +67,8 @@ impl Writer for Call {
             limit: self.limit,
             spare: [0, 0],
             buffer: &self.buffer,
-            messages: &self.messages[..4 * self.message_count as usize],
-            pairs: &self.pairs[..5 * self.pair_count as usize],
+            messages: &self.messages[..MESSAGE_WIDTH * self.message_count as usize],
+            pairs: &self.pairs[..PAIR_WIDTH * self.pair_count as usize],
         }
     }
 }
@@ -84,10 +84,10 @@ impl Call {
         if !self.fin || self.abort {
             return Err((NOT_WRITABLE, 0));
         }
-        if self.message_count > self.messages.len() as u64 / 4 {
+        if self.message_count > (self.messages.len() / MESSAGE_WIDTH) as u64 {
             return Err((OUTSIDE, 0));
         }
-        if self.pair_count > self.pairs.len() as u64 / 5 {
+        if self.pair_count > (self.pairs.len() / PAIR_WIDTH) as u64 {
             return Err((OUTSIDE, 0));
         }
         if self.message_count == 0 && self.pair_count > 0 {
@@ -104,8 +104,14 @@ impl Call {
 
     fn rows(&self) -> impl Iterator<Item = &[u64]> {
         self.messages
-            .chunks_exact(4)
+            .chunks_exact(MESSAGE_WIDTH)
             .take(self.message_count as usize)
+    }
+
+    fn pair_rows(&self) -> impl Iterator<Item = &[u64]> {
+        self.pairs
+            .chunks_exact(PAIR_WIDTH)
+            .take(self.pair_count as usize)
     }
 
     fn names(&self) -> Result<Vec<String>, (u64, u64)> {
@@ -134,8 +140,9 @@ impl Call {
     }
 
     fn arguments(&self) -> Result<Vec<(String, TypedData)>, (u64, u64)> {
-        let rows = self.pairs.chunks_exact(5).take(self.pair_count as usize);
-        let pairs = rows.map(|row| records::pair(row, &self.buffer));
+        let pairs = self
+            .pair_rows()
+            .map(|row| records::pair(row, &self.buffer));
         pairs
             .enumerate()
             .map(|(index, pair)| pair.map_err(|number| (number, index as u64)))
@@ -150,13 +157,13 @@ impl Call {
             frame_id: self.frame,
         };
         metadata.write_to(&mut frame);
+        let mut rows = self.pair_rows();
         for (name, arguments) in messages {
             records::add_string(name, &mut frame);
             frame.push(arguments.len() as u8);
+            let run = arguments.iter().zip(rows.by_ref());
             frame.extend(
-                arguments
-                    .iter()
-                    .flat_map(|(key, value)| records::encoding(key, value)),
+                run.flat_map(|((key, value), row)| records::flagged(key, value, flags_of(row))),
             );
         }
         let mut whole = (frame.len() as u32).to_be_bytes().to_vec();
@@ -266,12 +273,12 @@ impl shrink::Call for Call {
     fn with_less(&self) -> Vec<Call> {
         let mut all = vec![self.without_rests()];
         for index in 0..self.rows().count() {
-            let count = self.messages[4 * index + 3] as usize;
+            let count = self.messages[MESSAGE_WIDTH * index + 3] as usize;
             let fewer = [count, count / 2, 1].map(|less| self.without_pairs(index, less));
             all.extend(fewer);
             all.push(Some(self.without_message(index)));
         }
-        let plainer = shrink::with_null(&self.pairs, 5).into_iter();
+        let plainer = shrink::with_null(&self.pairs, PAIR_WIDTH).into_iter();
         let plainer = plainer.map(|pairs| Call {
             pairs,
             ..self.clone()
@@ -297,9 +304,9 @@ impl Call {
     /// Without what stands in the tables behind the records.
     fn without_rests(&self) -> Option<Call> {
         let mut less = self.clone();
-        less.messages.truncate(4 * self.rows().count());
+        less.messages.truncate(MESSAGE_WIDTH * self.rows().count());
         less.pairs
-            .truncate(5 * usize::try_from(self.pair_count).ok()?.min(self.pairs.len()));
+            .truncate(PAIR_WIDTH * usize::try_from(self.pair_count).ok()?.min(self.pairs.len()));
         (less.messages.len() + less.pairs.len() < self.messages.len() + self.pairs.len())
             .then_some(less)
     }
@@ -307,14 +314,15 @@ impl Call {
     /// Without the first `count` pairs of a run, where it has them; those behind it move up.
     fn without_pairs(&self, index: usize, count: usize) -> Option<Call> {
         let mut less = self.clone();
-        let row = &mut less.messages[4 * index..];
+        let row = &mut less.messages[MESSAGE_WIDTH * index..];
         let start = usize::try_from(row[2]).ok()?;
         row[3] = row[3].checked_sub(count as u64)?;
-        for later in row[4..].chunks_exact_mut(4) {
+        for later in row[MESSAGE_WIDTH..].chunks_exact_mut(MESSAGE_WIDTH) {
             later[2] = later[2].saturating_sub(count as u64);
         }
         less.pair_count = less.pair_count.checked_sub(count as u64)?;
-        let rows = start.checked_mul(5)?..start.checked_add(count)?.checked_mul(5)?;
+        let end = start.checked_add(count)?;
+        let rows = start.checked_mul(PAIR_WIDTH)?..end.checked_mul(PAIR_WIDTH)?;
         if count == 0 || rows.end > less.pairs.len() {
             return None;
         }
@@ -324,7 +332,8 @@ impl Call {
 
     fn without_message(&self, index: usize) -> Call {
         let mut less = self.clone();
-        less.messages.drain(4 * index..4 * index + 4);
+        let start = MESSAGE_WIDTH * index;
+        less.messages.drain(start..start + MESSAGE_WIDTH);
         less.message_count -= 1;
         less
     }
@@ -351,15 +360,15 @@ pub fn right(random: &mut Random) -> Call {
             0 => random.within(254, 257),
             _ => random.within(0, ARGUMENTS),
         };
-        let first = pairs.len() as u64 / 5;
+        let first = (pairs.len() / PAIR_WIDTH) as u64;
         add_message(random, &buffer, [first, count], &mut messages);
         (0..count).for_each(|_| add_pair(random, &buffer, &mut pairs));
     }
-    let pair_count = pairs.len() as u64 / 5;
+    let pair_count = (pairs.len() / PAIR_WIDTH) as u64;
     let room = ROW * (1 + message_count + pair_count) as usize;
     // What stands behind the records is not to be looked at.
-    messages.extend((0..random.index(9)).map(|_| random.below(3)));
-    pairs.extend((0..random.index(11)).map(|_| random.below(3)));
+    messages.extend((0..random.index(2 * MESSAGE_WIDTH + 1)).map(|_| random.below(3)));
+    pairs.extend((0..random.index(2 * PAIR_WIDTH + 1)).map(|_| random.below(3)));
     Call {
         fin: true,
         abort: false,
@@ -400,7 +409,7 @@ fn add_message(random: &mut Random, buffer: &[u8], run: [u64; 2], messages: &mut
         name = drawn_name(random, buffer);
     }
     if random.below(4) == 0 {
-        repeat(random, &mut name, messages, 4);
+        repeat(random, &mut name, messages, MESSAGE_WIDTH);
     }
     messages.extend(name);
     messages.extend(run);
@@ -417,15 +426,15 @@ fn add_pair(random: &mut Random, buffer: &[u8], pairs: &mut Vec<u64>) {
         pair = drawn_pair(random, buffer);
     }
     if random.below(4) == 0 {
-        repeat(random, &mut pair, pairs, 5);
+        repeat(random, &mut pair, pairs, PAIR_WIDTH);
     }
     pairs.extend(pair);
 }
 
-fn drawn_pair(random: &mut Random, buffer: &[u8]) -> [u64; 5] {
+fn drawn_pair(random: &mut Random, buffer: &[u8]) -> [u64; PAIR_WIDTH] {
     let [start, length] = drawn_name(random, buffer);
-    let [kind, a, b] = records::drawn_value(random, buffer.len() as u64);
-    [start, length, kind, a, b]
+    let [kind, a, b, flags] = records::drawn_value(random, buffer.len() as u64);
+    [start, length, kind, a, b, flags]
 }
 
 /// Takes over the start and the length of a record of the table, where it has one.
@@ -447,10 +456,10 @@ fn spoil(random: &mut Random, call: &mut Call) {
         }
         1 | 2 => change_one(random, &mut call.messages),
         3..=5 => change_one(random, &mut call.pairs),
-        6 => change_some(random, &mut call.messages, 4),
-        7 => change_some(random, &mut call.pairs, 5),
-        8 => call.message_count = other_count(random, call.message_count, 4),
-        9 => call.pair_count = other_count(random, call.pair_count, 5),
+        6 => change_some(random, &mut call.messages, MESSAGE_WIDTH),
+        7 => change_some(random, &mut call.pairs, PAIR_WIDTH),
+        8 => call.message_count = other_count(random, call.message_count, MESSAGE_WIDTH),
+        9 => call.pair_count = other_count(random, call.pair_count, PAIR_WIDTH),
         10 => call.message_count = 0,
         11 => move_runs(random, call),
         12 => wrap_last_run(random, call),
@@ -493,9 +502,9 @@ fn other(random: &mut Random, old: u64) -> u64 {
 }
 
 /// Some counts are so large that their numbers, counted in 64 bits, would start from 0 again.
-fn other_count(random: &mut Random, old: u64, width: u64) -> u64 {
+fn other_count(random: &mut Random, old: u64, width: usize) -> u64 {
     match random.below(4) {
-        0 => u64::MAX / width + 1 + random.below(3),
+        0 => u64::MAX / width as u64 + 1 + random.below(3),
         _ => other(random, old),
     }
 }
@@ -505,7 +514,7 @@ fn other_count(random: &mut Random, old: u64, width: u64) -> u64 {
 fn move_runs(random: &mut Random, call: &mut Call) {
     let step = [1, u64::MAX][random.index(2)];
     let from = random.below(call.message_count.max(1)) as usize;
-    for row in call.messages.chunks_exact_mut(4).skip(from) {
+    for row in call.messages.chunks_exact_mut(MESSAGE_WIDTH).skip(from) {
         row[2] = row[2].wrapping_add(step);
     }
     call.pair_count = call.pair_count.wrapping_add(step);
@@ -514,7 +523,7 @@ fn move_runs(random: &mut Random, call: &mut Call) {
 /// Has the last run start behind the last pair, and end at it where sums lose what 64 bits do not hold.
 fn wrap_last_run(random: &mut Random, call: &mut Call) {
     let last = call.message_count.wrapping_sub(1) as usize;
-    if let Some(row) = call.messages.chunks_exact_mut(4).nth(last)
+    if let Some(row) = call.messages.chunks_exact_mut(MESSAGE_WIDTH).nth(last)
         && row[2] > 0
     {
         call.pair_count = random.below(row[2]);

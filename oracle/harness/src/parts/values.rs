@@ -4,7 +4,7 @@ use crate::{
     answers::{self, Answer, TOO_SHORT_OUT},
     counts::ENOUGH,
     inputs::{self, Random},
-    port,
+    port::{self, VALUE_WIDTH},
     reader::wire,
     records::{self, NOT_TEXT, Value as Record},
     shrink, tenth,
@@ -33,7 +33,7 @@ struct Read {
 }
 
 fn read_by_port(input: &[u8]) -> Read {
-    let (mut value, mut at) = ([UNTOUCHED; 3], UNTOUCHED);
+    let (mut value, mut at) = ([UNTOUCHED; VALUE_WIDTH], UNTOUCHED);
     let number = port::typed_data(input, &mut value, &mut at);
     let answer = Answer::new(number, at);
     Read { answer, value }
@@ -47,14 +47,20 @@ fn read_by_rust(input: &[u8]) -> Read {
         },
         Err(error) => Read {
             answer: answers::refused(input, error),
-            value: [UNTOUCHED; 3],
+            value: [UNTOUCHED; VALUE_WIDTH],
         },
     }
 }
 
-/// The paper's record for what the Rust read. Of bytes it has the contents alone, so that their place is
-/// a plain reading of the paper's, whose contents have to be the Rust's.
+/// The paper's record for what the Rust read, which has no flags.
 fn record_read(input: &[u8], value: &TypedData) -> Record {
+    let [kind, a, b] = numbers_read(input, value);
+    [kind, a, b, records::flags_read(input[0])]
+}
+
+/// Kind, a, b. Of bytes the Rust has the contents alone, so that their place is a plain reading of the paper's, whose
+/// contents have to be the Rust's.
+fn numbers_read(input: &[u8], value: &TypedData) -> [u64; 3] {
     match value {
         TypedData::Null => [0, 0, 0],
         TypedData::Bool(yes) => [1, u64::from(*yes), 0],
@@ -77,14 +83,14 @@ fn record_read(input: &[u8], value: &TypedData) -> Record {
     }
 }
 
-/// A record that no answer of the port equals where the bytes at that place are not the Rust's.
+/// Numbers that no answer of the port has where the bytes at that place are not the Rust's.
 fn part(
     input: &[u8],
     kind: u64,
     start: usize,
     length: usize,
     right: impl Fn(&[u8]) -> bool,
-) -> Record {
+) -> [u64; 3] {
     match input.get(start..start + length) {
         Some(bytes) if right(bytes) => [kind, start as u64, length as u64],
         _ => [u64::MAX; 3],
@@ -111,7 +117,7 @@ fn read_rightly(input: &[u8]) -> Read {
     match refusal(input) {
         Some(answer) => Read {
             answer,
-            value: [UNTOUCHED; 3],
+            value: [UNTOUCHED; VALUE_WIDTH],
         },
         None => read_by_rust(input),
     }
@@ -156,8 +162,8 @@ impl Write {
         }
     }
 
-    /// The Rust writes a value that it holds. Which records are one, and what is refused, is a plain
-    /// reading of the paper.
+    /// The Rust writes a value that it holds. Which records are one, what is refused, and where flags go, of which it
+    /// writes none, is a plain reading of the paper.
     fn by_rust(&self) -> Wrote {
         let mut area = [FILL; AREA];
         let value = match self.value() {
@@ -176,6 +182,7 @@ impl Write {
         };
         let mut bytes = Vec::new();
         value.to_bytes(&mut bytes);
+        records::put_flags(&mut bytes[0], records::flags_of(&self.record));
         let answer = match area[..self.room].get_mut(..bytes.len()) {
             Some(front) => {
                 front.copy_from_slice(&bytes);
@@ -212,8 +219,8 @@ impl Write {
 fn read_difference(input: &[u8]) -> Difference {
     let input = shrink::bytes(input, differs_in_reading);
     let show = |side: Read| match side.value {
-        [UNTOUCHED, UNTOUCHED, UNTOUCHED] => format!("{}, value untouched", side.answer),
-        [kind, a, b] => format!("{}, value {kind} {a:#x} {b:#x}", side.answer),
+        value if value == [UNTOUCHED; VALUE_WIDTH] => format!("{}, value untouched", side.answer),
+        [kind, a, b, flags] => format!("{}, value {kind} {a:#x} {b:#x} {flags:#x}", side.answer),
     };
     let right = match refusal(&input) {
         Some(_) => "paper",
@@ -226,7 +233,7 @@ fn read_difference(input: &[u8]) -> Difference {
 }
 
 fn smaller_write(mut call: Write) -> Write {
-    for place in 1..3 {
+    for place in 1..VALUE_WIDTH {
         let old = call.clone();
         call.record[place] = shrink::number(call.record[place], |n| {
             let mut tried = old.clone();
@@ -419,10 +426,10 @@ fn timed(random: &mut Random, draw: fn(&mut Random) -> TypedData) -> Vec<Timed> 
         let mut bytes = Vec::new();
         value.to_bytes(&mut bytes);
         let (record, buffer) = match &value {
-            TypedData::UInt32(n) => ([3, u64::from(*n), 0], Vec::new()),
-            TypedData::Int64(n) => ([4, *n as u64, 0], Vec::new()),
-            TypedData::IPv4(address) => ([6, 0, 4], address.octets().to_vec()),
-            TypedData::String(text) => ([8, 0, text.len() as u64], text.clone().into_bytes()),
+            TypedData::UInt32(n) => ([3, u64::from(*n), 0, 0], Vec::new()),
+            TypedData::Int64(n) => ([4, *n as u64, 0, 0], Vec::new()),
+            TypedData::IPv4(address) => ([6, 0, 4, 0], address.octets().to_vec()),
+            TypedData::String(text) => ([8, 0, text.len() as u64, 0], text.clone().into_bytes()),
             _ => unreachable!("no such value is timed"),
         };
         Timed {
@@ -446,7 +453,7 @@ fn rust_write(value: &TypedData, out: &mut Vec<u8>) {
 }
 
 fn time_reading(name: &str, values: &[Timed]) {
-    let (mut value, mut at) = ([0; 3], 0);
+    let (mut value, mut at) = ([0; VALUE_WIDTH], 0);
     let port = || {
         for one in values {
             if port::typed_data(black_box(&one.bytes), &mut value, &mut at) == 0 {
@@ -534,9 +541,9 @@ fn list_long_numbers(lines: &mut Vec<String>) -> Result<(), String> {
 fn add(lines: &mut Vec<String>, input: &[u8]) -> Result<(), String> {
     let read = read_rightly(input);
     let (number, at) = read.answer.listed()?;
-    let [kind, a, b] = match number {
+    let [kind, a, b, _] = match number {
         answers::DONE => read.value,
-        _ => [0; 3],
+        _ => [0; VALUE_WIDTH],
     };
     lines.push(format!(
         "v {} {number:016x} {at:016x} {kind:016x} {a:016x} {b:016x}",

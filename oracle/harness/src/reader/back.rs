@@ -6,7 +6,8 @@ use super::{
 };
 use crate::{
     answers::Answer,
-    records::{self, Wrote},
+    port::{MESSAGE_WIDTH, PAIR_WIDTH},
+    records::{self, Wrote, flags_of},
     shrink::{Call, Fields},
     text::{Difference, hex},
 };
@@ -81,25 +82,31 @@ impl Written<'_> {
     }
 
     fn head(&self) -> [u64; 6] {
-        let counts = [self.messages.len() as u64 / 4, self.pairs.len() as u64 / 5];
+        let counts = [
+            (self.messages.len() / MESSAGE_WIDTH) as u64,
+            (self.pairs.len() / PAIR_WIDTH) as u64,
+        ];
         [self.kind, 1, self.ids[0], self.ids[1], counts[0], counts[1]]
     }
 
     fn same_messages(&self, read: &[u64], area: &[u8]) -> bool {
-        let mut rows = self.messages.chunks_exact(4).zip(read.chunks_exact(4));
+        let rows = self.messages.chunks_exact(MESSAGE_WIDTH);
+        let mut rows = rows.zip(read.chunks_exact(MESSAGE_WIDTH));
         rows.all(|(given, read)| {
             given[2..] == read[2..] && same_bytes(&given[..2], self.buffer, &read[..2], area)
         })
     }
 
     fn same_pairs(&self, read: &[u64], area: &[u8]) -> bool {
-        let mut rows = self.pairs.chunks_exact(5).zip(read.chunks_exact(5));
+        let rows = self.pairs.chunks_exact(PAIR_WIDTH);
+        let mut rows = rows.zip(read.chunks_exact(PAIR_WIDTH));
         rows.all(|(given, read)| {
             let value = match given[2] {
                 6..=9 => same_bytes(&given[3..], self.buffer, &read[3..], area),
-                _ => given[3..] == read[3..],
+                _ => given[3..5] == read[3..5],
             };
-            value && given[2] == read[2] && same_bytes(&given[..2], self.buffer, &read[..2], area)
+            let same = given[2] == read[2] && flags_of(given) == flags_of(read);
+            value && same && same_bytes(&given[..2], self.buffer, &read[..2], area)
         })
     }
 }

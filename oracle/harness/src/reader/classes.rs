@@ -50,7 +50,7 @@ impl Met {
 }
 
 /// Which of the classes a call is of, with their names.
-fn classes(call: &Call, read: &Read) -> [Class; 32] {
+fn classes(call: &Call, read: &Read) -> [Class; 33] {
     let is = |number| read.number == number;
     let kind = call.input.get(4).copied().unwrap_or_default();
     let rooms = Rooms::of(call.lengths);
@@ -77,6 +77,10 @@ fn classes(call: &Call, read: &Read) -> [Class; 32] {
         (
             "0, a NOTIFY with a repeated argument",
             is(0) && repeats_argument(&call.input, read),
+        ),
+        (
+            "0, with flags of a value",
+            is(0) && read.pairs.iter().any(|pair| records::flags_of(pair) > 0),
         ),
         (
             "0, with bytes behind the frame",

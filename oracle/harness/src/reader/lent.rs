@@ -3,7 +3,7 @@
 use super::model::Read;
 use crate::{
     answers::{self, Answer},
-    port,
+    port::{self, MESSAGE_WIDTH, PAIR_WIDTH},
 };
 use std::fmt;
 
@@ -102,8 +102,8 @@ impl Reading {
 
     /// The messages and pairs that the head counts, where all their numbers were written and none behind them.
     pub fn records(&self) -> Option<[&[u64]; 2]> {
-        let messages = front(&self.messages, self.head[4], 4)?;
-        Some([messages, front(&self.pairs, self.head[5], 5)?])
+        let messages = front(&self.messages, self.head[4], MESSAGE_WIDTH)?;
+        Some([messages, front(&self.pairs, self.head[5], PAIR_WIDTH)?])
     }
 }
 
@@ -118,7 +118,7 @@ fn front(table: &[u64], count: u64, width: usize) -> Option<&[u64]> {
 /// Whether the key of each pair starts behind that of the one before it.
 pub fn keys_rise(pairs: &[u64]) -> bool {
     pairs
-        .chunks_exact(5)
+        .chunks_exact(PAIR_WIDTH)
         .is_sorted_by(|one, next| one[0] < next[0])
 }
 

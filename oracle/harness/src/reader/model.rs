@@ -1,7 +1,12 @@
 //! Reading as the paper has it, in its plainest form. It calls neither the Rust nor the port, so that each can be
 //! compared with it.
 
-use crate::{answers, records::REPEATED, tenth::NOT_FITTING};
+use crate::{
+    answers,
+    port::{MESSAGE_WIDTH, PAIR_WIDTH, VALUE_WIDTH},
+    records::{self, REPEATED},
+    tenth::NOT_FITTING,
+};
 use std::borrow::Cow;
 
 pub const OVERSIZE: u64 = 2;
@@ -19,11 +24,11 @@ const FRAME: u64 = 4;
 /// A number of refusal, and the place or the missing bytes.
 pub type Refusal = (u64, u64);
 
-/// Key start, key length, kind, a, b.
-pub type Pair = [u64; 5];
+/// Key start, key length, kind, a, b, flags.
+pub type Pair = [u64; PAIR_WIDTH];
 
 /// Name start, name length, first pair, pair count.
-pub type Message = [u64; 4];
+pub type Message = [u64; MESSAGE_WIDTH];
 
 /// How many records the tables have room for.
 #[derive(Clone, Copy, PartialEq)]
@@ -41,8 +46,8 @@ impl Rooms {
     /// Of tables with so many numbers.
     pub fn of([messages, pairs]: [usize; 2]) -> Self {
         Self {
-            messages: messages / 4,
-            pairs: pairs / 5,
+            messages: messages / MESSAGE_WIDTH,
+            pairs: pairs / PAIR_WIDTH,
         }
     }
 }
@@ -240,8 +245,8 @@ impl<'a> Bytes<'a> {
         self.take(length)
     }
 
-    /// Kind, a, b.
-    fn value(&mut self) -> Result<[u64; 3], Refusal> {
+    /// Kind, a, b, flags.
+    fn value(&mut self) -> Result<[u64; VALUE_WIDTH], Refusal> {
         let byte = self.byte()?;
         let kind = u64::from(byte % 16);
         let [a, b] = match kind {
@@ -255,13 +260,13 @@ impl<'a> Bytes<'a> {
             8 | 9 => self.string()?,
             _ => return self.refuse(NO_TYPE),
         };
-        Ok([kind, a, b])
+        Ok([kind, a, b, records::flags_read(byte)])
     }
 
     fn pair(&mut self) -> Result<Pair, Refusal> {
         let [start, length] = self.string()?;
-        let [kind, a, b] = self.value()?;
-        Ok([start, length, kind, a, b])
+        let [kind, a, b, flags] = self.value()?;
+        Ok([start, length, kind, a, b, flags])
     }
 
     /// The lossy text of a pair's key, by which keys are compared.

@@ -154,9 +154,9 @@ pub fn same_pair(key: &str, value: &TypedData, record: &Pair, input: &[u8]) -> b
     is_text(key, record[0], record[1], input) && same_value(value, record, input)
 }
 
-/// Of a text the Rust has the lossy form alone, and a record has the place of its bytes.
+/// Of a text the Rust has the lossy form alone, and a record has the place of its bytes. Flags it has none.
 fn same_value(value: &TypedData, record: &Pair, input: &[u8]) -> bool {
-    let [_, _, kind, a, b] = *record;
+    let [_, _, kind, a, b, _] = *record;
     let numbers = [kind, a, b];
     match value {
         TypedData::Null => numbers == [0, 0, 0],

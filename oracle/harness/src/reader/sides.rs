@@ -9,7 +9,8 @@ use super::{
 use crate::{
     answers::{self, Answer},
     inputs::LONGEST,
-    port, shrink,
+    port::{self, MESSAGE_WIDTH, PAIR_WIDTH},
+    shrink,
     tenth::{self, NOT_FITTING},
     text::{Difference, hex},
 };
@@ -63,7 +64,10 @@ fn compare_with_rust(call: &Call, read: &Read) -> Result<(), Difference> {
         return Ok(());
     }
     // The tables of the difference have room for all that was read.
-    let lengths = [4 * read.messages.len(), 5 * read.pairs.len()];
+    let lengths = [
+        MESSAGE_WIDTH * read.messages.len(),
+        PAIR_WIDTH * read.pairs.len(),
+    ];
     let expected = Reading::expected(read, lengths);
     let rows = call
         .difference()

@@ -244,7 +244,7 @@ pub fn long_value(random: &mut Random, bytes: &mut Vec<u8>) {
     inputs::long_number(random, bytes);
 }
 
-fn type_flags(random: &mut Random) -> u8 {
+pub fn type_flags(random: &mut Random) -> u8 {
     match random.below(2) {
         0 => 0,
         _ => random.byte() & 0xf0,
