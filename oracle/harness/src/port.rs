@@ -102,7 +102,7 @@ c_calls! {
         limit: u32,
         messages: *mut u64,
         messages_len: usize,
-        pairs: *mut [u64; 5],
+        pairs: *mut [u64; PAIR_WIDTH],
         pairs_len: usize,
         head: *mut u64,
         at: *mut u64
@@ -310,12 +310,12 @@ pub fn read_frame(
     }
 }
 
-/// The header's struct of a pair is five numbers in a row.
+/// The header's struct of a pair is its numbers in a row.
 pub fn read_frame_records(
     input: &[u8],
     limit: u32,
     messages: &mut [u64],
-    pairs: &mut [[u64; 5]],
+    pairs: &mut [[u64; PAIR_WIDTH]],
     head: &mut [u64; 6],
     at: &mut u64,
 ) -> u64 {

@@ -343,7 +343,7 @@ fn time_records(name: &str, frame: &[u8]) {
 }
 
 fn record_reads(frame: &[u8]) -> impl FnMut() {
-    let (mut messages, mut pairs) = ([0; ROOMY[0]], [[0; 5]; ROOMY[1] / 5]);
+    let (mut messages, mut pairs) = ([0; ROOMY[0]], [[0; PAIR_WIDTH]; ROOMY[1] / PAIR_WIDTH]);
     let (mut head, mut at) = ([0; 6], 0);
     move || {
         let input = black_box(frame);
