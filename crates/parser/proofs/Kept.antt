@@ -103,7 +103,7 @@ in-frame-full m start (done c n) no10 place e = not-both refl e
 in-frame-full m start (refused n p) no10 place e =
     let q = refused-same e in no10 (start + place) (ap₂ (λ (x y : ℕ). refused x (start + y)) (q .0) (q .1))
 
-whole-kept : (rooms others : Rooms) → Larger rooms others → (f : List ℕ) → NotFull (wholeFrame rooms f) → wholeFrame others f ≡ wholeFrame rooms f
+pub whole-kept : (rooms others : Rooms) → Larger rooms others → (f : List ℕ) → NotFull (wholeFrame rooms f) → wholeFrame others f ≡ wholeFrame rooms f
 whole-kept rooms others larger f no10 =
     answer-cases (metadata f)
     (λ m start e.

@@ -8,6 +8,8 @@ pub mod Frames
 pub mod Copied
 pub mod Unique
 pub mod Kept
+pub mod Fitting
+pub mod ByValue
 pub mod Entries
 pub mod Order
 pub mod Back

@@ -1,5 +1,5 @@
 -- No second result meets a promise.
-use mathlib.Core.Path.{_≡_, sym, ap, _∙_}
+use mathlib.Core.Path.{_≡_, sym, ap, _∙_, ap₂}
 use mathlib.Core.Bool.{Bool}
 use mathlib.Core.List.{List}
 use Prim.Native.Nat.{ℕ}
@@ -15,8 +15,10 @@ use Rattle.parser.specs.declared.Rooms.{Rooms}
 use Rattle.parser.specs.declared.Metadata.{Metadata}
 use Rattle.parser.specs.declared.FrameRead.{FrameRead}
 use Rattle.parser.specs.declared.FrameRead.the-variants as f
+use Rattle.parser.specs.declared.Few.{Few}
+use Rattle.parser.specs.declared.FewRead.{FewRead}
 use Rattle.parser.specs.Payload.{Contents}
-use Rattle.parser.specs.Promise.{Counts, pairSaid, payloadSaid, frameSaid, Fills, ReadPair, ReadPayload, ReadFrame, LookFrame}
+use Rattle.parser.specs.Promise.{Counts, pairSaid, payloadSaid, frameSaid, Fills, ReadPair, ReadPayload, ReadFrame, LookFrame, ReadFew}
 use Rattle.parser.proofs.Pairs.{done-same}
 
 -- answers that say the same are the same
@@ -75,3 +77,8 @@ read-frame-unique input limit r q oldMessages newMessages otherMessages oldPairs
 
 pub look-frame-unique : (input : List ℕ) (limit : ℕ) (rooms : Rooms) (r q : FrameRead) → LookFrame input limit rooms r → LookFrame input limit rooms q → r ≡ q
 look-frame-unique input limit rooms r q p s = frame-same r q (p ∙ sym s)
+
+pub read-few-unique : (input : List ℕ) (limit : ℕ) (r q : FewRead) (oldMessages newMessages otherMessages : List ℕ)
+    → ReadFew input limit r oldMessages newMessages → ReadFew input limit q oldMessages otherMessages → (r ≡ q) × (newMessages ≡ otherMessages)
+read-few-unique input limit r q oldMessages newMessages otherMessages p s =
+    (ap₂ (λ (a : FrameRead) (f : Few). record { answer = a; few = f }) (frame-same (r .answer) (q .answer) (p .says ∙ sym (s .says))) (p .few ∙ sym (s .few)), p .messages ∙ sym (s .messages))

@@ -2,17 +2,18 @@
 use mathlib.Core.Path.{_≡_}
 use mathlib.Core.Bool.{Bool, true, false}
 use mathlib.Core.List.{List, [], _∷_}
-use Prim.Native.Nat.{ℕ, _+_, _-_, _≤_, _<_}
+use Prim.Native.Nat.{ℕ, _+_, _-_, _*_, _≤_, _<_}
 use lib.ListN.{length, getD}
 use Rattle.answer.specs.Answer.{Answer, done, refused, behind, written, leaves}
 use Rattle.types.specs.Value.{span}
 use Rattle.frame.specs.declared.Pair.{Pair}
-use Rattle.frame.specs.Records.{messageNumbers, pairNumbers}
+use Rattle.frame.specs.Records.{messageNumbers, pairWidth, pairIn, pairNumbers}
 use Rattle.parser.specs.declared.Rooms.{Rooms}
 use Rattle.parser.specs.declared.Metadata.{Metadata}
 use Rattle.parser.specs.declared.MetadataRead.{MetadataRead}
 use Rattle.parser.specs.declared.MetadataRead.the-variants as m
 use Rattle.parser.specs.declared.FrameRead.{FrameRead}
+use Rattle.parser.specs.declared.Few.{Few}
 use Rattle.parser.specs.declared.Once.{Once}
 use Rattle.parser.specs.declared.Once.the-variants as o
 use Rattle.parser.specs.declared.State.{State}
@@ -106,6 +107,14 @@ ReadsOnce base s (o.Read messages pairs used) oldMessages newMessages oldPairs n
     (done (messages, pairs) used ≡ payloadTells (payload false (roomsOf oldMessages oldPairs) s))
     × Fills (behind movedContents base (payload false (roomsOf oldMessages oldPairs) s)) oldMessages newMessages oldPairs newPairs
 ReadsOnce base s o.Left oldMessages newMessages oldPairs newPairs = (newMessages ≡ oldMessages) × (newPairs ≡ oldPairs)
+
+-- ---- a few pairs
+
+-- those that stand at the front of a table
+abbrev pub fewIn : List ℕ → Few
+fewIn table =
+    let number : ℕ → ℕ = λ n. getD table n 0 in
+    record { first = pairIn number 0; second = pairIn number pairWidth; third = pairIn number (2 * pairWidth); fourth = pairIn number (3 * pairWidth) }
 
 -- ---- the frame
 

@@ -1,9 +1,9 @@
 -- What the calls' own types mean, and what each call promises.
 use mathlib.Core.Path.{_≡_}
 use mathlib.Core.Bool.{Bool}
-use mathlib.Core.List.{List}
+use mathlib.Core.List.{List, []}
 use Prim.Native.Nat.{ℕ, _/_}
-use lib.ListN.{length}
+use lib.ListN.{length, getD}
 use Rattle.answer.specs.Answer.{Answer, done, refused, next, written, leaves}
 use Rattle.answer.specs.Table.{joined}
 use Rattle.frame.specs.declared.Pair.{Pair}
@@ -16,6 +16,8 @@ use Rattle.parser.specs.declared.Rooms.{Rooms}
 use Rattle.parser.specs.declared.Metadata.{Metadata}
 use Rattle.parser.specs.declared.FrameRead.{FrameRead}
 use Rattle.parser.specs.declared.FrameRead.the-variants as f
+use Rattle.parser.specs.declared.Few.{Few}
+use Rattle.parser.specs.declared.FewRead.{FewRead}
 use Rattle.parser.specs.Pair.{pair}
 use Rattle.parser.specs.Payload.{Contents, payload}
 use Rattle.parser.specs.Frame.{Reading, wait, answered, answerOf, frameRead}
@@ -83,3 +85,26 @@ pub record ReadFrame (input : List ℕ) (limit : ℕ) (r : FrameRead) (oldMessag
 -- `look_frame` says what the frame reader says with tables of such rooms.
 abbrev pub LookFrame : List ℕ → ℕ → Rooms → FrameRead → Type 0
 LookFrame input limit rooms r = frameSaid r ≡ frameTells (frameRead limit rooms input)
+
+-- ---- a few pairs, by value
+
+-- a pair that is not there, and the first four of some pairs
+abbrev pub noPair : Pair
+noPair = record { start = 0; len = 0; value = record { kind = 0; a = 0; b = 0; flags = 0 } }
+
+abbrev pub fewOf : List Pair → Few
+fewOf ps = record { first = getD ps 0 noPair; second = getD ps 1 noPair; third = getD ps 2 noPair; fourth = getD ps 3 noPair }
+
+abbrev pub pairsRead : Answer Contents → List Pair
+pairsRead (done c used) = c .pairs
+pairsRead (refused number place) = []
+
+-- a table of messages, and room for four pairs
+abbrev pub roomForFew : List ℕ → Rooms
+roomForFew messages = record { messages = length messages / messageWidth; pairs = 4 }
+
+-- `read_few` reads with that room. What it leaves in the table of messages is what the frame reader leaves.
+pub record ReadFew (input : List ℕ) (limit : ℕ) (r : FewRead) (oldMessages newMessages : List ℕ) : Type 0 where
+  pub says : frameSaid (r .answer) ≡ frameTells (frameRead limit (roomForFew oldMessages) input)
+  pub few : r .few ≡ fewOf (pairsRead (contentsRead (frameRead limit (roomForFew oldMessages) input)))
+  pub messages : newMessages ≡ leaves (next (contentsRead (frameRead limit (roomForFew oldMessages) input)) (λ c used. written (joined messageNumbers (c .messages)))) oldMessages

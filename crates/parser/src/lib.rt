@@ -3,6 +3,7 @@
 // No public call has a `requires`: each does its own refusing. A first pass over a payload finds the answer and writes nothing (`look`);
 // only what is accepted is filled in, by a second pass (`fill`). A small list of messages is read in one pass, into tables of its own
 // (`small`).
+mod by_value;
 mod fill;
 mod head;
 mod look;
@@ -10,6 +11,7 @@ mod pair;
 mod small;
 
 use answer::Refusal;
+pub use by_value::read_few;
 pub use fill::read_payload;
 use frame::Pair;
 pub use head::look_frame;
@@ -56,6 +58,20 @@ pub enum FrameRead {
     },
     Wait(usize),
     Refused(Refusal),
+}
+
+// Up to four pairs by value; those that are not there have no number but 0.
+pub struct Few {
+    pub first: Pair,
+    pub second: Pair,
+    pub third: Pair,
+    pub fourth: Pair,
+}
+
+// What the reader of a few pairs answers.
+pub struct FewRead {
+    pub answer: FrameRead,
+    pub few: Few,
 }
 
 // How far a pass is: the place, how many arguments of the last message are to come, and how many messages and pairs were met.

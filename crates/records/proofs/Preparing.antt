@@ -13,7 +13,7 @@ use Rattle.answer.specs.Answer.{Answer, done, refused, next, written, leaves}
 use Rattle.answer.specs.Table.{joined}
 use Rattle.answer.proofs.Cases.{lt-or-le, bool-cases, true-false, answer-cases, not-both}
 use Rattle.answer.proofs.Records.{joined-none}
-use Rattle.types.specs.Value.{Span, span}
+use Rattle.frame.specs.Head.{fourNumber}
 use Rattle.frame.specs.declared.Pair.{Pair}
 use Rattle.frame.specs.declared.Message.{Message}
 use Rattle.frame.specs.Records.{messageWidth, messageNumbers}
@@ -21,66 +21,28 @@ use Rattle.parser.specs.declared.Rooms.{Rooms}
 use Rattle.parser.specs.declared.Metadata.{Metadata}
 use Rattle.parser.specs.declared.FrameRead.{FrameRead}
 use Rattle.parser.specs.declared.FrameRead.the-variants as f
-use Rattle.parser.specs.Pair.{movedPair}
-use Rattle.parser.specs.Payload.{Contents, withMessage, oneItem, toEnd, payload, movedMessage}
+use Rattle.parser.specs.declared.Few.{Few}
+use Rattle.parser.specs.declared.FewRead.{FewRead}
+use Rattle.parser.specs.Payload.{Contents}
 use Rattle.parser.specs.Frame.{Reading, wait, answered, frameRead}
-use Rattle.parser.specs.Promise.{Counts, countsOf, frameSaid, frameTells, contentsRead}
-use Rattle.parser.proofs.Walk.{pair-says, message-says, item-pair, item-message}
+use Rattle.parser.specs.Promise.{Counts, countsOf, frameSaid, frameTells, contentsRead, fewOf, pairsRead, roomForFew, ReadFew}
+use Rattle.parser.proofs.Frames.{frame-start, frame-over, frame-wait, frame-whole}
+use Rattle.parser.proofs.Kept.{Larger, by-cut, answered-same, whole-kept}
+use Rattle.parser.proofs.Fitting.{Fit, Fits, frame-fits}
 use Rattle.parser.proofs.Entries.{said-done}
 use Rattle.parser.proofs.FrameRead.{enum}
 use Rattle.walker.specs.declared.Place.{Place}
 use Rattle.walker.specs.Walk.{kvOf}
-use Rattle.walker.proofs.Walking.{ended-same, Held, frame-holds}
+use Rattle.records.specs.declared.Ahead.{Ahead}
 use Rattle.records.specs.declared.Found.{Found}
 use Rattle.records.specs.Promise.{pairsLeft}
-use Rattle.records.specs.Inner.{FromList, FromMessages, Laid, Comes, Prepared}
+use Rattle.records.specs.Inner.{Laid, four, InFew, noneAhead, Comes, Prepared}
 use Rattle.records.proofs.Laying.{Lies, accepted-lies}
 
 -- ---- there is room for what is accepted
 
-module _ (kv : Bool) (rooms : Rooms) (s : List ℕ) where
-  abbrev Fit : Contents → Type 0
-  Fit c = (length (c .messages) ≤ rooms .messages) × (length (c .pairs) ≤ rooms .pairs)
-
-  fit-item : (at : ℕ) (c x : Contents) (n : ℕ) → oneItem kv rooms at c s ≡ done x n → Fit c → Fit x
-  fit-item at c x n g h =
-      bool-cases (kv || ltb 0 (c .left))
-      (λ t.
-      let p = pair-says kv rooms at c s x n (sym (item-pair kv rooms at c s t) ∙ g) in
-      rw (sym (p .is)) (h .0, omega (arith, p .room, length-append (c .pairs) (p .pair ∷ []))))
-      (λ t.
-      let m = message-says rooms at c s x n (sym (item-message kv rooms at c s t) ∙ g) in
-      rw (sym (m .is)) (by-name (m .name) (m .place) (m .room)))
-    where
-      by-name : (name : Span) (place : ℕ) → length (c .messages) < rooms .messages → Fit (withMessage c name (getD s place 0))
-      by-name (span start len) place r = (omega (arith, r, length-append (c .messages) (record { start = start; len = len; first = length (c .pairs); count = getD s place 0 } ∷ [])), h .1)
-
-  fit-on : (k at : ℕ) (c d : Contents) (end : ℕ) → toEnd kv rooms k at c s ≡ done d end → Fit c → Fit d
-  unfolding toEnd
-  fit-on zero at c d end e h = rw (sym (ended-same rooms s at c d end e .0)) h
-  fit-on (suc k) at c d end e h =
-      ⊎-elim
-      (λ l.
-      let g = rw (lt-ltb at (length s) l) at e in
-      answer-cases (oneItem kv rooms at c s)
-      (λ x n i. fit-on k n x d end (rw i at g) (fit-item at c x n i h))
-      (λ n place i. not-both (rw i at g) refl))
-      (λ l. rw (sym (ended-same rooms s at c d end (rw (le-ltb at (length s) l) at e) .0)) h)
-      (lt-or-le at (length s))
-
-  payload-fit : (d : Contents) (end : ℕ) → payload kv rooms s ≡ done d end → Fit d
-  unfolding payload
-  payload-fit d end e = fit-on (length s) 0 _ d end e (omega arith, omega arith)
-
-pub frame-fit : (limit : ℕ) (rooms : Rooms) (s : List ℕ) (m : Metadata) (c : Contents) (used : ℕ) → frameRead limit rooms s ≡ answered (done (m, c) used)
-    → (length (c .messages) ≤ rooms .messages) × (length (c .pairs) ≤ rooms .pairs)
-frame-fit limit rooms s m c used e =
-    let h = frame-holds limit rooms s m c used e in
-    let fit = payload-fit (not (eqb (m .kind) 3)) rooms (drop (h .start) (take used s)) (h .held) (h .end) (h .is) in
-    let o = h .moved in (
-      rw (sym (ap (λ (x : Contents). x .messages) o)) (omega (arith, fit .0, length-map (h .held .messages) (movedMessage (h .start)))),
-      rw (sym (ap (λ (x : Contents). x .pairs) o)) (omega (arith, fit .1, length-map (h .held .pairs) (movedPair (h .start)))),
-    )
+frame-fit : (limit : ℕ) (rooms : Rooms) (s : List ℕ) (m : Metadata) (c : Contents) (used : ℕ) → frameRead limit rooms s ≡ answered (done (m, c) used) → Fit rooms c
+frame-fit limit rooms s m c used e = subst (λ (x : Reading (Metadata × Contents)). Fits rooms (contentsRead x)) e (frame-fits limit rooms s)
 
 -- ---- not accepted
 
@@ -99,7 +61,7 @@ module _ (input : List ℕ) (limit room : ℕ) (old : List ℕ) where
 
   pub nothing-prepared : (a : FrameRead) → frameSaid a ≡ frameTells (frameRead limit rooms input)
       → (tagOf (declared enum) a ≡ 1) ⊎ (tagOf (declared enum) a ≡ 2)
-      → Prepared input limit room (record { answer = a; count = 0; from = record { at = 0; left = 0; kv = false } }) old old
+      → Prepared input limit room (record { answer = a; count = 0; from = record { ahead = noneAhead; place = record { at = 0; left = 0; kv = false } } }) old old
   nothing-prepared a e t =
       let n = said-nothing (frameRead limit rooms input) a e t in
       record {
@@ -131,9 +93,9 @@ module _ (input : List ℕ) (limit room : ℕ) (old : List ℕ) where
     fit = let q = frame-fit limit rooms input m (found .0) used (found .1) in (omega (arith, q .0, many-messages), omega (arith, q .1, many-pairs))
 
     -- what is left in the table of messages, and where the pairs come from
-    pub found-prepared : (new : List ℕ) → new ≡ leaves (written (joined messageNumbers (found .0 .messages))) old → (x : Place) → Comes input x (found .0 .pairs)
-        → Prepared input limit room (record { answer = f.Done m i j used; count = j; from = x }) old new
-    found-prepared new e x comes =
+    pub found-prepared : (new : List ℕ) → new ≡ leaves (written (joined messageNumbers (found .0 .messages))) old → (ahead : Ahead) (x : Place) → Comes input ahead x (found .0 .pairs)
+        → Prepared input limit room (record { answer = f.Done m i j used; count = j; from = record { ahead = ahead; place = x } }) old new
+    found-prepared new e ahead x comes =
         record {
           says = says;
           messages = rw (found .1) e;
@@ -144,7 +106,7 @@ module _ (input : List ℕ) (limit room : ℕ) (old : List ℕ) where
           left = λ table l. rw (found .1) (ap (λ (k : ℕ). found .0 .pairs ++ drop k table) (sym many-pairs));
         }
 
-    pub from-messages : (is3 : m .kind ≡ 3) → Comes input (record { at = kvOf (take used input) .at; left = 0; kv = false }) (found .0 .pairs)
+    pub from-messages : (is3 : m .kind ≡ 3) → Comes input noneAhead (record { at = kvOf (take used input) .at; left = 0; kv = false }) (found .0 .pairs)
     from-messages is3 =
         let l = lies .messages is3 in
         record {
@@ -161,18 +123,18 @@ module _ (input : List ℕ) (limit room : ℕ) (old : List ℕ) where
         }
 
     -- a KV list has no messages
-    pub list-prepared : (m .kind ≡ 3 → ⊥) → Prepared input limit room (record { answer = f.Done m i j used; count = j; from = record { at = kvOf (take used input) .at; left = 0; kv = true } }) old old
+    pub list-prepared : (m .kind ≡ 3 → ⊥) → Prepared input limit room (record { answer = f.Done m i j used; count = j; from = record { ahead = noneAhead; place = record { at = kvOf (take used input) .at; left = 0; kv = true } } }) old old
     list-prepared ne =
         let l = lies .list ne in
         found-prepared old
         (ap (λ (numbers : List ℕ). leaves (written numbers) old) (sym (joined-none messageNumbers)) ∙ ap (λ (ms : List Message). leaves (written (joined messageNumbers ms)) old) (l .1))
-        _ (l .0)
+        noneAhead _ (l .0)
 
     -- by the test of the type
     pub messages-filled : not (not (eqb (m .kind) 3)) ≡ true → (at : ℕ) → at ≡ kvOf (take used input) .at
         → (new : List ℕ)
         → ((ms : List Message) (ps : List Pair) (end : ℕ) → length ms ≡ i → length ps ≡ j → Laid input at 0 ms ps end → new ≡ leaves (written (joined messageNumbers ms)) old)
-        → Prepared input limit room (record { answer = f.Done m i j used; count = j; from = record { at = at; left = 0; kv = not (eqb (m .kind) 3) } }) old new
+        → Prepared input limit room (record { answer = f.Done m i j used; count = j; from = record { ahead = noneAhead; place = record { at = at; left = 0; kv = not (eqb (m .kind) 3) } } }) old new
     messages-filled t at e new filled =
         let is : eqb (m .kind) 3 ≡ true = bool-cases (eqb (m .kind) 3) (λ b. b) (λ b. true-false (rw b at t) refl) in
         let three = eqb-true (m .kind) 3 is in
@@ -180,10 +142,77 @@ module _ (input : List ℕ) (limit room : ℕ) (old : List ℕ) where
         rw (is, e)
         (found-prepared new
         (filled (found .0 .messages) (found .0 .pairs) (l .0) many-messages many-pairs (subst (λ (k : ℕ). Laid input k 0 (found .0 .messages) (found .0 .pairs) (l .0)) (sym e) (l .1)))
-        _ (from-messages three))
+        noneAhead _ (from-messages three))
 
     pub list-left : not (not (eqb (m .kind) 3)) ≡ false → (at : ℕ) → at ≡ kvOf (take used input) .at
-        → Prepared input limit room (record { answer = f.Done m i j used; count = j; from = record { at = at; left = 0; kv = not (eqb (m .kind) 3) } }) old old
+        → Prepared input limit room (record { answer = f.Done m i j used; count = j; from = record { ahead = noneAhead; place = record { at = at; left = 0; kv = not (eqb (m .kind) 3) } } }) old old
     list-left t at e =
         let is : eqb (m .kind) 3 ≡ false = bool-cases (eqb (m .kind) 3) (λ b. true-false refl (rw b at t)) (λ b. b) in
         rw (is, e) (list-prepared (eqb-false (m .kind) 3 is))
+
+-- ---- a few pairs, by value
+
+-- with more room the answer is the same, but where there was none
+rooms-same : (limit : ℕ) (rooms others : Rooms) (s : List ℕ) → Larger rooms others → ((place : ℕ) → frameRead limit rooms s ≡ answered (refused 10 place) → ⊥)
+    → frameRead limit others s ≡ frameRead limit rooms s
+rooms-same limit rooms others s larger full =
+    by-cut limit s
+    (λ h. frame-start limit others s h ∙ sym (frame-start limit rooms s h))
+    (λ h l. frame-over limit others s h l ∙ sym (frame-over limit rooms s h l))
+    (λ h l w. frame-wait limit others s h l w ∙ sym (frame-wait limit rooms s h l w))
+    (λ h l w.
+    let cut = frame-whole limit rooms s h l w in
+    frame-whole limit others s h l w ∙ ap answered (whole-kept rooms others larger (take (4 + fourNumber s) s) (λ place e. full place (cut ∙ ap answered e))) ∙ sym cut)
+
+-- four pairs or fewer are all there
+few-all : (ps : List Pair) → length ps ≤ 4 → InFew (fewOf ps) 0 ps
+few-all ps h = record { within = omega (arith, h); are = go ps h }
+  where
+    go : (qs : List Pair) → length qs ≤ 4 → qs ≡ take (length qs) (four (fewOf qs))
+    go [] l = refl
+    go (p ∷ []) l = refl
+    go (p ∷ q ∷ []) l = refl
+    go (p ∷ q ∷ r ∷ []) l = refl
+    go (p ∷ q ∷ r ∷ s ∷ []) l = refl
+    go (p ∷ q ∷ r ∷ s ∷ u ∷ qs) l = absurd (omega (arith, l))
+
+module _ (input : List ℕ) (limit room : ℕ) (old new : List ℕ) (h : 4 ≤ room) (r : FewRead) (read : ReadFew input limit r old new) where
+  -- the answer with as much room as there is
+  same-answer : ((place : ℕ) → frameSaid (r .answer) ≡ answered (refused 10 place) → ⊥) → frameRead limit (rooms input limit room old) input ≡ frameRead limit (roomForFew old) input
+  same-answer full =
+      rooms-same limit (roomForFew old) (rooms input limit room old) input (record { messages = omega arith; pairs = h })
+      (λ place e. full place (read .says ∙ ap frameTells e))
+
+  pub few-prepared : (m : Metadata) (i j used : ℕ) → r .answer ≡ f.Done m i j used
+      → Prepared input limit room (record { answer = f.Done m i j used; count = j; from = record { ahead = record { own = true; few = r .few }; place = record { at = 0; left = 0; kv = false } } }) old new
+  few-prepared m i j used e =
+      let four-says : answered (done (m, (i, j)) used) ≡ frameTells (frameRead limit (roomForFew old) input) = ap frameSaid (sym e) ∙ read .says in
+      let same = same-answer (λ place q. not-both refl (answered-same (ap frameSaid (sym e) ∙ q))) in
+      let says : answered (done (m, (i, j)) used) ≡ frameTells (frameRead limit (rooms input limit room old) input) = four-says ∙ ap frameTells (sym same) in
+      let c = found input limit room old m i j used says .0 in
+      let is : frameRead limit (roomForFew old) input ≡ answered (done (m, c) used) = sym same ∙ found input limit room old m i j used says .1 in
+      let few : r .few ≡ fewOf (c .pairs) = read .few ∙ ap (λ (x : Reading (Metadata × Contents)). fewOf (pairsRead (contentsRead x))) is in
+      let fits = frame-fit limit (roomForFew old) input m c used is in
+      found-prepared input limit room old m i j used says new
+      (read .messages ∙ ap (λ (x : Reading (Metadata × Contents)). leaves (next (contentsRead x) (λ (d : Contents) (n : ℕ). written (joined messageNumbers (d .messages)))) old) is)
+      (record { own = true; few = r .few }) _
+      (subst (λ (x : Few). InFew x 0 (c .pairs)) (sym few) (few-all (c .pairs) (fits .1)))
+
+  module _ (t : (tagOf (declared enum) (r .answer) ≡ 1) ⊎ (tagOf (declared enum) (r .answer) ≡ 2)) where
+    -- nothing was filled in
+    pub few-stays : new ≡ old
+    few-stays =
+        let n = said-nothing (frameRead limit (roomForFew old) input) (r .answer) (read .says) t in
+        read .messages ∙ ap (λ (a : Answer Contents). leaves (next a (λ (c : Contents) (used : ℕ). written (joined messageNumbers (c .messages)))) old) (n .2)
+
+    pub few-nothing : ((place : ℕ) → frameSaid (r .answer) ≡ answered (refused 10 place) → ⊥) → (x : Found)
+        → x ≡ record { answer = r .answer; count = 0; from = record { ahead = noneAhead; place = record { at = 0; left = 0; kv = false } } } → Prepared input limit room x old new
+    few-nothing full x e =
+        let same = same-answer full in
+        subst (λ (y : Found). Prepared input limit room y old new) (sym e)
+        (subst (λ (l : List ℕ). Prepared input limit room (record { answer = r .answer; count = 0; from = record { ahead = noneAhead; place = record { at = 0; left = 0; kv = false } } }) old l) (sym few-stays)
+        (nothing-prepared input limit room old (r .answer) (read .says ∙ ap frameTells (sym same)) t))
+
+    -- and so what is prepared then is what is prepared from the start
+    pub few-again : (x : Found) (last : List ℕ) → Prepared input limit room x new last → Prepared input limit room x old last
+    few-again x last p = subst (λ (l : List ℕ). Prepared input limit room x l last) few-stays p

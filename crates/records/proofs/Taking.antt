@@ -1,11 +1,12 @@
 -- Laws about taking pairs where they stand, one after the other.
 use mathlib.Core.Path.{_≡_, refl, sym, ap, subst, _∙_}
-use mathlib.Core.Bool.{true, false}
+use mathlib.Core.Bool.{true, false, cond}
 use mathlib.Core.List.{List, [], _∷_, _++_}
-use Prim.Native.Nat.{ℕ, _+_, _-_, _≤_, _<_}
+use Prim.Native.Nat.{ℕ, zero, suc, _+_, _-_, _≤_, _<_}
 use native.Mathlib.Omega.{arith}
 use lib.Dec.{ltb}
-use lib.ListN.{length, getD}
+use lib.ListN.{length, take, drop, getD}
+use lib.Seq.{drop-cons}
 use borrow.Author.Tests.{lt-ltb}
 use Rattle.answer.specs.Answer.{done}
 use Rattle.types.specs.Value.{span}
@@ -13,13 +14,16 @@ use Rattle.frame.specs.declared.Pair.{Pair}
 use Rattle.frame.specs.declared.Message.{Message}
 use Rattle.parser.specs.Pair.{pairFrom}
 use Rattle.parser.specs.Payload.{stringFrom}
+use Rattle.parser.specs.declared.Few.{Few}
+use Rattle.parser.specs.Promise.{noPair}
 use Rattle.parser.specs.Inner.{Run}
 use Rattle.parser.proofs.Pairs.{done-same}
 use Rattle.parser.proofs.Runs.{from-next}
 use Rattle.walker.specs.declared.Place.{Place}
 use Rattle.walker.specs.Walk.{comes, afterPlace}
+use Rattle.records.specs.declared.Ahead.{Ahead}
 use Rattle.records.specs.declared.Taken.{Taken}
-use Rattle.records.specs.Inner.{Laid, FromList, FromMessages, Comes}
+use Rattle.records.specs.Inner.{Laid, FromList, FromMessages, four, InFew, Comes}
 
 -- the first of the pairs of a KV list, and the others
 pub record ListNext (s : List ℕ) (at : ℕ) (p : Pair) (ps : List Pair) : Type 0 where
@@ -116,20 +120,70 @@ message-next s at p ps f = go (f .qs) (f .is) (f .many) (f .run) (f .messages) (
 abbrev pub Takes : List ℕ → Place → Taken → Type 0
 Takes s x r = (p : Pair) (end : ℕ) → comes s x ≡ true → pairFrom (x .at) s ≡ done p end → r ≡ record { pair = p; next = afterPlace x end }
 
-pub taken-list : (s : List ℕ) (x : Place) → x .kv ≡ true → (p : Pair) (ps : List Pair) → Comes s x (p ∷ ps) → (r : Taken) → Takes s x r → (r .pair ≡ p) × Comes s (r .next) ps
-taken-list s x kv p ps f r t =
-    let n = list-next s (x .at) p ps (rw kv at f) in
-    let e = t p (n .end) (list-comes s x p (n .end) kv (n .from)) (n .from) in
-    (ap (λ (y : Taken). y .pair) e, rw (e, kv) (n .others))
+-- from the bytes, where none come by value
+abbrev FromBytes : List ℕ → Place → List Pair → Type 0
+FromBytes s x ps = cond (x .kv) (FromList s (x .at) ps) (FromMessages s (x .at) (x .left) ps)
 
-pub taken-argument : (s : List ℕ) (x : Place) → x .kv ≡ false → (p : Pair) (ps : List Pair) → Comes s x (p ∷ ps)
-    → (y : Place) → (FromMessages s (x .at) (x .left) (p ∷ ps) → FromMessages s (y .at) (y .left) (p ∷ ps) × (0 < y .left) × (y .kv ≡ false))
-    → (r : Taken) → Takes s y r → (r .pair ≡ p) × Comes s (r .next) ps
-taken-argument s x kv p ps f y to r t =
-    let g = to (rw kv at f) in
-    let n = argument-next s (y .at) (y .left) p ps (g .0) (g .1) in
-    let e = t p (n .end) (argument-comes s y (g .2) (g .1)) (n .from) in
-    (ap (λ (z : Taken). z .pair) e, rw (e, g .2) (n .others))
+bytes-come : (s : List ℕ) (ahead : Ahead) (x : Place) (ps : List Pair) → ahead .own ≡ false → FromBytes s x ps → Comes s ahead x ps
+bytes-come s ahead x ps own f = rw own f
+
+come-bytes : (s : List ℕ) (ahead : Ahead) (x : Place) (ps : List Pair) → ahead .own ≡ false → Comes s ahead x ps → FromBytes s x ps
+come-bytes s ahead x ps own f = rw own at f
+
+list-on : (s : List ℕ) (x : Place) (ps : List Pair) → x .kv ≡ true → FromBytes s x ps → FromList s (x .at) ps
+list-on s x ps kv f = rw kv at f
+
+messages-on : (s : List ℕ) (x : Place) (ps : List Pair) → x .kv ≡ false → FromBytes s x ps → FromMessages s (x .at) (x .left) ps
+messages-on s x ps kv f = rw kv at f
+
+list-back : (s : List ℕ) (x : Place) (end : ℕ) (ps : List Pair) → x .kv ≡ true → FromList s end ps → FromBytes s (afterPlace x end) ps
+list-back s x end ps kv f = rw kv f
+
+messages-back : (s : List ℕ) (x : Place) (end : ℕ) (ps : List Pair) → x .kv ≡ false → FromMessages s end (x .left - 1) ps → FromBytes s (afterPlace x end) ps
+messages-back s x end ps kv f = rw kv f
+
+-- The first of the pairs that come was taken, and the others come behind it.
+module _ (s : List ℕ) (ahead : Ahead) (x : Place) (p : Pair) (ps : List Pair) (r : Taken) where
+  pub taken-few : Comes s ahead x (p ∷ ps) → ahead .own ≡ true
+      → ((q : Pair) (qs : List Pair) → InFew (ahead .few) (x .at) (q ∷ qs) → (r .pair ≡ q) × InFew (ahead .few) (r .next .at) qs)
+      → (r .pair ≡ p) × Comes s ahead (r .next) ps
+  taken-few f own t = let o = t p ps (rw own at f) in (o .0, rw own (o .1))
+
+  pub taken-list : Comes s ahead x (p ∷ ps) → ahead .own ≡ false → x .kv ≡ true → Takes s x r → (r .pair ≡ p) × Comes s ahead (r .next) ps
+  taken-list f own kv t =
+      let n = list-next s (x .at) p ps (list-on s x (p ∷ ps) kv (come-bytes s ahead x (p ∷ ps) own f)) in
+      let e = t p (n .end) (list-comes s x p (n .end) kv (n .from)) (n .from) in
+      let on = list-back s x (n .end) ps kv (n .others) in
+      (ap (λ (y : Taken). y .pair) e, bytes-come s ahead (r .next) ps own (subst (λ (y : Place). FromBytes s y ps) (sym (ap (λ (y : Taken). y .next) e)) on))
+
+  pub taken-argument : Comes s ahead x (p ∷ ps) → ahead .own ≡ false → x .kv ≡ false
+      → (y : Place) → (FromMessages s (x .at) (x .left) (p ∷ ps) → FromMessages s (y .at) (y .left) (p ∷ ps) × (0 < y .left) × (y .kv ≡ false))
+      → Takes s y r → (r .pair ≡ p) × Comes s ahead (r .next) ps
+  taken-argument f own kv y to t =
+      let g = to (messages-on s x (p ∷ ps) kv (come-bytes s ahead x (p ∷ ps) own f)) in
+      let n = argument-next s (y .at) (y .left) p ps (g .0) (g .1) in
+      let e = t p (n .end) (argument-comes s y (g .2) (g .1)) (n .from) in
+      let on = messages-back s y (n .end) ps (g .2) (n .others) in
+      (ap (λ (z : Taken). z .pair) e, bytes-come s ahead (r .next) ps own (subst (λ (z : Place). FromBytes s z ps) (sym (ap (λ (z : Taken). z .next) e)) on))
+
+-- the next of a few
+pub few-next : (few : Few) (n : ℕ) (p : Pair) (ps : List Pair) → InFew few n (p ∷ ps) → (n < 4) × (getD (four few) n noPair ≡ p) × InFew few (n + 1) ps
+few-next few n p ps f =
+    let less : n < 4 = omega (arith, f .within) in
+    let split : drop n (four few) ≡ getD (four few) n noPair ∷ drop (suc n) (four few) = drop-cons (four few) n noPair less in
+    let are : p ∷ ps ≡ getD (four few) n noPair ∷ take (length ps) (drop (suc n) (four few)) = f .are ∙ ap (take (suc (length ps))) split in
+    let one : suc n ≡ n + 1 = omega arith in
+    let same : getD (four few) n noPair ≡ p = cc in
+    let others : ps ≡ take (length ps) (drop (suc n) (four few)) = cc in
+    (less, same, record { within = omega (arith, f .within); are = others ∙ ap (λ (k : ℕ). take (length ps) (drop k (four few))) one })
+
+-- there are no more
+pub few-past : (few : Few) (n : ℕ) → (n ≡ 0 → ⊥) → (n ≡ 1 → ⊥) → (n ≡ 2 → ⊥) → (n ≡ 3 → ⊥) → getD (four few) n noPair ≡ noPair
+few-past few zero a b c d = absurd (a refl)
+few-past few (suc zero) a b c d = absurd (b refl)
+few-past few (suc (suc zero)) a b c d = absurd (c refl)
+few-past few (suc (suc (suc zero))) a b c d = absurd (d refl)
+few-past few (suc (suc (suc (suc n)))) a b c d = refl
 
 -- ---- pairs that are passed over
 

@@ -3,7 +3,7 @@ use mathlib.Core.Path.{_≡_}
 use mathlib.Core.Bool.{Bool, cond, true, false}
 use mathlib.Core.List.{List, [], _∷_, _++_}
 use Prim.Native.Nat.{ℕ, _+_, _*_, _≤_, _<_, _/_}
-use lib.ListN.{length, drop, getD}
+use lib.ListN.{length, take, drop, getD}
 use Rattle.answer.specs.Answer.{Answer, done, next, written, leaves}
 use Rattle.answer.specs.Table.{joined}
 use Rattle.types.specs.Value.{span}
@@ -14,8 +14,11 @@ use Rattle.parser.specs.declared.Rooms.{Rooms}
 use Rattle.parser.specs.Payload.{Contents, stringFrom}
 use Rattle.parser.specs.Frame.{frameRead}
 use Rattle.parser.specs.Inner.{Run}
-use Rattle.parser.specs.Promise.{frameSaid, frameTells, contentsRead}
+use Rattle.parser.specs.declared.Few.{Few}
+use Rattle.parser.specs.Promise.{noPair, frameSaid, frameTells, contentsRead}
 use Rattle.walker.specs.declared.Place.{Place}
+use Rattle.records.specs.declared.Ahead.{Ahead}
+use Rattle.records.specs.declared.Source.{Source}
 use Rattle.records.specs.declared.Found.{Found}
 use Rattle.records.specs.Promise.{pairsLeft}
 
@@ -50,8 +53,22 @@ pub record FromMessages (s : List ℕ) (at left : ℕ) (ps : List Pair) : Type 0
   pub end : ℕ
   pub laid : Laid s next before messages rest end
 
-abbrev pub Comes : List ℕ → Place → List Pair → Type 0
-Comes s x ps = cond (x .kv) (FromList s (x .at) ps) (FromMessages s (x .at) (x .left) ps)
+-- The pairs that are there by value, and that these come from one of them on.
+abbrev pub four : Few → List Pair
+four few = few .first ∷ few .second ∷ few .third ∷ few .fourth ∷ []
+
+pub record InFew (few : Few) (n : ℕ) (ps : List Pair) : Type 0 where
+  pub within : n + length ps ≤ 4
+  pub are : ps ≡ take (length ps) (drop n (four few))
+
+abbrev pub noneAhead : Ahead
+noneAhead = record { own = false; few = record { first = noPair; second = noPair; third = noPair; fourth = noPair } }
+
+abbrev pub Comes : List ℕ → Ahead → Place → List Pair → Type 0
+Comes s ahead x ps = cond (ahead .own) (InFew (ahead .few) (x .at) ps) (cond (x .kv) (FromList s (x .at) ps) (FromMessages s (x .at) (x .left) ps))
+
+abbrev pub ComesFrom : List ℕ → Source → List Pair → Type 0
+ComesFrom s x ps = Comes s (x .ahead) (x .place) ps
 
 -- What a frame comes to but for its pairs, with room for so many.
 pub record Prepared (input : List ℕ) (limit room : ℕ) (r : Found) (oldMessages newMessages : List ℕ) : Type 0 where
@@ -60,5 +77,5 @@ pub record Prepared (input : List ℕ) (limit room : ℕ) (r : Found) (oldMessag
   pub ps : List Pair
   pub many : length ps ≡ r .count
   pub within : r .count ≤ room
-  pub comes : Comes input (r .from) ps
+  pub comes : ComesFrom input (r .from) ps
   pub left : (old : List Pair) → length old ≡ room → ps ++ drop (r .count) old ≡ pairsLeft (contentsRead (frameRead limit (record { messages = length oldMessages / messageWidth; pairs = room }) input)) old

@@ -1,11 +1,16 @@
 // What an accepted frame holds, taken where it stands: its messages go into their table, and its pairs are given one after the other.
+use crate::Ahead;
 use crate::Found;
+use crate::Given;
+use crate::Source;
 use crate::Taken;
 use answer::Refusal;
+use answer::TABLE_FULL;
 use answer::TOO_SOON;
 use frame::MESSAGE_WIDTH;
 use frame::Message;
 use frame::Pair;
+use parser::Few;
 use parser::FrameRead;
 use parser::Rooms;
 use types::Text;
@@ -16,7 +21,7 @@ ghost use mathlib.Core.Path.{_≡_};
 ghost use mathlib.Core.Bool.{true, false};
 ghost use mathlib.Core.List.{List, _∷_};
 ghost use Prim.Native.Nat.{ℕ, _*_, _≤_, _<_};
-ghost use lib.ListN.{length, drop};
+ghost use lib.ListN.{length, drop, getD};
 ghost use Rattle.answer.specs.Answer.{done, written, leaves};
 ghost use Rattle.answer.specs.Table.{joined};
 ghost use Rattle.types.specs.Value.{string};
@@ -25,9 +30,32 @@ ghost use Rattle.frame.specs.declared.Pair.{Pair as PairRecord};
 ghost use Rattle.frame.specs.declared.Message.{Message as MessageRecord};
 ghost use Rattle.frame.specs.Records.{messageWidth, messageNumbers};
 ghost use Rattle.parser.specs.Pair.{pairFrom};
+ghost use Rattle.parser.specs.Promise.{noPair};
 ghost use Rattle.parser.specs.Inner.{Run};
 ghost use Rattle.walker.specs.Walk.{comes, afterPlace};
-ghost use Rattle.records.specs.Inner.{Laid, FromMessages, Comes, Prepared};
+ghost use Rattle.records.specs.Inner.{Laid, FromMessages, four, InFew, noneAhead, Comes, ComesFrom, Prepared};
+
+// A pair that is not there, and no pairs by value.
+const NO_PAIR: Pair = Pair {
+    start: 0,
+    len: 0,
+    value: Value {
+        kind: 0,
+        a: 0,
+        b: 0,
+        flags: 0,
+    },
+};
+
+const NONE_AHEAD: Ahead = Ahead {
+    own: false,
+    few: Few {
+        first: NO_PAIR,
+        second: NO_PAIR,
+        third: NO_PAIR,
+        fourth: NO_PAIR,
+    },
+};
 
 // The string that stands at `at`; a refusal where that lies behind the bytes.
 fn name_at(input: &[u8], at: usize) -> Text
@@ -48,16 +76,7 @@ fn taken(input: &[u8], place: Place) -> Taken
 {
     let Step::Found { pair, next } = walker::step_from(input, place) else {
         return Taken {
-            pair: Pair {
-                start: 0,
-                len: 0,
-                value: Value {
-                    kind: 0,
-                    a: 0,
-                    b: 0,
-                    flags: 0,
-                },
-            },
+            pair: NO_PAIR,
             next: place,
         };
     };
@@ -93,14 +112,72 @@ fn to_argument(input: &[u8], from: Place) -> Place
     }
 }
 
-// The next pair, and where the one behind it stands.
-pub(crate) fn take_next(input: &[u8], from: Place) -> Taken
-    ensures { λ r. ⌜ ((p : PairRecord) (ps : List PairRecord) → Comes (now (input .entry)) from (p ∷ ps) → (r .pair ≡ p) × Comes (now (input .entry)) (r .next) ps) ⌝ }
+// One of the pairs that are there by value, by its number.
+fn nth(few: Few, n: usize) -> Pair
+    ensures { λ r. ⌜ r ≡ getD (four few) n noPair ⌝ }
 {
+    if n == 0 {
+        return few.first;
+    }
+    if n == 1 {
+        return few.second;
+    }
+    if n == 2 {
+        return few.third;
+    }
+    if n == 3 {
+        return few.fourth;
+    }
+    NO_PAIR
+}
+
+// The next of them, and the number of the one behind it.
+fn taken_ahead(few: Few, from: Place) -> Taken
+    ensures { λ r. ⌜ ((p : PairRecord) (ps : List PairRecord) → InFew few (from .at) (p ∷ ps) → (r .pair ≡ p) × InFew few (r .next .at) ps) ⌝ }
+{
+    let n = from.at;
+    if 4 <= n {
+        return Taken {
+            pair: NO_PAIR,
+            next: from,
+        };
+    }
+    Taken {
+        pair: nth(few, n),
+        next: Place {
+            at: n + 1,
+            left: 0,
+            kv: false,
+        },
+    }
+}
+
+// The next pair, and where the one behind it stands.
+fn take_at(input: &[u8], ahead: Ahead, from: Place) -> Taken
+    ensures { λ r. ⌜ ((p : PairRecord) (ps : List PairRecord) → Comes (now (input .entry)) ahead from (p ∷ ps) → (r .pair ≡ p) × Comes (now (input .entry)) ahead (r .next) ps) ⌝ }
+{
+    if ahead.own {
+        let few = ahead.few;
+        return taken_ahead(few, from);
+    }
     if from.kv {
         return taken(input, from);
     }
     taken(input, to_argument(input, from))
+}
+
+// The same by where the pairs come from.
+pub(crate) fn take_next(input: &[u8], from: Source) -> Given
+    ensures { λ r. ⌜ ((p : PairRecord) (ps : List PairRecord) → ComesFrom (now (input .entry)) from (p ∷ ps) → (r .pair ≡ p) × ComesFrom (now (input .entry)) (r .next) ps) ⌝ }
+{
+    let ahead = from.ahead;
+    let taken = take_at(input, ahead, from.place);
+    let pair = taken.pair;
+    let place = taken.next;
+    Given {
+        pair,
+        next: Source { ahead, place },
+    }
 }
 
 // The place behind so many pairs, which stand from `at` on.
@@ -185,21 +262,24 @@ fn fill_messages(input: &[u8], start: usize, total: usize, pairs: usize, message
 
 // An answer that comes with no pairs.
 fn nothing(answer: FrameRead) -> Found
-    ensures { λ r. ⌜ r ≡ record { answer = answer; count = 0; from = record { at = 0; left = 0; kv = false } } ⌝ }
+    ensures { λ r. ⌜ r ≡ record { answer = answer; count = 0; from = record { ahead = noneAhead; place = record { at = 0; left = 0; kv = false } } } ⌝ }
 {
     Found {
         answer,
         count: 0,
-        from: Place {
-            at: 0,
-            left: 0,
-            kv: false,
+        from: Source {
+            ahead: NONE_AHEAD,
+            place: Place {
+                at: 0,
+                left: 0,
+                kv: false,
+            },
         },
     }
 }
 
 // Looks at the frame; where it is accepted, fills in its messages, and finds where its pairs stand.
-pub(crate) fn prepare(input: &[u8], limit: u32, room: usize, messages: &mut [u64]) -> Found
+fn prepare_many(input: &[u8], limit: u32, room: usize, messages: &mut [u64]) -> Found
     ensures { λ r. ⌜ Prepared (now (input .entry)) limit room r (now (messages .entry)) (now (messages .exit)) ⌝ }
 {
     let rooms = Rooms {
@@ -224,10 +304,55 @@ pub(crate) fn prepare(input: &[u8], limit: u32, room: usize, messages: &mut [u64
     Found {
         answer,
         count: pair_count,
-        from: Place {
-            at: start,
-            left: 0,
-            kv,
+        from: Source {
+            ahead: NONE_AHEAD,
+            place: Place {
+                at: start,
+                left: 0,
+                kv,
+            },
+        },
+    }
+}
+
+// The same in one pass for a frame of a few pairs, which come by value.
+pub(crate) fn prepare(input: &[u8], limit: u32, room: usize, messages: &mut [u64]) -> Found
+    ensures { λ r. ⌜ Prepared (now (input .entry)) limit room r (now (messages .entry)) (now (messages .exit)) ⌝ }
+{
+    if room < 4 {
+        return prepare_many(input, limit, room, messages);
+    }
+    let read = parser::read_few(input, limit, messages);
+    let answer = read.answer;
+    match answer {
+        FrameRead::Done {
+            metadata: _,
+            messages: _,
+            pairs,
+            used: _,
+        } => {
+            let few = read.few;
+            return Found {
+                answer,
+                count: pairs,
+                from: Source {
+                    ahead: Ahead { own: true, few },
+                    place: Place {
+                        at: 0,
+                        left: 0,
+                        kv: false,
+                    },
+                },
+            };
+        },
+        FrameRead::Wait(_) => {
+            return nothing(answer);
+        },
+        FrameRead::Refused(r) => {
+            if r.number == TABLE_FULL {
+                return prepare_many(input, limit, room, messages);
+            }
+            return nothing(answer);
         },
     }
 }

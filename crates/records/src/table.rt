@@ -1,21 +1,21 @@
 // The calls that hold the table of pair records. Each is short, as its proof walks over its machine code step by step; the work is `fill`'s.
+use crate::Source;
 use crate::fill::prepare;
 use crate::fill::take_next;
 use frame::Pair;
 use parser::FrameRead;
-use walker::Place;
 ghost use mathlib.Core.Path.{_≡_};
 ghost use mathlib.Core.List.{List, _++_};
 ghost use Prim.Native.Nat.{_≤_};
 ghost use lib.ListN.{length, drop};
 ghost use Rattle.frame.specs.declared.Pair.{Pair as PairRecord};
-ghost use Rattle.records.specs.Inner.{Comes};
+ghost use Rattle.records.specs.Inner.{ComesFrom};
 ghost use Rattle.records.specs.Promise.{ReadFrameRecords};
 
 // Fills in so many pairs.
-fn fill_records(input: &[u8], from: Place, count: usize, pairs: &mut [Pair])
+fn fill_records(input: &[u8], from: Source, count: usize, pairs: &mut [Pair])
     requires { ⌜ count ≤ length (now pairs) ⌝ }
-    ensures { λ _. ⌜ ((ps : List PairRecord) → length ps ≡ count → Comes (now (input .entry)) from ps → now (pairs .exit) ≡ ps ++ drop count (now (pairs .entry))) ⌝ }
+    ensures { λ _. ⌜ ((ps : List PairRecord) → length ps ≡ count → ComesFrom (now (input .entry)) from ps → now (pairs .exit) ≡ ps ++ drop count (now (pairs .entry))) ⌝ }
 {
     let mut x = from;
     let mut i = 0;

@@ -1,104 +1,122 @@
--- `records::fill::prepare` meets its contract: a frame that is not accepted comes with no pairs; one that is has its messages filled in, and its pairs
--- come from where its payload starts.
+-- `records::fill::prepare` meets its contract: a frame of a few pairs is read with them by value; one with more, or with no table for four, is looked at.
 -- Assumes nothing.
 use borrow.Author.Needs.{needs}
-use mathlib.Core.Path.{_≡_, sym, ap, subst, _∙_}
-use Prim.Native.Nat.{ℕ, _≤_}
-use lib.ListN.{length}
-use lib.Seq.{length-take-le}
-use Rattle.answer.specs.Answer.{done}
-use Rattle.parser.specs.declared.Metadata.{Metadata}
-use Rattle.parser.specs.Frame.{answered, frameRead}
-use Rattle.parser.specs.Promise.{frameSaid, frameTells}
-use Rattle.walker.specs.declared.Place.{Place}
-use Rattle.records.specs.declared.Found.{Found}
-use Rattle.records.specs.Inner.{Prepared}
-use Rattle.records.proofs.Preparing.{nothing-prepared, rooms, lies, fit, messages-filled, list-left}
+use mathlib.Core.Path.{_≡_, sym, ap, _∙_}
+use mathlib.Core.Bool.{false}
+use mathlib.Core.Logic.{inl, inr}
+use Prim.Native.Nat.{ℕ}
+use denote.Enum.Declared.{tagOf, declared}
+use Rattle.parser.specs.declared.FrameRead.{FrameRead}
+use Rattle.parser.specs.Promise.{frameSaid}
+use Rattle.parser.proofs.FrameRead.{enum}
+use Rattle.parser.proofs.Kept.{wait-answered, answered-same}
+use Rattle.parser.proofs.Pairs.{refused-same}
+use Rattle.records.specs.Inner.{noneAhead}
+use Rattle.records.proofs.Preparing.{few-prepared, few-nothing, few-again}
 use Rattle.records.proofs.fill.prepare.Statement.{statement}
 use Rattle.records.proofs.fill.prepare.Tie as tie
 
-look-frame-requires : tie.Need-look-frame-requires
-look-frame-requires c κs = search needs
-
-enum-known-answer : tie.Need-enum-known-answer
-enum-known-answer c = search needs
-
-nothing-requires : tie.Need-nothing-requires
-nothing-requires c κs = search needs
-
-returns : tie.Need-returns
-returns c =
-    let t = c .before .before in
-    let a = t .before .before .before .args in
-    subst (λ (r : Found). Prepared (a .input .now) (a .limit) (a .room) r (a .messages .now) (a .messages .now)) (sym (c .nothing .ensures))
-    (nothing-prepared (a .input .now) (a .limit) (a .room) (a .messages .now) (t .look-frame .result) (t .look-frame .ensures) (c .before .match .keys2))
-
--- the frame that was accepted
-abbrev start : tie.After-known-told → tie.Start
-start k = k .before .before .before .before .before .before
-
-abbrev head : tie.After-known-told → Metadata
-head k = k .before .answer .given .0 .0
-
-abbrev messages : tie.After-known-told → ℕ
-messages k = k .before .answer .given .0 .1 .0
-
-abbrev pairs : tie.After-known-told → ℕ
-pairs k = k .before .answer .given .0 .1 .1 .0
-
-abbrev used : tie.After-known-told → ℕ
-used k = k .before .answer .given .0 .1 .1 .1 .0
-
-said : (k : tie.After-known-told)
-    → let a = start k .args in
-    answered (done (head k, (messages k, pairs k)) (used k)) ≡ frameTells (frameRead (a .limit) (rooms (a .input .now) (a .limit) (a .room) (a .messages .now)) (a .input .now))
-said k = let t = k .before .before .before in ap frameSaid (sym (k .before .answer .given .1)) ∙ t .look-frame .ensures
-
-within : (k : tie.After-known-told) → used k ≤ length (start k .args .input .now)
-within k = let a = start k .args in lies (a .input .now) (a .limit) (a .room) (a .messages .now) (head k) (messages k) (pairs k) (used k) (said k) .within
-
-slice-aggregate-kv-of : tie.Need-slice-aggregate-kv-of
-slice-aggregate-kv-of c = sym (length-take-le _ _ (within (c .before)))
-
-kv-of-requires : tie.Need-kv-of-requires
-kv-of-requires c κs = search needs
-
-fill-messages-requires : tie.Need-fill-messages-requires
-fill-messages-requires c κs =
-    let k = c .before .before .before .before .before in
-    let a = start k .args in
-    fit (a .input .now) (a .limit) (a .room) (a .messages .now) (head k) (messages k) (pairs k) (used k) (said k) .0
+prepare-many-requires : tie.Need-prepare-many-requires
+prepare-many-requires c κs = search needs
 
 same-length : tie.Need-same-length
 same-length c = search needs
 
+returns : tie.Need-returns
+returns c = search needs
+
+read-few-requires : tie.Need-read-few-requires
+read-few-requires c κs = search needs
+
+-- what was read
+abbrev start : tie.After-read-few → tie.Start
+start t = t .before .before .before .before .before
+
+enum-known-answer : tie.Need-enum-known-answer
+enum-known-answer c = search needs
+
+same-length-2 : tie.Need-same-length-2
+same-length-2 c = search needs
+
 returns-2 : tie.Need-returns-2
 returns-2 c =
-    let w = c .before .before in
-    let i = w .before .before in
-    let k = i .before .before .before .before in
-    let a = start k .args in
-    messages-filled (a .input .now) (a .limit) (a .room) (a .messages .now) (head k) (messages k) (pairs k) (used k) (said k) (i .if1 .taken) _
-    (ap (λ (x : Place). x .at) (i .before .before .kv-of .ensures)) _ (w .fill-messages .ensures)
+    let k = c .before .before in
+    let t = k .before .before .before .before in
+    let a = start t .args in
+    few-prepared (a .input .now) (a .limit) (a .room) (a .messages .now) _ (t .before .before .if1 .left) (t .read-few .result) (t .read-few .ensures) _ _ _ _ (k .answer .given .1)
+
+enum-told : tie.Need-enum-told
+enum-told c = search needs
+
+nothing-requires : tie.Need-nothing-requires
+nothing-requires c κs = search needs
+
+same-length-3 : tie.Need-same-length-3
+same-length-3 c = search needs
 
 returns-3 : tie.Need-returns-3
 returns-3 c =
-    let k = c .before .before .before .before in
-    let a = start k .args in
-    list-left (a .input .now) (a .limit) (a .room) (a .messages .now) (head k) (messages k) (pairs k) (used k) (said k) (c .if1 .left) _
-    (ap (λ (x : Place). x .at) (c .before .before .kv-of .ensures))
+    let k = c .before in
+    let t = k .before .before .before .before in
+    let a = start t .args in
+    few-nothing (a .input .now) (a .limit) (a .room) (a .messages .now) _ (t .before .before .if1 .left) (t .read-few .result) (t .read-few .ensures)
+    (inl (ap (λ (x : FrameRead). tagOf (declared enum) x) (k .enum-told .given .1))) (λ place e. wait-answered (sym (ap frameSaid (k .enum-told .given .1)) ∙ e)) _ (c .nothing .ensures)
+
+enum-known-answer-2 : tie.Need-enum-known-answer-2
+enum-known-answer-2 c = search needs
+
+prepare-many-requires-2 : tie.Need-prepare-many-requires-2
+prepare-many-requires-2 c κs = search needs
+
+same-length-4 : tie.Need-same-length-4
+same-length-4 c = search needs
+
+returns-4 : tie.Need-returns-4
+returns-4 c =
+    let w = c .before .before in
+    let k = w .before .before .before .before .before in
+    let t = k .before .before .before .before in
+    let a = start t .args in
+    few-again (a .input .now) (a .limit) (a .room) (a .messages .now) _ (t .before .before .if1 .left) (t .read-few .result) (t .read-few .ensures)
+    (inr (ap (λ (x : FrameRead). tagOf (declared enum) x) (k .answer2 .given .1))) _ _ (w .prepare-many2 .ensures)
+
+nothing-requires-2 : tie.Need-nothing-requires-2
+nothing-requires-2 c κs = search needs
+
+same-length-5 : tie.Need-same-length-5
+same-length-5 c = search needs
+
+returns-5 : tie.Need-returns-5
+returns-5 c =
+    let i = c .before in
+    let k = i .before .before .before in
+    let t = k .before .before .before .before in
+    let a = start t .args in
+    few-nothing (a .input .now) (a .limit) (a .room) (a .messages .now) _ (t .before .before .if1 .left) (t .read-few .result) (t .read-few .ensures)
+    (inr (ap (λ (x : FrameRead). tagOf (declared enum) x) (k .answer2 .given .1)))
+    (λ place e. i .if2 .left (refused-same (answered-same (sym (ap frameSaid (k .answer2 .given .1)) ∙ e)) .0)) _
+    (c .nothing2 .ensures
+    ∙ ap (λ (x : FrameRead). record { answer = x; count = 0; from = record { ahead = noneAhead; place = record { at = 0; left = 0; kv = false } } }) (sym (k .answer2 .given .1)))
 
 pub prepare-spec : {M : Type 1} → statement M
 prepare-spec =
     tie.close
     (tie.spec
-    look-frame-requires
-    enum-known-answer
-    nothing-requires
-    returns
-    slice-aggregate-kv-of
-    kv-of-requires
-    fill-messages-requires
+    prepare-many-requires
     same-length
+    returns
+    read-few-requires
+    enum-known-answer
+    same-length-2
     returns-2
-    returns-3)
+    enum-told
+    nothing-requires
+    same-length-3
+    returns-3
+    enum-known-answer-2
+    prepare-many-requires-2
+    same-length-4
+    returns-4
+    nothing-requires-2
+    same-length-5
+    returns-5)

@@ -51,13 +51,13 @@ use denote.Triple.Clauses.{ensured, lasts}
 use Rattle.frame.specs.declared.Pair.{Pair}
 use Rattle.frame.proofs.Pair as Q
 use Rattle.frame.proofs.Pair.Laws as Q′
-use Rattle.walker.specs.declared.Place.{Place}
-use Rattle.records.specs.declared.Taken.{Taken}
-use Rattle.records.specs.Inner.{Comes}
-use Rattle.walker.proofs.Place as S
-use Rattle.walker.proofs.Place.Laws as S′
-use Rattle.records.proofs.Taken as K
-use Rattle.records.proofs.Taken.Laws as K′
+use Rattle.records.specs.declared.Source.{Source}
+use Rattle.records.specs.declared.Given.{Given as Gives}
+use Rattle.records.specs.Inner.{ComesFrom}
+use Rattle.records.proofs.Source as S
+use Rattle.records.proofs.Source.Laws as S′
+use Rattle.records.proofs.Given as K
+use Rattle.records.proofs.Given.Laws as K′
 use Rattle.records.proofs.fill.take_next as take
 use Rattle.records.proofs.fill.take_next.Symbol as take-def
 use Rattle.records.proofs.fill.take_next.Symbol.{name as #take-next}
@@ -152,16 +152,16 @@ abbrev TakeNext : {M : Type 1} (𝓤 : URA M) (H : Heap 𝓤) (A : Atoms 𝓤) (
 TakeNext 𝓤 H A mem run = tripleOf 𝓤 H A take.signature (take.spec 𝓤 H A mem run)
 
 -- what `take_next` says of the pair that it takes
-abbrev Takes : List ℕ → Place → Taken → Type 0
-Takes s x r = (p : Pair) (ps : List Pair) → Comes s x (p ∷ ps) → (r .pair ≡ p) × Comes s (r .next) ps
+abbrev Takes : List ℕ → Source → Gives → Type 0
+Takes s x r = (p : Pair) (ps : List Pair) → ComesFrom s x (p ∷ ps) → (r .pair ≡ p) × ComesFrom s (r .next) ps
 
 -- how far the loop is
 record Far : Type 0 where
   i : ℕ
-  x : Place
+  x : Source
   zs : List Pair
 
-module _ {M : Type 1} (𝓤 : URA M) (H : Heap 𝓤) (A : Atoms 𝓤) (W : Given 𝓤 H A) (mem : Memory → SProp 𝓤) (run : Routine → Fun 𝓤) (κ₀ κ₁ : Lft) (q₀ q₁ : Share) (s : RefT (List ℕ)) (x₀ : Place) (n b o : ℕ) (γ : GName) (ys : List Pair) (x-is : Is S.the-row x₀ (S′.lowered x₀ ∷ [])) (n-fits : n < 2 ^ 64) where
+module _ {M : Type 1} (𝓤 : URA M) (H : Heap 𝓤) (A : Atoms 𝓤) (W : Given 𝓤 H A) (mem : Memory → SProp 𝓤) (run : Routine → Fun 𝓤) (κ₀ κ₁ : Lft) (q₀ q₁ : Share) (s : RefT (List ℕ)) (x₀ : Source) (n b o : ℕ) (γ : GName) (ys : List Pair) (x-is : Is S.the-row x₀ (S′.lowered x₀ ∷ [])) (n-fits : n < 2 ^ 64) where
   -- the borrow of the records, at the list l
   abbrev r : List Pair → RefT (List Pair)
   r l = record { ptr = (b, o); name = γ; now = l }
@@ -174,7 +174,7 @@ module _ {M : Type 1} (𝓤 : URA M) (H : Heap 𝓤) (A : Atoms 𝓤) (W : Given
   vr = sliceVal (b, o) (length ys)
 
   abbrev Arg : Type 0
-  Arg = RefT (List ℕ) × (Place × (ℕ × (RefT (List Pair) × Unit {0})))
+  Arg = RefT (List ℕ) × (Source × (ℕ × (RefT (List Pair) × Unit {0})))
 
   abbrev a : Arg
   a = (s, (x₀, (n, (r ys, tt))))
@@ -196,7 +196,7 @@ module _ {M : Type 1} (𝓤 : URA M) (H : Heap 𝓤) (A : Atoms 𝓤) (W : Given
   Tok = ‵ (flft κ₀ q₀) ⊛ ‵ ftrue
 
   abbrev Ended : List Pair → Type 0
-  Ended ws = (ps : List Pair) → length ps ≡ n → Comes (now s) x₀ ps → ws ≡ ps ++ drop n ys
+  Ended ws = (ps : List Pair) → length ps ≡ n → ComesFrom (now s) x₀ ps → ws ≡ ps ++ drop n ys
 
   exits : (ws : List Pair) → length ws ≡ length ys → Ended ws → Room Q.the-row (length ys)
       → ent 𝓤 (⋆ 𝓤 H A (‵ (fobs γ (codedHoleys Q.the-row .code (heres Q.the-row ws))) ∷ ‵ (fbor κ₁ (Held Q.the-row (length ws) b o γ)) ∷ ‵ (flft κ₁ q₁) ∷ Tok ∷ ‵ Own₀ ∷ [])) (Post vunit)
@@ -212,20 +212,20 @@ module _ {M : Type 1} (𝓤 : URA M) (H : Heap 𝓤) (A : Atoms 𝓤) (W : Given
       move ! (1 ∷ 0 ∷ []) $ fjoin ! $ feqI ! (List Val) (vunit ∷ []) (vunit ∷ []) refl $ move ! (1 ∷ 0 ∷ []) $ done !
 
   -- ---- the call
-  abbrev to : Place → TakeNext 𝓤 H A mem run .Ghost
+  abbrev to : Source → TakeNext 𝓤 H A mem run .Ghost
   to x = (((κ₀, tt), (q₀, tt), tt, (s, (x, tt)), (vs ∷ [], (S′.lowered x ∷ [], tt))), tt)
 
-  asked : (x : Place) → ent 𝓤 (onEntry 𝓤 H A take.signature (κ₀, tt) (q₀, tt) (s, (x, tt)) (vs ∷ [], (S′.lowered x ∷ [], tt))) (TakeNext 𝓤 H A mem run .pre (to x))
+  asked : (x : Source) → ent 𝓤 (onEntry 𝓤 H A take.signature (κ₀, tt) (q₀, tt) (s, (x, tt)) (vs ∷ [], (S′.lowered x ∷ [], tt))) (TakeNext 𝓤 H A mem run .pre (to x))
   asked x = qed W (Tok ∷ ‵ (owns (ShrSlice (named 0) κ₀ u8 ∷ S.the-row ∷ []) (s, (x, tt)) (vs ∷ [], (S′.lowered x ∷ [], tt))) ∷ []) ∵ join ! $ frame ! $ done !
 
-  goes : (x : Place) → Is S.the-row x (S′.lowered x ∷ []) → ent 𝓤 (⋆ 𝓤 H A (Tok ∷ ‵ Own₀ ∷ [])) (sep 𝓤 (TakeNext 𝓤 H A mem run .pre (to x)) (sem 𝓤 H A Own₀))
+  goes : (x : Source) → Is S.the-row x (S′.lowered x ∷ []) → ent 𝓤 (⋆ 𝓤 H A (Tok ∷ ‵ Own₀ ∷ [])) (sep 𝓤 (TakeNext 𝓤 H A mem run .pre (to x)) (sem 𝓤 H A Own₀))
   goes x is =
       qed W (Tok ∷ ‵ Own₀ ∷ []) ∵ move ! (1 ∷ []) $ use1 W (‵ Own₀ ⊛ ‵ Own₀) (shr-slice-copy 𝓤 H A W (named 0) κ₀ u8 .twice s (vs ∷ [])) $ split ! $
       -- [what s owns, twice; the token]
       nothing ! $ owned ! S.the-row (Is S.the-row) (LL.makes S.the-type S′.the-plain 𝓤 H A) x _ is $ fjoin ! $ move ! (1 ∷ 0 ∷ []) $ fjoin ! $
       move ! (2 ∷ 0 ∷ []) $ use2 W (raw (TakeNext 𝓤 H A mem run .pre (to x))) (asked x) $ frame ! $ done !
 
-  said : (x : Place) (t : Taken) → ent 𝓤 (ensured 𝓤 H A take.ended (take.clauses 𝓤 H A mem run) (κ₀, tt) (s, (x, tt)) tt t) (fact 𝓤 (Takes (now s) x t))
+  said : (x : Source) (t : Gives) → ent 𝓤 (ensured 𝓤 H A take.ended (take.clauses 𝓤 H A mem run) (κ₀, tt) (s, (x, tt)) tt t) (fact 𝓤 (Takes (now s) x t))
   said x t = exE 𝓤 _ (λ ws. snd∗ 𝓤 (sem 𝓤 H A (lasts take.ended (κ₀, tt) (s, (x, tt)) ws)) (fact 𝓤 (Takes (now s) x t)))
 
   module _ (𝓣 : Tables 𝓤 H) (known : Triple 𝓤 (𝓣 .C #take-next) (TakeNext 𝓤 H A mem run)) (g : Room Q.the-row (length ys)) (fits : n ≤ length ys) (l₀ l₁ l₂ l₃ l₄ l₅ l₆ l₇ l₈ l₉ l₁₀ : ℕ) where
@@ -253,7 +253,7 @@ module _ {M : Type 1} (𝓤 : URA M) (H : Heap 𝓤) (A : Atoms 𝓤) (W : Given
       left : z .i + t ≡ n
       many : length (z .zs) ≡ z .i
       is : Is S.the-row (z .x) (S′.lowered (z .x) ∷ [])
-      ahead : (ps : List Pair) → length ps ≡ n → Comes (now s) x₀ ps → (qs : List Pair) × (ps ≡ z .zs ++ qs) × Comes (now s) (z .x) qs
+      ahead : (ps : List Pair) → length ps ≡ n → ComesFrom (now s) x₀ ps → (qs : List Pair) × (ps ≡ z .zs ++ qs) × ComesFrom (now s) (z .x) qs
 
     abbrev Inv : ℕ → SProp 𝓤
     Inv t = ex 𝓤 (λ (z : Far). guard 𝓤 (Facts t z) (⋆ 𝓤 H A (At z)))
@@ -270,10 +270,10 @@ module _ {M : Type 1} (𝓤 : URA M) (H : Heap 𝓤) (A : Atoms 𝓤) (W : Given
         (via 𝓤 (guard 𝓤 (Facts t z) (⋆ 𝓤 H A (At z))) (guardI 𝓤 (Facts t z) (⋆ 𝓤 H A (At z)) f) (exI 𝓤 (λ (y : Far). guard 𝓤 (Facts t y) (⋆ 𝓤 H A (At y))) z))
         (via 𝓤 (guard 𝓤 (t < suc t) (Inv t)) (guardI 𝓤 (t < suc t) (Inv t) (omega arith)) (exI 𝓤 (λ (t′ : ℕ). guard 𝓤 (t′ < suc t) (Inv t′)) t))
 
-    abbrev next : Far → Taken → Far
+    abbrev next : Far → Gives → Far
     next z k = record { i = z .i + 1; x = k .next; zs = z .zs ++ (k .pair ∷ []) }
 
-    moves : (t : ℕ) (z : Far) (k : Taken) → Facts (suc t) z → Is S.the-row (k .next) (S′.lowered (k .next) ∷ []) → Takes (now s) (z .x) k → Facts t (next z k)
+    moves : (t : ℕ) (z : Far) (k : Gives) → Facts (suc t) z → Is S.the-row (k .next) (S′.lowered (k .next) ∷ []) → Takes (now s) (z .x) k → Facts t (next z k)
     moves t z k f is e =
         record {
           left = omega (arith, f .left);
@@ -282,8 +282,8 @@ module _ {M : Type 1} (𝓤 : URA M) (H : Heap 𝓤) (A : Atoms 𝓤) (W : Given
           ahead = λ ps h c. let q = f .ahead ps h c in by-list ps h (q .0) (q .1) (q .2);
         }
       where
-        by-list : (ps : List Pair) → length ps ≡ n → (qs : List Pair) → ps ≡ z .zs ++ qs → Comes (now s) (z .x) qs
-            → (rs : List Pair) × (ps ≡ (z .zs ++ (k .pair ∷ [])) ++ rs) × Comes (now s) (k .next) rs
+        by-list : (ps : List Pair) → length ps ≡ n → (qs : List Pair) → ps ≡ z .zs ++ qs → ComesFrom (now s) (z .x) qs
+            → (rs : List Pair) × (ps ≡ (z .zs ++ (k .pair ∷ [])) ++ rs) × ComesFrom (now s) (k .next) rs
         by-list ps h [] e′ c = absurd (omega (arith, ap length e′, length-append (z .zs) [], h, f .left, f .many))
         by-list ps h (p ∷ qs) e′ c =
             let w = e p qs c in
@@ -300,7 +300,7 @@ module _ {M : Type 1} (𝓤 : URA M) (H : Heap 𝓤) (A : Atoms 𝓤) (W : Given
         move ! (15 ∷ 16 ∷ []) $ use2 W (raw (TakeNext 𝓤 H A mem run .pre (to (z .x))) ⊛ ‵ Own₀) (goes (z .x) (f .is)) $ split ! $
         -- [what is asked; what the slice owns; the records; _5; _6; _7; _8; _9; _10; _1; _2; …]
         calls-at ! (fmOf 𝓤 H (W .laws) 𝓣) (TakeNext 𝓤 H A mem run) known (to (z .x)) (and-then ! (load ! (from ! (stop !)) (look ! 9 refl)) (and-then ! (load ! (from ! (stop !)) (look ! 3 refl)) (no-more !))) (λ w.
-        use1 W (later (some (λ (k : Taken). (Tok ⊛ ‵ (K.the-row .own k (w ∷ []))) ⊛ raw (ensured 𝓤 H A take.ended (take.clauses 𝓤 H A mem run) (κ₀, tt) (s, (z .x, tt)) tt k)))) (id⊢ 𝓤 _) $ await ! tt $ pick ! (λ k.
+        use1 W (later (some (λ (k : Gives). (Tok ⊛ ‵ (K.the-row .own k (w ∷ []))) ⊛ raw (ensured 𝓤 H A take.ended (take.clauses 𝓤 H A mem run) (κ₀, tt) (s, (z .x, tt)) tt k)))) (id⊢ 𝓤 _) $ await ! tt $ pick ! (λ k.
         split ! $ move ! (1 ∷ []) $ use1 W (raw (fact 𝓤 (Takes (now s) (z .x) k))) (said (z .x) k) $ heard ! (Takes (now s) (z .x) k) (λ e. split ! $ move ! (1 ∷ []) $
         -- [what was taken owns; the token; what the slice owns; the records; _5; _6; room for _7; …]
         peeks ! K.the-row (Is K.the-row) (shows 𝓤 H A K.the-row) k (w ∷ []) (λ is.
@@ -336,7 +336,7 @@ module _ {M : Type 1} (𝓤 : URA M) (H : Heap 𝓤) (A : Atoms 𝓤) (W : Given
             let most : length ys * wide < 2 ^ 63 = g .1 in
             omega (arith, most, f .left, fits)
 
-        parts : (k : Taken) (w : Val) → Is K.the-row k (w ∷ []) → Is Q.the-row (k .pair) (Q′.lowered (k .pair) ∷ []) × Is S.the-row (k .next) (S′.lowered (k .next) ∷ [])
+        parts : (k : Gives) (w : Val) → Is K.the-row k (w ∷ []) → Is Q.the-row (k .pair) (Q′.lowered (k .pair) ∷ []) × Is S.the-row (k .next) (S′.lowered (k .next) ∷ [])
         parts k w is = let o = LL.owed K.the-type K′.the-laws k _ is in (o .0, o .1 .0)
 
     -- the turn that leaves the loop, and the rest of the body: the borrow is closed at what is stored

@@ -46,10 +46,10 @@ use Rattle.parser.specs.declared.FrameRead.{FrameRead}
 use Rattle.parser.proofs.FrameRead as F
 use Rattle.parser.proofs.FrameRead.Laws as F′
 use Rattle.records.specs.declared.Found.{Found}
-use Rattle.records.specs.Inner.{Comes, Prepared}
+use Rattle.records.specs.Inner.{ComesFrom, Prepared}
 use Rattle.records.specs.Promise.{ReadFrameRecords}
-use Rattle.walker.proofs.Place as S
-use Rattle.walker.proofs.Place.Laws as S′
+use Rattle.records.proofs.Source as S
+use Rattle.records.proofs.Source.Laws as S′
 use Rattle.records.proofs.Found as N
 use Rattle.records.proofs.Found.Laws as N′
 use Rattle.records.proofs.fill.prepare as prep
@@ -162,7 +162,7 @@ module _ {M : Type 1} (𝓤 : URA M) (H : Heap 𝓤) (A : Atoms 𝓤) (W : Given
   Prepares f ms = Prepared (now s) n (length (now r)) f (now m) ms
 
   abbrev Filled : Found → List Pair → Type 0
-  Filled f ws = (ps : List Pair) → length ps ≡ f .count → Comes (now s) (f .from) ps → ws ≡ ps ++ drop (f .count) (now r)
+  Filled f ws = (ps : List Pair) → length ps ≡ f .count → ComesFrom (now s) (f .from) ps → ws ≡ ps ++ drop (f .count) (now r)
 
   kept : (f : Found) (ms : List ℕ) (ws : List Pair) → Prepares f ms → Filled f ws → ReadFrameRecords (now s) n (f .answer) (now m) ms (now r) ws
   kept f ms ws e e′ = record { says = e .says; fills = record { messages = e .messages; pairs = e′ (e .ps) (e .many) (e .comes) ∙ e .left (now r) refl } }
