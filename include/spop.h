@@ -149,6 +149,23 @@ uint64_t spop_read_frame(const uint8_t *input, size_t input_len, uint32_t limit,
                          uint64_t *messages, size_t messages_len, uint64_t *pairs, size_t pairs_len,
                          uint64_t head[6], uint64_t *at);
 
+/* A pair's six numbers, in the same order, by name. */
+struct spop_pair {
+    uint64_t key_start;
+    uint64_t key_len;
+    uint64_t kind;
+    uint64_t a;
+    uint64_t b;
+    uint64_t flags;
+};
+
+/* Reads a frame as spop_read_frame does, with a table of records for the pairs, which has room for pairs_len of them. The answer,
+ * *at, head and messages are those that spop_read_frame gives with a table of six times as many numbers. After 0 the records are
+ * at the front of pairs, with the numbers that it gives, and those behind them stay. After any other number none has changed. */
+uint64_t spop_read_frame_records(const uint8_t *input, size_t input_len, uint32_t limit,
+                                 uint64_t *messages, size_t messages_len, struct spop_pair *pairs, size_t pairs_len,
+                                 uint64_t head[6], uint64_t *at);
+
 /* The writers of frames take records in a table of numbers, so many of them, whose starts count in buffer; and a limit for the
  * frame's length without its four length bytes. They answer, the first of these that holds: 14 for the metadata (type, flags and
  * numbers of stream and frame); 16 for more records than the table has; for the first record that is refused its number, with its

@@ -34,7 +34,7 @@ pub record MessageThere (s : List ℕ) (at : ℕ) (m : Message) (qs : List Pair)
 abbrev pub Laid : List ℕ → ℕ → ℕ → List Message → List Pair → ℕ → Type 0
 Laid s at before [] ps end = (ps ≡ []) × (at ≡ end)
 Laid s at before (m ∷ ms) ps end =
-    (qs : List Pair) × (rest : List Pair) × (next : ℕ) × (ps ≡ qs ++ rest) × (m .first ≡ before) × MessageThere s at m qs next × Laid s next (before + m .count) ms rest end
+    (qs : List Pair) × (rest : List Pair) × (stop : ℕ) × (ps ≡ qs ++ rest) × (m .first ≡ before) × MessageThere s at m qs stop × Laid s stop (before + m .count) ms rest end
 
 -- The pairs that come from a place on, one behind the other.
 pub record FromList (s : List ℕ) (at : ℕ) (ps : List Pair) : Type 0 where

@@ -28,7 +28,7 @@ fn main() {
         3,
         252,
         240,
-        7,
+        6,
     ];
     walk(&hello, walker::kv_of(&hello));
     // A NOTIFY with the message "m" of two arguments, "x" with null and "" with false.

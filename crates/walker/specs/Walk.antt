@@ -8,7 +8,7 @@ use Rattle.answer.specs.Answer.{Answer, done, refused, behind}
 use Rattle.varint.specs.Number.{number}
 use Rattle.frame.specs.declared.Pair.{Pair}
 use Rattle.frame.specs.declared.Message.{Message}
-use Rattle.parser.specs.Pair.{pair, pairFrom}
+use Rattle.parser.specs.Pair.{pairFrom}
 use Rattle.parser.specs.Frame.{same}
 use Rattle.walker.specs.declared.Place.{Place}
 use Rattle.walker.specs.declared.Step.{Step}
@@ -16,8 +16,8 @@ use Rattle.walker.specs.declared.Step.the-variants as v
 
 -- where a number ends that stands at a place; the end of the bytes where none can be read
 abbrev pub endOr : ℕ → Answer ℕ → ℕ
-endOr n (done x end) = end
-endOr n (refused number place) = n
+endOr last (done x end) = end
+endOr last (refused n place) = last
 
 abbrev pub behindNumber : List ℕ → ℕ → ℕ
 behindNumber s at = endOr (length s) (behind same at (number (drop at s)))
