@@ -164,9 +164,9 @@ pub(crate) fn read_once(
     requires { ⌜ base + length (now payload) < 2 ^ 63 ⌝ }
     ensures { λ r. ⌜ ReadsOnce base (now (payload .entry)) r (now (messages .entry)) (now (messages .exit)) (now (pairs .entry)) (now (pairs .exit)) ⌝ }
 {
-    // Room for two messages and six pairs: an upload has one and four.
+    // Room for two messages and eight pairs: an upload has one and four.
     let mut own_messages = [0; 2 * MESSAGE_WIDTH];
-    let mut own_pairs = [0; 6 * PAIR_WIDTH];
+    let mut own_pairs = [0; 8 * PAIR_WIDTH];
     let found = take(payload, base, &mut own_messages, &mut own_pairs);
     let PayloadRead::Done {
         messages: message_count,
