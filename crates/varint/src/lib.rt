@@ -29,7 +29,8 @@ pub fn varint_len(i: u64) -> usize
         return 1;
     }
     let steps = (i - 240) / 16;
-    let k = (64 - u64::leading_zeros(steps)) / 7;
+    // A seventh of the bits: 37 256ths are as good for so few.
+    let k = (64 - u64::leading_zeros(steps)) * 37 / 256;
     if steps - (steps + 127) / 128 + 1 < 1u64 << (7 * k) {
         k as usize + 1
     } else {

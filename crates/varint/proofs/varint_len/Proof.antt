@@ -1,7 +1,7 @@
 -- `varint::varint_len` meets its contract. The bits of the steps are what their leading zeros leave of 64, so the law by bits (`length-before`,
 -- `length-from`) tells the length, by what so many bytes reach, which the code asks as `reached` says.
 -- Assumes nothing.
-use mathlib.Core.Path.{_≡_, sym, _∙_}
+use mathlib.Core.Path.{_≡_, sym, subst, _∙_}
 use mathlib.Core.Logic.{⊎-elim}
 use Prim.Native.Nat.{ℕ, _+_, _-_, _*_, _/_, _%_, _^_, _≤_, _<_}
 use native.Mathlib.Nat.{one-mul}
@@ -43,26 +43,39 @@ module _ (i : ℕ) where
   steps = (i - 240) / 16
 
   abbrev row : ℕ
-  row = (64 - leadingZeros 64 steps) / 7
+  row = (64 - leadingZeros 64 steps) * 37 / 256
+
+  -- which is a seventh of the bits
+  a-seventh : row ≡ (64 - leadingZeros 64 steps) / 7
+  a-seventh = omega arith
 
   abbrev threshold : ℕ
   threshold = (1 * 2 ^ (7 * row)) % 2 ^ 64
 
   module _ (some : 240 ≤ i) (fits : i < 2 ^ 64) where
+    few-rows : row < 9
+    few-rows = omega (arith, bits-of i fits .few, a-seventh)
+
     shorter : steps - (steps + 127) / 128 + 1 < threshold → row + 1 ≡ length (numberBytes i)
-    shorter t = let b = bits-of i fits in sym (length-before i _ some fits (b .below) (b .above) (reached row steps .1 (omega (arith, t, one-bit row (b .few)))))
+    shorter t =
+        let b = bits-of i fits in
+        let less : steps < reach ((64 - leadingZeros 64 steps) / 7) = subst (λ (k : ℕ). steps < reach k) a-seventh (reached row steps .1 (omega (arith, t, one-bit row few-rows))) in
+        omega (arith, a-seventh, length-before i _ some fits (b .below) (b .above) less)
 
     longer : threshold ≤ steps - (steps + 127) / 128 + 1 → row + 2 ≡ length (numberBytes i)
     longer t =
         let b = bits-of i fits in
-        sym (length-from i _ some fits (b .below) (b .above)
-        (⊎-elim (λ l. absurd (omega (arith, t, one-bit row (b .few), reached row steps .0 l))) (λ l. l) (lt-or-le steps (reach row))))
+        let more : reach row ≤ steps = ⊎-elim (λ l. absurd (omega (arith, t, one-bit row few-rows, reached row steps .0 l))) (λ l. l) (lt-or-le steps (reach row)) in
+        omega (arith, a-seventh, length-from i _ some fits (b .below) (b .above) (subst (λ (k : ℕ). reach k ≤ steps) a-seventh more))
 
 returns : tie.Need-returns
 returns c = rw (bytes-one _ (c .if1 .taken))
 
 sub-k : tie.Need-sub-k
 sub-k c = leading-le 64 _
+
+mul-k : tie.Need-mul-k
+mul-k c = search needs
 
 add-if2 : tie.Need-add-if2
 add-if2 c = search needs
@@ -106,6 +119,7 @@ varint-len-spec =
     (tie.spec
     returns
     sub-k
+    mul-k
     add-if2
     sub-if2
     add-if2-2
