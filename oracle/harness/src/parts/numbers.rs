@@ -351,6 +351,7 @@ pub fn bench(random: &mut Random) {
     for (name, numbers) in &sets {
         time_length(&format!("varint_len, {name}"), numbers);
     }
+    time_nothing(&sets[0].1);
     for (name, numbers) in &sets {
         time_encode(&format!("encode_varint, {name}"), numbers);
     }
@@ -400,6 +401,33 @@ fn time_length(name: &str, numbers: &[u64]) {
         }
     };
     timing::race(name, numbers.len(), port, rust);
+}
+
+#[inline(never)]
+fn nothing(_: u64) -> usize {
+    1
+}
+
+/// What is left of a call of `varint_len` that does no work: no side can come below it.
+fn time_nothing(numbers: &[u64]) {
+    let rust_length: fn(u64) -> usize = black_box(rust_length);
+    let length = || {
+        for &n in numbers {
+            black_box(rust_length(black_box(n)));
+        }
+    };
+    let nothing: fn(u64) -> usize = black_box(nothing);
+    let call = || {
+        for &n in numbers {
+            black_box(nothing(black_box(n)));
+        }
+    };
+    timing::compare(
+        "a call that answers 1, the Rust's",
+        numbers.len(),
+        call,
+        length,
+    );
 }
 
 fn time_encode(name: &str, numbers: &[u64]) {
