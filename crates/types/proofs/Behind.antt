@@ -44,23 +44,13 @@ module _ (kind flags : ℕ) (s : List ℕ) where
         )
 
   -- by the string
-  module _ (pre : (0 < length s) × (shape kind ≡ text)) {a : Answer Span} (read : a ≡ string (take (length s - 1) (drop 1 s))) where
-    pub text-none : (n place : ℕ) → a ≡ refused n place → (1 + place ≤ length s) × ReadsKind kind flags s (refused n (1 + place))
-    text-none n place is =
-        let e = tail string s read is in (
-          one-more s place (pre .0) (string-place (drop 1 s) n place e),
-          sym (behind-refused kind flags (drop 1 s) text (pre .1) n place (text-refused kind flags (drop 1 s) n place e)),
-        )
+  module _ (row : shape kind ≡ text) {a : Answer Span} (read : a ≡ string (take (length s - 1) (drop 1 s))) where
+    pub text-none : (n place : ℕ) → a ≡ refused n place → ReadsKind kind flags s (refused n (1 + place))
+    text-none n place is = sym (behind-refused kind flags (drop 1 s) text row n place (text-refused kind flags (drop 1 s) n place (tail string s read is)))
 
-    pub text-some : (start len used : ℕ) → a ≡ done (span start len) used
-        → (1 + start ≤ length s) × (1 + used ≤ length s) × ReadsKind kind flags s (done (value kind (1 + start) len flags) (1 + used))
+    pub text-some : (start len used : ℕ) → a ≡ done (span start len) used → ReadsKind kind flags s (done (value kind (1 + start) len flags) (1 + used))
     text-some start len used is =
-        let e = tail string s read is in
-        let o = string-accepted (drop 1 s) start len used e in (
-          one-more s start (pre .0) (omega arith),
-          one-more s used (pre .0) (omega arith),
-          sym (behind-start kind flags (drop 1 s) text (pre .1) start len flags used refl (text-whole kind flags (drop 1 s) start len used e)),
-        )
+        sym (behind-start kind flags (drop 1 s) text row start len flags used refl (text-whole kind flags (drop 1 s) start len used (tail string s read is)))
 
   -- by the test of an address's length
   module _ (n : ℕ) (row : shape kind ≡ address n) where
@@ -69,3 +59,13 @@ module _ (kind flags : ℕ) (s : List ℕ) where
 
     pub address-some : n ≤ length s - 1 → ReadsKind kind flags s (done (value kind 1 n flags) (1 + n))
     address-some h = sym (behind-start kind flags (drop 1 s) (address n) row 0 n flags n refl (address-whole kind flags (drop 1 s) n (simp length-drop h)))
+
+-- of a string there, its place, its start and its count lie in the bytes, of whatever kind it is
+module _ (s : List ℕ) (some : 0 < length s) {a : Answer Span} (read : a ≡ string (take (length s - 1) (drop 1 s))) where
+  pub text-place : (n place : ℕ) → a ≡ refused n place → 1 + place ≤ length s
+  text-place n place is = one-more s place some (string-place (drop 1 s) n place (tail string s read is))
+
+  pub text-bounds : (start len used : ℕ) → a ≡ done (span start len) used → (1 + start ≤ length s) × (1 + used ≤ length s)
+  text-bounds start len used is =
+      let o = string-accepted (drop 1 s) start len used (tail string s read is) in
+      (one-more s start some (omega arith), one-more s used some (omega arith))

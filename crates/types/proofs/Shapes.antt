@@ -1,6 +1,6 @@
 -- Laws about the table of kinds: each kind's line, the 32 bits of an integer, the test of its two numbers and that of its flags.
 use mathlib.Core.Path.{_≡_, refl, sym, ap, _∙_}
-use mathlib.Core.Bool.{true, false, and-false, true≢false}
+use mathlib.Core.Bool.{Bool, true, false, _&&_, and-false, true≢false}
 use mathlib.Core.Logic.{⊎-elim}
 use Prim.Native.Nat.{ℕ, _+_, _-_, _%_, _^_, _≤_, _<_}
 use native.Mathlib.Omega.{arith}
@@ -218,7 +218,18 @@ module _ (k flags : ℕ) where
       shape-cases k (λ e is. flags-at nothing is) (λ e is. absurd (no1 e)) (λ w l g is. flags-at (integer w) is)
       (λ n l g is. flags-at (address n) is) (λ l g is. flags-at text is) (λ l is. flags-at reserved is)
 
+  pub flags-over : 16 ≤ flags → inFlags (shape k) flags ≡ false
+  flags-over h =
+      ⊎-elim
+      (λ l. flags-other (λ e. omega arith) ∙ le-ltb flags 16 h)
+      (λ l. ⊎-elim (λ m. flags-bool (omega arith) ∙ ne-eqb flags 0 (λ z. omega arith)) (λ m. flags-other (λ e. omega arith) ∙ le-ltb flags 16 h) (lt-or-le k 2))
+      (lt-or-le k 1)
+
 -- ---- a writable record, by its kind's line
+
+-- four bits of flags are right for every kind but a boolean
+pub fields-alone : (k a b flags : ℕ) → (k ≡ 1 → ⊥) → flags < 16 → writableRecord (value k a b flags) ≡ inFields (shape k) a b
+fields-alone k a b flags no1 h = ap (λ (x : Bool). x && inFields (shape k) a b) (flags-other k flags no1 ∙ lt-ltb flags 16 h)
 
 module _ (k a b flags : ℕ) (h : writableRecord (value k a b flags) ≡ true) where
   both : (inFlags (shape k) flags ≡ true) × (inFields (shape k) a b ≡ true)

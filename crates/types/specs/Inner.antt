@@ -4,14 +4,19 @@ use mathlib.Core.Path.{_≡_}
 use mathlib.Core.List.{List}
 use Prim.Native.Nat.{ℕ}
 use lib.ListN.{length, drop}
-use Rattle.answer.specs.Answer.{Answer, refused, behind, within, leaves, tells}
-use Rattle.types.specs.Value.{shape, Record, moved, content}
+use Rattle.answer.specs.Answer.{Answer, done, refused, behind, within, leaves, tells}
+use Rattle.types.specs.Value.{Span, span, shape, Record, value, moved, content}
 use Rattle.types.specs.Form.{valueAnswer, lengthOf}
 use Rattle.types.specs.Promise.{recordOf}
 
 -- What the reader of one kind is to answer: it is lent the type byte too, of which the kind and the flags are known.
 abbrev pub ReadsKind : ℕ → ℕ → List ℕ → Answer Record → Type 0
 ReadsKind kind flags input a = a ≡ behind moved 1 (content (shape kind) kind flags (drop 1 input))
+
+-- a string or a binary whose bytes were found
+abbrev pub asValue : ℕ → ℕ → Answer Span → Answer Record
+asValue kind flags (done (span start len) used) = done (value kind start len flags) used
+asValue kind flags (refused number place) = refused number place
 
 -- A writer inside, of what is to give the answer a: it counts the bytes, 0 where it refuses, and those lent to it, old before, are
 -- new afterwards.

@@ -4,6 +4,7 @@ use answer::NOT_TEXT;
 use answer::NOT_WRITABLE;
 use answer::OUTSIDE;
 ghost use mathlib.Core.Path.{_≡_};
+ghost use mathlib.Core.Bool.{_&&_};
 ghost use Prim.Native.Nat.{_<_};
 ghost use Rattle.types.specs.Value.{shape, inFields, inFlags};
 ghost use Rattle.types.specs.Form.{inside, ranged};
@@ -13,50 +14,37 @@ ghost use Rattle.types.specs.Promise.{recordOf, Writable, CheckString, C
 pub fn writable(value: Value) -> bool
     ensures { λ r. ⌜ Writable value r ⌝ }
 {
-    if !in_flags(value.kind, value.flags) {
+    let kind = value.kind;
+    if 16 <= value.flags {
         return false;
     }
-    in_fields(value.kind, value.a, value.b)
-}
-
-// Whether the flags are four bits, and none of a boolean.
-pub(crate) fn in_flags(kind: u64, flags: u64) -> bool
-    ensures { λ r. ⌜ r ≡ inFlags (shape kind) flags ⌝ }
-{
-    if kind == 1 {
-        return flags == 0;
-    }
-    flags < 16
-}
-
-// Whether the other two numbers lie in their fields.
-fn in_fields(kind: u64, a: u64, b: u64) -> bool
-    ensures { λ r. ⌜ r ≡ inFields (shape kind) a b ⌝ }
-{
     if kind < 6 {
-        if b != 0 {
+        if value.b != 0 {
             return false;
         }
-        return in_field(kind, a);
+        return in_field(kind, value.a, value.flags);
     }
     if kind == 6 {
-        return b == 4;
+        return value.b == 4;
     }
     if kind == 7 {
-        return b == 16;
+        return value.b == 16;
     }
     kind < 10
 }
 
-// Whether the number of a kind that points at no bytes lies in its field.
-fn in_field(kind: u64, a: u64) -> bool
-    requires { ⌜ kind < 6 ⌝ }
-    ensures { λ r. ⌜ r ≡ inFields (shape kind) a 0 ⌝ }
+// Whether the number of a kind that points at no bytes lies in its field, and a boolean has no flags.
+fn in_field(kind: u64, a: u64, flags: u64) -> bool
+    requires { ⌜ (kind < 6) × (flags < 16) ⌝ }
+    ensures { λ r. ⌜ r ≡ inFlags (shape kind) flags && inFields (shape kind) a 0 ⌝ }
 {
     if kind == 0 {
         return a == 0;
     }
     if kind == 1 {
+        if flags != 0 {
+            return false;
+        }
         return a < 2;
     }
     if kind == 2 {

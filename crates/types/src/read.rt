@@ -7,11 +7,11 @@ use answer::Refusal;
 use answer::TOO_SOON;
 use varint::Number;
 ghost use mathlib.Core.Path.{_≡_};
-ghost use Prim.Native.Nat.{_≤_, _<_};
+ghost use Prim.Native.Nat.{ℕ, _≤_, _<_};
 ghost use lib.ListN.{length};
 ghost use Rattle.types.specs.Value.{Width, integer, address, text, shape, narrowed};
-ghost use Rattle.types.specs.Promise.{typedRead, ReadString, TypedData};
-ghost use Rattle.types.specs.Inner.{ReadsKind};
+ghost use Rattle.types.specs.Promise.{textRead, typedRead, ReadString, TypedData};
+ghost use Rattle.types.specs.Inner.{ReadsKind, asValue};
 
 // Reads the string at the front of `input`: a length number and that many bytes.
 pub fn read_string(input: &[u8]) -> Text
@@ -83,7 +83,7 @@ pub fn typed_data(input: &[u8]) -> Typed
         return read_address(7, 16, flags, input);
     }
     if kind < 10 {
-        return read_bytes(kind, flags, input);
+        return bytes_value(kind, flags, read_bytes(input));
     }
     Typed::Refused(Refusal {
         number: NO_TYPE,
@@ -159,32 +159,45 @@ fn read_address(kind: u64, len: usize, flags: u64, input: &[u8]) -> Typed
     }
 }
 
-// Finds the bytes of a string or a binary behind the type byte.
-fn read_bytes(kind: u64, flags: u64, input: &[u8]) -> Typed
+// Finds the bytes of a string or a binary behind the type byte, of which their start and their count are told.
+fn read_bytes(input: &[u8]) -> Text
     requires { ⌜ 0 < length (now input) ⌝ }
-    requires { ⌜ shape kind ≡ text ⌝ }
-    ensures { λ r. ⌜ ReadsKind kind flags (now (input .entry)) (typedRead r) ⌝ }
+    ensures { λ r. ⌜ ((kind flags : ℕ) → shape kind ≡ text → ReadsKind kind flags (now (input .entry)) (asValue kind flags (textRead r))) ⌝ }
 {
     match read_string(&input[1..]) {
         Text::Refused(r) => {
             let place = 1 + r.place;
-            return Typed::Refused(Refusal {
+            return Text::Refused(Refusal {
                 number: r.number,
                 place,
             });
         },
         Text::Done { start, len, used } => {
-            let a = (1 + start) as u64;
+            let from = 1 + start;
             let taken = 1 + used;
-            return Typed::Done {
-                value: Value {
-                    kind,
-                    a,
-                    b: len as u64,
-                    flags,
-                },
+            return Text::Done {
+                start: from,
+                len,
                 used: taken,
             };
+        },
+    }
+}
+
+// The value whose bytes these are.
+fn bytes_value(kind: u64, flags: u64, bytes: Text) -> Typed
+    ensures { λ r. ⌜ typedRead r ≡ asValue kind flags (textRead bytes) ⌝ }
+{
+    match bytes {
+        Text::Refused(r) => Typed::Refused(r),
+        Text::Done { start, len, used } => Typed::Done {
+            value: Value {
+                kind,
+                a: start as u64,
+                b: len as u64,
+                flags,
+            },
+            used,
         },
     }
 }

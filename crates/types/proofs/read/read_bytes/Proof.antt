@@ -4,7 +4,7 @@ use borrow.Author.Needs.{needs}
 use mathlib.Core.Path.{ap}
 use native.Mathlib.Omega.{arith}
 use Rattle.types.specs.Promise.{textRead}
-use Rattle.types.proofs.Behind.{text-none, text-some}
+use Rattle.types.proofs.Behind.{text-none, text-some, text-place, text-bounds}
 use Rattle.types.proofs.read.read_bytes.Statement.{statement}
 use Rattle.types.proofs.read.read_bytes.Tie as tie
 
@@ -26,30 +26,30 @@ enum-known-r c = search needs
 add-place : tie.Need-add-place
 add-place c = let k = c .before .before .before .before in
     let a = k .before .before .before in
-    omega (arith, text-none (a .args .kind) (a .args .flags) (a .args .input .now) (a .pre) (k .read-string .ensures) _ _ (ap textRead (c .before .before .r .given .1)) .0)
+    omega (arith, text-place (a .args .input .now) (a .pre) (k .read-string .ensures) _ _ (ap textRead (c .before .before .r .given .1)))
 
 returns : tie.Need-returns
-returns c = let k = c .before .before .before .before in
+returns c = λ kind flags row. let k = c .before .before .before .before in
     let a = k .before .before .before in
-    text-none (a .args .kind) (a .args .flags) (a .args .input .now) (a .pre) (k .read-string .ensures) _ _ (ap textRead (c .before .before .r .given .1)) .1
+    text-none kind flags (a .args .input .now) row (k .read-string .ensures) _ _ (ap textRead (c .before .before .r .given .1))
 
 enum-known-start : tie.Need-enum-known-start
 enum-known-start c = search needs
 
-add-a : tie.Need-add-a
-add-a c = let k = c .before .before .before in
+add-from : tie.Need-add-from
+add-from c = let k = c .before .before .before in
     let a = k .before .before .before in
-    omega (arith, text-some (a .args .kind) (a .args .flags) (a .args .input .now) (a .pre) (k .read-string .ensures) _ _ _ (ap textRead (c .before .start .given .1)) .0)
+    omega (arith, text-bounds (a .args .input .now) (a .pre) (k .read-string .ensures) _ _ _ (ap textRead (c .before .start .given .1)) .0)
 
 add-taken : tie.Need-add-taken
 add-taken c = let k = c .before .before .before in
     let a = k .before .before .before in
-    omega (arith, text-some (a .args .kind) (a .args .flags) (a .args .input .now) (a .pre) (k .read-string .ensures) _ _ _ (ap textRead (c .before .start .given .1)) .1)
+    omega (arith, text-bounds (a .args .input .now) (a .pre) (k .read-string .ensures) _ _ _ (ap textRead (c .before .start .given .1)) .1)
 
 returns-2 : tie.Need-returns-2
-returns-2 c = let k = c .before .before .before in
+returns-2 c = λ kind flags row. let k = c .before .before .before in
     let a = k .before .before .before in
-    text-some (a .args .kind) (a .args .flags) (a .args .input .now) (a .pre) (k .read-string .ensures) _ _ _ (ap textRead (c .before .start .given .1)) .2
+    text-some kind flags (a .args .input .now) row (k .read-string .ensures) _ _ _ (ap textRead (c .before .start .given .1))
 
 pub read-bytes-spec : {M : Type 1} → statement M
 read-bytes-spec =
@@ -63,6 +63,6 @@ read-bytes-spec =
     add-place
     returns
     enum-known-start
-    add-a
+    add-from
     add-taken
     returns-2)

@@ -72,11 +72,18 @@ eight : (c : tie.Then7) → 8 ≤ typeByte (c .before .before .before .before .b
 eight c = omega (arith, c .before .if6 .left, c .before .before .if5 .left, c .before .before .before .if4 .left)
 
 read-bytes-requires : tie.Need-read-bytes-requires
-read-bytes-requires c κs = (here (c .before .before .before .before .before .before .before), shape-text _ (eight c) (c .if7 .taken))
+read-bytes-requires c κs = here (c .before .before .before .before .before .before .before)
+
+bytes-value-requires : tie.Need-bytes-value-requires
+bytes-value-requires c κs = search needs
 
 returns-7 : tie.Need-returns-7
-returns-7 c = let e = c .before .before .before .before .before .before .before .before in let s = e .before .before .args .input .now in
-    c .read-bytes .ensures ∙ sym (typed-front s (typeByte s % 16) (here e) refl)
+returns-7 c = let t = c .before .before in
+    let e = t .before .before .before .before .before .before .before in
+    let s = e .before .before .args .input .now in
+    c .bytes-value .ensures
+    ∙ c .before .read-bytes .ensures (typeByte s % 16) (upper (typeByte s)) (shape-text _ (eight t) (t .if7 .taken))
+    ∙ sym (typed-front s (typeByte s % 16) (here e) refl)
 
 returns-8 : tie.Need-returns-8
 returns-8 c = let e = c .before .before .before .before .before .before .before in sym (unknown (e .before .before .args .input .now) (here e) (c .if7 .left))
@@ -98,5 +105,6 @@ typed-data-spec =
     read-address-requires-2
     returns-6
     read-bytes-requires
+    bytes-value-requires
     returns-7
     returns-8)
