@@ -31,7 +31,7 @@ dataBytes (address n) type a bytes = type ∷ bytes
 dataBytes text type a bytes = type ∷ stringBytes bytes
 dataBytes reserved type a bytes = []
 
--- the type byte of a kind with these flags, of which a boolean has none but itself
+-- the type byte of a kind with these flags; a boolean has none, and is put in above
 abbrev pub typeOf : ℕ → ℕ → ℕ
 typeOf kind flags = kind + 16 * flags
 

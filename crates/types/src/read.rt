@@ -159,7 +159,8 @@ fn read_address(kind: u64, len: usize, flags: u64, input: &[u8]) -> Typed
     }
 }
 
-// Finds the bytes of a string or a binary behind the type byte, of which their start and their count are told.
+// Finds the bytes of a string or a binary behind the type byte. Their start and what they took count from it. Kind and flags are not told
+// here, so that fewer numbers go through memory.
 fn read_bytes(input: &[u8]) -> Text
     requires { ⌜ 0 < length (now input) ⌝ }
     ensures { λ r. ⌜ ((kind flags : ℕ) → shape kind ≡ text → ReadsKind kind flags (now (input .entry)) (asValue kind flags (textRead r))) ⌝ }
@@ -184,7 +185,7 @@ fn read_bytes(input: &[u8]) -> Text
     }
 }
 
-// The value whose bytes these are.
+// The value of this kind and these flags whose bytes were found.
 fn bytes_value(kind: u64, flags: u64, bytes: Text) -> Typed
     ensures { λ r. ⌜ typedRead r ≡ asValue kind flags (textRead bytes) ⌝ }
 {

@@ -109,8 +109,8 @@ fn why_not(value: Value, buffer: &[u8]) -> u64
 }
 
 // Writes a value and says how many bytes it wrote: 0 where it is refused, since no written form is empty. One number stays in a
-// register, which an enum's cases from many branches do not. Each class of kinds tests its own fields: one test for all of them in front
-// was measured slower.
+// register, which an enum's cases from many branches do not. Each class of kinds tests its own fields, but for the flags of those that
+// point: one test for all of them in front was measured slower.
 fn put_value(value: Value, buffer: &[u8], out: &mut [u8]) -> usize
     ensures { λ r. ⌜ PutsValue value (now (buffer .entry)) r (now (out .entry)) (now (out .exit)) ⌝ }
 {
