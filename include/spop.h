@@ -76,8 +76,8 @@ enum {
  *    6 IPv4     start, 4           7 IPv6    start, 16
  *    8 string   start, length      9 binary  start, length
  *
- * The flags are the upper four bits of the type byte, 0 to 15, which SPOP leaves unused; of a bool, which has them as its a, they
- * are 0. A writer puts them back. */
+ * The flags are the upper four bits of the type byte, 0 to 15, which SPOP leaves unused, and a writer puts them back. A bool's a is
+ * the lowest of them; its others are passed over where it is read, and its flags here are 0. */
 
 /* Reads the value at the front of input; a start counts from its first byte. 0 with value set and the bytes used, or 3, 7, 8
  * or 19. */

@@ -6,7 +6,7 @@ use frame::PAIR_WIDTH;
 use frame::Pair;
 use types::Value;
 ghost use mathlib.Core.Path.{_≡_};
-ghost use Prim.Native.Nat.{ℕ, _+_, _≤_};
+ghost use Prim.Native.Nat.{ℕ, _+_, _*_, _≤_};
 ghost use lib.ListN.{length, getD};
 ghost use Rattle.frame.specs.Records.{pairWidth, pairIn};
 ghost use Rattle.parser.specs.Inner.{fewIn};
@@ -31,7 +31,7 @@ fn pair_in(table: &[u64], k: usize) -> Pair
 
 // The first four pairs of a table.
 fn few_of(table: &[u64]) -> Few
-    requires { ⌜ 24 ≤ length (now table) ⌝ }
+    requires { ⌜ 4 * pairWidth ≤ length (now table) ⌝ }
     ensures { λ r. ⌜ r ≡ fewIn (now (table .entry)) ⌝ }
 {
     Few {

@@ -1,4 +1,5 @@
-// What an accepted frame holds, taken where it stands: its messages go into their table, and its pairs are given one after the other.
+// What an accepted frame holds: its messages go into their table, and its pairs are given one after the other, a few of them by value and else from where
+// they stand in the bytes.
 use crate::Ahead;
 use crate::Found;
 use crate::Given;
@@ -208,7 +209,7 @@ fn behind_arguments(input: &[u8], at: usize, count: usize, last: bool) -> usize
     skip_pairs(input, at, count)
 }
 
-// Writes the four numbers of a message.
+// Writes the numbers of a message.
 fn put_message(message: Message, table: &mut [u64])
     requires { ⌜ messageWidth ≤ length (now table) ⌝ }
     ensures { λ _. ⌜ now (table .exit) ≡ leaves (written (messageNumbers message)) (now (table .entry)) ⌝ }

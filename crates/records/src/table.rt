@@ -1,4 +1,4 @@
-// The calls that hold the table of pair records. Each is short, as its proof walks over its machine code step by step; the work is `fill`'s.
+// The calls that hold the table of pair records. Each is short, as its proof is a walk over its compiled form, by hand; the work is `fill`'s.
 use crate::Source;
 use crate::fill::prepare;
 use crate::fill::take_next;

@@ -1,4 +1,5 @@
--- A walk over the pairs of a frame, one step at a time. Starts and places count from the frame's first byte.
+-- A walk over the pairs of a frame, one step at a time: of a KV list, or of a message's arguments (SPOE.txt, sections 3.2 and 3.2.6). Starts and places
+-- count from the frame's first byte.
 use mathlib.Core.Bool.{Bool, true, false, cond}
 use mathlib.Core.List.{List}
 use Prim.Native.Nat.{ℕ, _+_, _-_, _^_}

@@ -1,4 +1,4 @@
--- `parser::head::look_frame` meets its contract.
+-- `parser::head::look_frame` meets its contract: each way out of the cut is a law of the definition.
 -- Assumes nothing.
 use mathlib.Core.Path.{sym, ap, _∙_}
 use Prim.Native.Nat.{ℕ, _+_, _-_}

@@ -1,4 +1,4 @@
--- `parser::head::look_rest` meets its contract.
+-- `parser::head::look_rest` meets its contract: what is found of the payload is what the frame comes to, with its place moved by the head.
 -- Assumes nothing.
 use mathlib.Core.Path.{_≡_, sym, ap, _∙_}
 use mathlib.Core.Bool.{Bool, not}

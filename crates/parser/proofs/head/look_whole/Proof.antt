@@ -1,4 +1,4 @@
--- `parser::head::look_whole` meets its contract.
+-- `parser::head::look_whole` meets its contract: the metadata's refusal is the frame's, and else the payload answers.
 -- Assumes nothing.
 use mathlib.Core.Path.{sym, ap, _∙_}
 use Rattle.parser.specs.Inner.{metadataSaid}
