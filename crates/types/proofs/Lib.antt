@@ -8,4 +8,5 @@ pub mod Checking
 pub mod Roundtrip
 pub mod Exact
 pub mod Output
+pub mod Blocks
 pub mod Unique

@@ -48,36 +48,6 @@ told-short {a} bytes room is some none =
     (λ h. let z : length bytes ≡ 0 = simp (le-leb (length bytes) room h) at (rw is at none) in absurd (omega arith))
     (lt-or-le room (length bytes))
 
--- a copy that has come to its end
-pub puts-copy : {bytes old out : List ℕ} {at : ℕ} → Partly bytes old at (drop at bytes) out → length bytes ≤ at → Puts (written bytes) at old out
-puts-copy p h = let q = copy-all p h in record { counts = partly-count q; holds = partly-all q }
-
--- four bytes, one after the other
-module _ (bytes old : List ℕ) (four : length bytes ≡ 4) (room : length bytes ≤ length old) where
-  none : Partly bytes old 0 (drop 0 bytes) old
-  none = partly-none bytes old room
-
-  one : Partly bytes old 1 (drop 1 bytes) (set old 0 (getD bytes 0 0))
-  one = copy-next none (omega (arith, four))
-
-  two : Partly bytes old 2 (drop 2 bytes) (set (set old 0 (getD bytes 0 0)) 1 (getD bytes 1 0))
-  two = copy-next one (omega (arith, four))
-
-  three : Partly bytes old 3 (drop 3 bytes) (set (set (set old 0 (getD bytes 0 0)) 1 (getD bytes 1 0)) 2 (getD bytes 2 0))
-  three = copy-next two (omega (arith, four))
-
-  pub four-second : 1 < length (set old 0 (getD bytes 0 0))
-  four-second = copy-place one (omega (arith, four))
-
-  pub four-third : 2 < length (set (set old 0 (getD bytes 0 0)) 1 (getD bytes 1 0))
-  four-third = copy-place two (omega (arith, four))
-
-  pub four-fourth : 3 < length (set (set (set old 0 (getD bytes 0 0)) 1 (getD bytes 1 0)) 2 (getD bytes 2 0))
-  four-fourth = copy-place three (omega (arith, four))
-
-  pub four-all : Puts (written bytes) 4 old (set (set (set (set old 0 (getD bytes 0 0)) 1 (getD bytes 1 0)) 2 (getD bytes 2 0)) 3 (getD bytes 3 0))
-  four-all = puts-copy (copy-next three (omega (arith, four))) (omega (arith, four))
-
 -- Of two parts the first is written, n bytes, which made out of old, and there is room for both.
 pub record Begun (front rest old : List ℕ) (n : ℕ) (out : List ℕ) : Type 0 where
   pub first : Puts (written front) n old out

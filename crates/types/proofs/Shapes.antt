@@ -1,8 +1,8 @@
 -- Laws about the table of kinds: each kind's line, the 32 bits of an integer, the test of its two numbers and that of its flags.
-use mathlib.Core.Path.{_≡_, refl, sym, ap, _∙_}
+use mathlib.Core.Path.{_≡_, refl, sym, ap, subst, _∙_}
 use mathlib.Core.Bool.{Bool, true, false, _&&_, and-false, true≢false}
 use mathlib.Core.Logic.{⊎-elim}
-use Prim.Native.Nat.{ℕ, _+_, _-_, _%_, _^_, _≤_, _<_}
+use Prim.Native.Nat.{ℕ, zero, suc, _+_, _-_, _/_, _%_, _^_, _≤_, _<_}
 use native.Mathlib.Omega.{arith}
 use lib.Dec.{ltb, eqb}
 use lib.ListN.{List·getD-eq-default}
@@ -10,6 +10,7 @@ use borrow.Author.Tests.{lt-ltb, le-ltb, eq-eqb, ne-eqb, eqb-true, ltb-true}
 use Rattle.answer.proofs.Cases.{lt-or-le, both-true}
 use Rattle.types.specs.Value.{Shape, nothing, flag, integer, address, text, reserved, Width, signed32, unsigned32, whole64, shapes, shape, value, points, signExtended, inWidth, inFields, inFlags}
 use Rattle.types.specs.Form.{writableRecord}
+use Rattle.types.specs.Inner.{numbered}
 
 -- ---- the table
 
@@ -68,6 +69,40 @@ shape-cases k null bool int addr txt none =
     (lt-or-le k 8))
     (lt-or-le k 6))
     (lt-or-le k 2)
+
+-- The kinds whose DATA begins with a number, as bits of one number: each of the sixteen is looked at.
+each : (ℕ → Type 0) → ℕ → Type 0
+each P zero = Unit {0}
+each P (suc n) = P n × each P n
+
+one-of : (P : ℕ → Type 0) (n : ℕ) → each P n → (k : ℕ) → k < n → P k
+unfolding each
+one-of P zero all k h = absurd (omega arith)
+one-of P (suc n) all k h = ⊎-elim (λ l. one-of P n (all .1) k l) (λ l. subst P {x = n} {y = k} (omega arith) (all .0)) (lt-or-le k n)
+
+pub numbered-bit : (k : ℕ) → k < 16 → eqb (828 / 2 ^ k % 2) 1 ≡ numbered (shape k)
+unfolding shape each
+numbered-bit k h =
+    one-of (λ (j : ℕ). eqb (828 / 2 ^ j % 2) 1 ≡ numbered (shape j)) 16
+    (refl, (refl, (refl, (refl, (refl, (refl, (refl, (refl, (refl, (refl, (refl, (refl, (refl, (refl, (refl, (refl, tt)))))))))))))))) k h
+
+-- of the others these are the ones that have a line
+pub unnumbered-left : (k : ℕ) → numbered (shape k) ≡ false → (k ≡ 0 → ⊥) → (k ≡ 1 → ⊥) → (k ≡ 6 → ⊥) → (k ≡ 7 → ⊥) → shape k ≡ reserved
+unnumbered-left k none n0 n1 n6 n7 =
+    shape-cases k (λ e is. absurd (n0 e)) (λ e is. absurd (n1 e)) (λ w l g is. absurd (true≢false (sym (ap numbered is) ∙ none)))
+    (λ n l g is. ⊎-elim (λ h. absurd (n6 (omega arith))) (λ h. absurd (n7 (omega arith))) (lt-or-le k 7))
+    (λ l g is. absurd (true≢false (sym (ap numbered is) ∙ none))) (λ l is. is)
+
+-- and of these the integers are below 6
+pub numbered-integer : (k : ℕ) → numbered (shape k) ≡ true → k < 6 → 2 ≤ k
+numbered-integer k some h =
+    shape-cases k (λ e is. absurd (true≢false (sym some ∙ ap numbered is))) (λ e is. absurd (true≢false (sym some ∙ ap numbered is))) (λ w l g is. l)
+    (λ n l g is. absurd (omega arith)) (λ l g is. absurd (omega arith)) (λ l is. absurd (omega arith))
+
+pub numbered-text : (k : ℕ) → numbered (shape k) ≡ true → 6 ≤ k → shape k ≡ text
+numbered-text k some h =
+    shape-cases k (λ e is. absurd (omega arith)) (λ e is. absurd (omega arith)) (λ w l g is. absurd (omega arith))
+    (λ n l g is. absurd (true≢false (sym some ∙ ap numbered is))) (λ l g is. is) (λ l is. absurd (true≢false (sym some ∙ ap numbered is)))
 
 -- whether a kind points
 pub points-no : (k : ℕ) → k < 6 → points (shape k) ≡ false

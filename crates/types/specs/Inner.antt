@@ -1,11 +1,12 @@
 -- What only private contracts cite. No public promise rests on anything in this file.
 use Rattle.types.specs.declared.Value.{Value}
 use mathlib.Core.Path.{_≡_}
-use mathlib.Core.List.{List}
-use Prim.Native.Nat.{ℕ}
-use lib.ListN.{length, drop}
-use Rattle.answer.specs.Answer.{Answer, done, refused, behind, within, leaves, tells}
-use Rattle.types.specs.Value.{Span, span, shape, Record, value, moved, content}
+use mathlib.Core.Bool.{Bool, true, false}
+use mathlib.Core.List.{List, _++_}
+use Prim.Native.Nat.{ℕ, _+_}
+use lib.ListN.{length, take, drop}
+use Rattle.answer.specs.Answer.{Answer, refused, behind, within, leaves, tells}
+use Rattle.types.specs.Value.{Shape, nothing, flag, integer, address, text, reserved, shape, Record, value, moved, content}
 use Rattle.types.specs.Form.{valueAnswer, lengthOf}
 use Rattle.types.specs.Promise.{recordOf}
 
@@ -13,16 +14,24 @@ use Rattle.types.specs.Promise.{recordOf}
 abbrev pub ReadsKind : ℕ → ℕ → List ℕ → Answer Record → Type 0
 ReadsKind kind flags input a = a ≡ behind moved 1 (content (shape kind) kind flags (drop 1 input))
 
--- a string or a binary whose bytes were found
-abbrev pub asValue : ℕ → ℕ → Answer Span → Answer Record
-asValue kind flags (done (span start len) used) = done (value kind start len flags) used
-asValue kind flags (refused number place) = refused number place
+-- the kinds whose DATA begins with a number
+abbrev pub numbered : Shape → Bool
+numbered nothing = false
+numbered flag = false
+numbered (integer w) = true
+numbered (address n) = false
+numbered text = true
+numbered reserved = false
 
 -- A writer inside, of what is to give the answer a: it counts the bytes, 0 where it refuses, and those lent to it, old before, are
 -- new afterwards.
 pub record Puts (a : Answer (List ℕ)) (n : ℕ) (old new : List ℕ) : Type 0 where
   pub counts : n ≡ lengthOf a
   pub holds : new ≡ leaves a old
+
+-- the n bytes at a place, put at the same place of what is lent
+abbrev pub block : List ℕ → ℕ → ℕ → List ℕ → List ℕ
+block bytes at n old = take at old ++ (take n (drop at bytes) ++ drop (at + n) old)
 
 -- such a writer of a value
 abbrev pub PutsValue : Value → List ℕ → ℕ → List ℕ → List ℕ → Type 0

@@ -7,11 +7,14 @@ use answer::Refusal;
 use answer::TOO_SOON;
 use varint::Number;
 ghost use mathlib.Core.Path.{_≡_};
-ghost use Prim.Native.Nat.{ℕ, _≤_, _<_};
+ghost use mathlib.Core.Bool.{true, false, cond};
+ghost use Prim.Native.Nat.{_+_, _≤_, _<_};
+ghost use lib.Dec.{leb};
 ghost use lib.ListN.{length};
-ghost use Rattle.types.specs.Value.{Width, integer, address, text, shape, narrowed};
-ghost use Rattle.types.specs.Promise.{textRead, typedRead, ReadString, TypedData};
-ghost use Rattle.types.specs.Inner.{ReadsKind, asValue};
+ghost use Rattle.answer.specs.Answer.{done, refused};
+ghost use Rattle.types.specs.Value.{Width, integer, address, shape, value as aRecord, narrowed};
+ghost use Rattle.types.specs.Promise.{typedRead, ReadString, TypedData};
+ghost use Rattle.types.specs.Inner.{ReadsKind, numbered};
 
 // Reads the string at the front of `input`: a length number and that many bytes.
 pub fn read_string(input: &[u8]) -> Text
@@ -51,50 +54,20 @@ pub fn typed_data(input: &[u8]) -> Typed
     let first = input[0];
     let kind = (first % 16) as u64;
     let flags = (first / 16 % 16) as u64;
-    if kind == 0 {
-        return Typed::Done {
-            value: Value {
-                kind,
-                a: 0,
-                b: 0,
-                flags,
-            },
-            used: 1,
-        };
+    if (NUMBERED >> kind) % 2 == 1 {
+        return read_number(kind, flags, input);
     }
-    if kind == 1 {
-        return Typed::Done {
-            value: Value {
-                kind,
-                a: flags % 2,
-                b: 0,
-                flags: 0,
-            },
-            used: 1,
-        };
-    }
-    if kind < 6 {
-        return read_integer(kind, flags, input);
-    }
-    if kind == 6 {
-        return read_address(6, 4, flags, input);
-    }
-    if kind == 7 {
-        return read_address(7, 16, flags, input);
-    }
-    if kind < 10 {
-        return bytes_value(kind, flags, read_bytes(input));
-    }
-    Typed::Refused(Refusal {
-        number: NO_TYPE,
-        place: 1,
-    })
+    read_other(kind, flags, input)
 }
 
-// Reads the number behind the type byte, of a kind that is an integer.
-fn read_integer(kind: u64, flags: u64, input: &[u8]) -> Typed
+// The kinds whose type byte a number follows, a bit for each: the integers, 2 to 5, and the length of a string or a binary, 8 and 9. One
+// test tells them from the others, and one reader of numbers serves them all.
+const NUMBERED: u64 = 0x33C;
+
+// Reads the number behind the type byte, of one of these kinds, and what that number stands for.
+fn read_number(kind: u64, flags: u64, input: &[u8]) -> Typed
     requires { ⌜ 0 < length (now input) ⌝ }
-    requires { ⌜ (2 ≤ kind) × (kind < 6) ⌝ }
+    requires { ⌜ numbered (shape kind) ≡ true ⌝ }
     ensures { λ r. ⌜ ReadsKind kind flags (now (input .entry)) (typedRead r) ⌝ }
 {
     match varint::decode_varint(&input[1..]) {
@@ -106,18 +79,28 @@ fn read_integer(kind: u64, flags: u64, input: &[u8]) -> Typed
             });
         },
         Number::Done { value, used } => {
-            let a = narrow(kind, value);
             let taken = 1 + used;
-            return Typed::Done {
-                value: Value {
-                    kind,
-                    a,
-                    b: 0,
-                    flags,
-                },
-                used: taken,
-            };
+            if kind < 6 {
+                return integer_value(kind, flags, value, taken);
+            }
+            return bytes_value(kind, flags, value, taken, input);
         },
+    }
+}
+
+// An integer whose number is n, and which took so many bytes.
+fn integer_value(kind: u64, flags: u64, n: u64, taken: usize) -> Typed
+    requires { ⌜ (2 ≤ kind) × (kind < 6) ⌝ }
+    ensures { λ r. ⌜ ((w : Width) → shape kind ≡ integer w → typedRead r ≡ done (aRecord kind (narrowed w n) 0 flags) taken) ⌝ }
+{
+    Typed::Done {
+        value: Value {
+            kind,
+            a: narrow(kind, n),
+            b: 0,
+            flags,
+        },
+        used: taken,
     }
 }
 
@@ -159,46 +142,64 @@ fn read_address(kind: u64, len: usize, flags: u64, input: &[u8]) -> Typed
     }
 }
 
-// Finds the bytes of a string or a binary behind the type byte. Their start and what they took count from it. Kind and flags are not told
-// here, so that fewer numbers go through memory.
-fn read_bytes(input: &[u8]) -> Text
-    requires { ⌜ 0 < length (now input) ⌝ }
-    ensures { λ r. ⌜ ((kind flags : ℕ) → shape kind ≡ text → ReadsKind kind flags (now (input .entry)) (asValue kind flags (textRead r))) ⌝ }
+// A string or a binary of n bytes, which start behind those taken so far.
+fn bytes_value(kind: u64, flags: u64, n: u64, taken: usize, input: &[u8]) -> Typed
+    requires { ⌜ taken ≤ length (now input) ⌝ }
+    ensures { λ r. ⌜ typedRead r ≡ cond (leb (taken + n) (length (now (input .entry)))) (done (aRecord kind taken n flags) (taken + n)) (refused 3 taken) ⌝ }
 {
-    match read_string(&input[1..]) {
-        Text::Refused(r) => {
-            let place = 1 + r.place;
-            return Text::Refused(Refusal {
-                number: r.number,
-                place,
-            });
+    if ((input.len() - taken) as u64) < n {
+        return Typed::Refused(Refusal {
+            number: TOO_SOON,
+            place: taken,
+        });
+    }
+    Typed::Done {
+        value: Value {
+            kind,
+            a: taken as u64,
+            b: n,
+            flags,
         },
-        Text::Done { start, len, used } => {
-            let from = 1 + start;
-            let taken = 1 + used;
-            return Text::Done {
-                start: from,
-                len,
-                used: taken,
-            };
-        },
+        used: taken + n as usize,
     }
 }
 
-// The value of this kind and these flags whose bytes were found.
-fn bytes_value(kind: u64, flags: u64, bytes: Text) -> Typed
-    ensures { λ r. ⌜ typedRead r ≡ asValue kind flags (textRead bytes) ⌝ }
+// Reads a value of another kind.
+fn read_other(kind: u64, flags: u64, input: &[u8]) -> Typed
+    requires { ⌜ 0 < length (now input) ⌝ }
+    requires { ⌜ numbered (shape kind) ≡ false ⌝ }
+    ensures { λ r. ⌜ ReadsKind kind flags (now (input .entry)) (typedRead r) ⌝ }
 {
-    match bytes {
-        Text::Refused(r) => Typed::Refused(r),
-        Text::Done { start, len, used } => Typed::Done {
+    if kind == 0 {
+        return Typed::Done {
             value: Value {
                 kind,
-                a: start as u64,
-                b: len as u64,
+                a: 0,
+                b: 0,
                 flags,
             },
-            used,
-        },
+            used: 1,
+        };
     }
+    if kind == 1 {
+        return Typed::Done {
+            value: Value {
+                kind,
+                a: flags % 2,
+                b: 0,
+                flags: 0,
+            },
+            used: 1,
+        };
+    }
+    if kind == 6 {
+        return read_address(6, 4, flags, input);
+    }
+    if kind == 7 {
+        return read_address(7, 16, flags, input);
+    }
+    Typed::Refused(Refusal {
+        number: NO_TYPE,
+        place: 1,
+    })
 }

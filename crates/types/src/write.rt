@@ -14,12 +14,12 @@ ghost use mathlib.Core.List.{List};
 ghost use Prim.Native.Nat.{ℕ, _+_, _≤_, _<_, _^_};
 ghost use lib.Dec.{leb};
 ghost use lib.ListN.{length};
-ghost use Rattle.answer.specs.Answer.{written};
+ghost use Rattle.answer.specs.Answer.{written, leaves};
 ghost use Rattle.varint.specs.Number.{numberBytes};
 ghost use Rattle.types.specs.Value.{address, shape};
 ghost use Rattle.types.specs.Form.{stringBytes, dataBytes, typeOf, writableRecord};
 ghost use Rattle.types.specs.Promise.{recordOf, ValueLen, WriteString, WriteValue};
-ghost use Rattle.types.specs.Inner.{Puts, PutsValue, WhyNot};
+ghost use Rattle.types.specs.Inner.{Puts, PutsValue, WhyNot, block};
 
 // How many bytes the written form of a value has; 0 where it has none.
 pub fn value_len(value: Value, buffer: &[u8]) -> usize
@@ -236,20 +236,75 @@ fn put_string(text: &[u8], out: &mut [u8]) -> usize
     n + put_bytes(text, &mut out[n..])
 }
 
-// Copies bytes where there is room.
+// Copies bytes where there is room: in blocks, the last of which may overlap the one before it, so that no byte is left to go by itself.
 fn put_bytes(bytes: &[u8], out: &mut [u8]) -> usize
     requires { ⌜ length (now bytes) ≤ length (now out) ⌝ }
     ensures { λ r. ⌜ Puts (written (now (bytes .entry))) r (now (out .entry)) (now (out .exit)) ⌝ }
+{
+    let len = bytes.len();
+    if 16 < len {
+        put_many(bytes, out);
+        return len;
+    }
+    if 8 <= len {
+        put_ends(bytes, 8, out);
+        return len;
+    }
+    if 4 <= len {
+        put_ends(bytes, 4, out);
+        return len;
+    }
+    put_each(bytes, out);
+    len
+}
+
+// Copies more than 16 bytes.
+fn put_many(bytes: &[u8], out: &mut [u8])
+    requires { ⌜ (16 < length (now bytes)) × (length (now bytes) ≤ length (now out)) ⌝ }
+    ensures { λ _. ⌜ now (out .exit) ≡ leaves (written (now (bytes .entry))) (now (out .entry)) ⌝ }
+{
+    let len = bytes.len();
+    let mut at = 0;
+    while 16 < len - at {
+        put_block(bytes, at, 16, out);
+        at += 16;
+    }
+    put_block(bytes, len - 16, 16, out);
+}
+
+// Copies n to 2n bytes: the first n and the last n.
+fn put_ends(bytes: &[u8], n: usize, out: &mut [u8])
+    requires { ⌜ (n ≤ length (now bytes)) × (length (now bytes) ≤ n + n) × (n ≤ 16) × (length (now bytes) ≤ length (now out)) ⌝ }
+    ensures { λ _. ⌜ now (out .exit) ≡ leaves (written (now (bytes .entry))) (now (out .entry)) ⌝ }
+{
+    put_block(bytes, 0, n, out);
+    put_block(bytes, bytes.len() - n, n, out);
+}
+
+// Copies the n bytes at `at` to the same place. All are read before one is written, so that they go as one word.
+fn put_block(bytes: &[u8], at: usize, n: usize, out: &mut [u8])
+    requires { ⌜ (at + n ≤ length (now bytes)) × (n ≤ 16) × (length (now bytes) ≤ length (now out)) ⌝ }
+    ensures { λ _. ⌜ now (out .exit) ≡ block (now (bytes .entry)) at n (now (out .entry)) ⌝ }
+{
+    let mut own = [0; 16];
+    let end = at + n;
+    put_each(&bytes[at..end], &mut own);
+    put_each(&own[..n], &mut out[at..]);
+}
+
+// Copies bytes one by one.
+fn put_each(bytes: &[u8], out: &mut [u8])
+    requires { ⌜ length (now bytes) ≤ length (now out) ⌝ }
+    ensures { λ _. ⌜ now (out .exit) ≡ leaves (written (now (bytes .entry))) (now (out .entry)) ⌝ }
 {
     let mut at = 0;
     while at < bytes.len() {
         out[at] = bytes[at];
         at += 1;
     }
-    at
 }
 
-// The same of few bytes: four are read before one is written, so that they are one word.
+// The same of an address, of which the shorter is one block.
 fn put_few(bytes: &[u8], out: &mut [u8]) -> usize
     requires { ⌜ length (now bytes) ≤ length (now out) ⌝ }
     ensures { λ r. ⌜ Puts (written (now (bytes .entry))) r (now (out .entry)) (now (out .exit)) ⌝ }
@@ -257,13 +312,6 @@ fn put_few(bytes: &[u8], out: &mut [u8]) -> usize
     if bytes.len() != 4 {
         return put_bytes(bytes, out);
     }
-    let first = bytes[0];
-    let second = bytes[1];
-    let third = bytes[2];
-    let fourth = bytes[3];
-    out[0] = first;
-    out[1] = second;
-    out[2] = third;
-    out[3] = fourth;
+    put_block(bytes, 0, 4, out);
     4
 }

@@ -1,28 +1,24 @@
--- `types::read::bytes_value` meets its contract: each case is told as it is.
+-- `types::read::bytes_value` meets its contract: the bytes that are left are compared with the number.
 -- Assumes nothing.
 use borrow.Author.Needs.{needs}
-use mathlib.Core.Path.{sym, ap}
-use Rattle.types.specs.declared.Text.{Text}
-use Rattle.types.specs.Promise.{textRead}
-use Rattle.types.specs.Inner.{asValue}
+use Prim.Native.Nat.{_+_}
+use native.Mathlib.Omega.{arith}
+use lib.ListN.{length}
+use borrow.Author.Tests.{le-leb, lt-leb}
 use Rattle.types.proofs.read.bytes_value.Statement.{statement}
 use Rattle.types.proofs.read.bytes_value.Tie as tie
 
-enum-known-bytes : tie.Need-enum-known-bytes
-enum-known-bytes c = search needs
-
-enum-known-bytes-2 : tie.Need-enum-known-bytes-2
-enum-known-bytes-2 c = search needs
+sub-if1 : tie.Need-sub-if1
+sub-if1 c = search needs
 
 returns : tie.Need-returns
-returns c = let m = c .before in
-    let a = m .before .before .args in
-    sym (ap (λ (x : Text). asValue (a .kind) (a .flags) (textRead x)) (m .bytes .given .1))
+returns c = let a = c .before in simp (lt-leb (a .args .taken + a .args .n) (length (a .args .input .now)) (omega (arith, a .pre, c .if1 .taken)))
+
+add-t7 : tie.Need-add-t7
+add-t7 c = search needs
 
 returns-2 : tie.Need-returns-2
-returns-2 c = let m = c .before in
-    let a = m .before .before .args in
-    sym (ap (λ (x : Text). asValue (a .kind) (a .flags) (textRead x)) (m .bytes2 .given .1))
+returns-2 c = let a = c .before in simp (le-leb (a .args .taken + a .args .n) (length (a .args .input .now)) (omega (arith, a .pre, c .if1 .left)))
 
 pub bytes-value-spec : {M : Type 1} → statement M
-bytes-value-spec = tie.close (tie.spec enum-known-bytes enum-known-bytes-2 returns returns-2)
+bytes-value-spec = tie.close (tie.spec sub-if1 returns add-t7 returns-2)

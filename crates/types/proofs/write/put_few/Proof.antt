@@ -1,14 +1,12 @@
--- `types::write::put_few` meets its contract: four bytes are stored one after the other, and any other number by `put_bytes`.
+-- `types::write::put_few` meets its contract: four bytes are one block, and any other number goes by `put_bytes`.
 -- Assumes nothing.
 use borrow.Author.Needs.{needs}
-use mathlib.Core.Path.{_≡_}
-use lib.ListN.{length}
-use Rattle.types.proofs.Output.{four-second, four-third, four-fourth, four-all}
+use mathlib.Core.Path.{sym, _∙_}
+use native.Mathlib.Omega.{arith}
+use Rattle.answer.proofs.Output.{partly-none}
+use Rattle.types.proofs.Blocks.{block-last}
 use Rattle.types.proofs.write.put_few.Statement.{statement}
 use Rattle.types.proofs.write.put_few.Tie as tie
-
-four : (c : tie.Else1) → length (c .before .before .before .args .bytes .now) ≡ 4
-four c = c .if1 .left
 
 put-bytes-requires : tie.Need-put-bytes-requires
 put-bytes-requires c κs = search needs
@@ -19,35 +17,8 @@ same-length c = search needs
 returns : tie.Need-returns
 returns c = search needs
 
-shared-slice-read-first : tie.Need-shared-slice-read-first
-shared-slice-read-first c = search needs
-
-shared-slice-read-second : tie.Need-shared-slice-read-second
-shared-slice-read-second c = search needs
-
-shared-slice-read-third : tie.Need-shared-slice-read-third
-shared-slice-read-third c = search needs
-
-shared-slice-read-fourth : tie.Need-shared-slice-read-fourth
-shared-slice-read-fourth c = search needs
-
-slice-write-out : tie.Need-slice-write-out
-slice-write-out c = search needs
-
-slice-write-out-2 : tie.Need-slice-write-out-2
-slice-write-out-2 c = let e = c .before .before .before .before in
-    let a = e .before .before .before in
-    four-second (a .args .bytes .now) (a .args .out .now) (four e) (a .pre)
-
-slice-write-out-3 : tie.Need-slice-write-out-3
-slice-write-out-3 c = let e = c .before .before .before .before in
-    let a = e .before .before .before in
-    four-third (a .args .bytes .now) (a .args .out .now) (four e) (a .pre)
-
-slice-write-out-4 : tie.Need-slice-write-out-4
-slice-write-out-4 c = let e = c .before .before .before .before in
-    let a = e .before .before .before in
-    four-fourth (a .args .bytes .now) (a .args .out .now) (four e) (a .pre)
+put-block-requires : tie.Need-put-block-requires
+put-block-requires c κs = search needs
 
 same-length-2 : tie.Need-same-length-2
 same-length-2 c = search needs
@@ -55,22 +26,10 @@ same-length-2 c = search needs
 returns-2 : tie.Need-returns-2
 returns-2 c = let e = c .before .before .before .before in
     let a = e .before .before .before in
-    four-all (a .args .bytes .now) (a .args .out .now) (four e) (a .pre)
+    record {
+      counts = sym (e .if1 .left);
+      holds = c .before .before .put-block .ensures ∙ block-last (a .args .bytes .now) 0 4 (omega (arith, e .if1 .left)) _ _ 0 (partly-none _ _ (a .pre)) (omega arith) (omega (arith, e .if1 .left));
+    }
 
 pub put-few-spec : {M : Type 1} → statement M
-put-few-spec =
-    tie.close
-    (tie.spec
-    put-bytes-requires
-    same-length
-    returns
-    shared-slice-read-first
-    shared-slice-read-second
-    shared-slice-read-third
-    shared-slice-read-fourth
-    slice-write-out
-    slice-write-out-2
-    slice-write-out-3
-    slice-write-out-4
-    same-length-2
-    returns-2)
+put-few-spec = tie.close (tie.spec put-bytes-requires same-length returns put-block-requires same-length-2 returns-2)

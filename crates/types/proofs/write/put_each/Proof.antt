@@ -1,14 +1,13 @@
--- `types::write::put_bytes` meets its contract. The loop's invariant: the bytes are partly written, and what is left to write are those
+-- `types::write::put_each` meets its contract. The loop's invariant: the bytes are partly written, and what is left to write are those
 -- from `at` on.
 -- Assumes nothing.
 use Prim.Native.Nat.{_-_}
 use native.Mathlib.Omega.{arith}
 use lib.ListN.{length, drop}
-use Rattle.answer.proofs.Output.{Partly, partly-none, partly-length}
-use Rattle.answer.proofs.Parts.{copy-place, copy-next}
-use Rattle.types.proofs.Output.{puts-copy}
-use Rattle.types.proofs.write.put_bytes.Statement.{statement}
-use Rattle.types.proofs.write.put_bytes.Tie as tie
+use Rattle.answer.proofs.Output.{Partly, partly-none, partly-length, partly-all}
+use Rattle.answer.proofs.Parts.{copy-place, copy-next, copy-all}
+use Rattle.types.proofs.write.put_each.Statement.{statement}
+use Rattle.types.proofs.write.put_each.Tie as tie
 
 abbrev Inv-loop : tie.InvT-loop
 Inv-loop bytes out₀ at₀ out at = Partly bytes out₀ at (drop at bytes) out
@@ -38,10 +37,10 @@ same-length : tie.Need-same-length Inv-loop μ-loop
 same-length c = partly-length (c .before .loop .inv)
 
 returns : tie.Need-returns Inv-loop μ-loop
-returns c = puts-copy (c .before .loop .inv) (c .loop-test .left)
+returns c = partly-all (copy-all (c .before .loop .inv) (c .loop-test .left))
 
-pub put-bytes-spec : {M : Type 1} → statement M
-put-bytes-spec =
+pub put-each-spec : {M : Type 1} → statement M
+put-each-spec =
     tie.close
     (tie.spec
     Inv-loop
