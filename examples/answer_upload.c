@@ -1,6 +1,6 @@
-/* Reads the NOTIFY frames of standard input and prints for each, in hex, the ACK that sets a variable for each of its arguments: slot0,
- * delay0, slot1, delay1, in the arguments' own order and with their own values. At a frame that is cut or refused, and where the ACK
- * is refused, it says so in its last line, and the status is 1. */
+/* Reads the NOTIFY frames of standard input, and prints for each the ACK in hex that sets a variable for each argument. They are named
+ * slot0, delay0, slot1, delay1, and so on, and stand in the arguments' own order with the arguments' own values. Where a frame is cut
+ * or refused, or its ACK is, the last line says so, and the status is 1. */
 #include <inttypes.h>
 #include <stdio.h>
 
