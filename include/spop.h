@@ -484,36 +484,38 @@ static inline bool spop_bytes_are(struct spop_bytes bytes, const char *text)
     return spop_bytes_equal(bytes, spop_text_of(text));
 }
 
+/* What is named spop_inner is for the helpers' own use. */
+
 /* What is lent in place of null. Its length is 0 then, so it is neither read nor written. */
-static inline uint64_t *spop_nothing(void)
+static inline uint64_t *spop_inner_nothing(void)
 {
     static uint64_t nothing;
 
     return &nothing;
 }
 
-static inline struct spop_bytes spop_lent_bytes(struct spop_bytes bytes)
+static inline struct spop_bytes spop_inner_bytes(struct spop_bytes bytes)
 {
-    return bytes.start != NULL ? bytes : spop_bytes_of(spop_nothing(), 0);
+    return bytes.start != NULL ? bytes : spop_bytes_of(spop_inner_nothing(), 0);
 }
 
-static inline struct spop_room spop_lent_room(struct spop_room room)
+static inline struct spop_room spop_inner_room(struct spop_room room)
 {
-    return room.start != NULL ? room : spop_room_of(spop_nothing(), 0);
+    return room.start != NULL ? room : spop_room_of(spop_inner_nothing(), 0);
 }
 
 /* The numbers that a table of records is, and how many. */
-static inline uint64_t *spop_numbers(void *records)
+static inline uint64_t *spop_inner_numbers(void *records)
 {
-    return records != NULL ? (uint64_t *)records : spop_nothing();
+    return records != NULL ? (uint64_t *)records : spop_inner_nothing();
 }
 
-static inline const uint64_t *spop_numbers_lent(const void *records)
+static inline const uint64_t *spop_inner_const_numbers(const void *records)
 {
-    return records != NULL ? (const uint64_t *)records : spop_nothing();
+    return records != NULL ? (const uint64_t *)records : spop_inner_nothing();
 }
 
-static inline size_t spop_numbers_len(const void *records, size_t count, size_t width)
+static inline size_t spop_inner_len(const void *records, size_t count, size_t width)
 {
     return records != NULL ? count * width : 0;
 }
@@ -521,7 +523,7 @@ static inline size_t spop_numbers_len(const void *records, size_t count, size_t 
 /* spop_encode_varint. */
 static inline uint64_t spop_put_number(uint64_t n, struct spop_room out, uint64_t *at)
 {
-    struct spop_room o = spop_lent_room(out);
+    struct spop_room o = spop_inner_room(out);
 
     return spop_encode_varint(n, o.start, o.len, at);
 }
@@ -529,7 +531,7 @@ static inline uint64_t spop_put_number(uint64_t n, struct spop_room out, uint64_
 /* spop_decode_varint. */
 static inline uint64_t spop_get_number(struct spop_bytes input, uint64_t *value, uint64_t *at)
 {
-    struct spop_bytes i = spop_lent_bytes(input);
+    struct spop_bytes i = spop_inner_bytes(input);
 
     return spop_decode_varint(i.start, i.len, value, at);
 }
@@ -537,7 +539,7 @@ static inline uint64_t spop_get_number(struct spop_bytes input, uint64_t *value,
 /* spop_is_utf8. */
 static inline bool spop_bytes_are_text(struct spop_bytes bytes)
 {
-    struct spop_bytes b = spop_lent_bytes(bytes);
+    struct spop_bytes b = spop_inner_bytes(bytes);
 
     return spop_is_utf8(b.start, b.len);
 }
@@ -545,7 +547,7 @@ static inline bool spop_bytes_are_text(struct spop_bytes bytes)
 /* spop_same_text. */
 static inline bool spop_texts_equal(struct spop_bytes a, struct spop_bytes b)
 {
-    struct spop_bytes x = spop_lent_bytes(a), y = spop_lent_bytes(b);
+    struct spop_bytes x = spop_inner_bytes(a), y = spop_inner_bytes(b);
 
     return spop_same_text(x.start, x.len, y.start, y.len);
 }
@@ -553,8 +555,8 @@ static inline bool spop_texts_equal(struct spop_bytes a, struct spop_bytes b)
 /* spop_lossy_text. */
 static inline uint64_t spop_put_lossy_text(struct spop_bytes bytes, struct spop_room out, uint64_t *at)
 {
-    struct spop_bytes b = spop_lent_bytes(bytes);
-    struct spop_room o = spop_lent_room(out);
+    struct spop_bytes b = spop_inner_bytes(bytes);
+    struct spop_room o = spop_inner_room(out);
 
     return spop_lossy_text(b.start, b.len, o.start, o.len, at);
 }
@@ -562,7 +564,7 @@ static inline uint64_t spop_put_lossy_text(struct spop_bytes bytes, struct spop_
 /* spop_typed_data. */
 static inline uint64_t spop_get_value(struct spop_bytes input, struct spop_value *value, uint64_t *at)
 {
-    struct spop_bytes i = spop_lent_bytes(input);
+    struct spop_bytes i = spop_inner_bytes(input);
 
     return spop_typed_data(i.start, i.len, (uint64_t *)(void *)value, at);
 }
@@ -570,7 +572,7 @@ static inline uint64_t spop_get_value(struct spop_bytes input, struct spop_value
 /* spop_value_len. */
 static inline uint64_t spop_value_bytes(const struct spop_value *value, struct spop_bytes buffer)
 {
-    struct spop_bytes b = spop_lent_bytes(buffer);
+    struct spop_bytes b = spop_inner_bytes(buffer);
 
     return spop_value_len((const uint64_t *)(const void *)value, b.start, b.len);
 }
@@ -578,7 +580,7 @@ static inline uint64_t spop_value_bytes(const struct spop_value *value, struct s
 /* spop_check_value. */
 static inline uint64_t spop_value_refusal(const struct spop_value *value, struct spop_bytes buffer)
 {
-    struct spop_bytes b = spop_lent_bytes(buffer);
+    struct spop_bytes b = spop_inner_bytes(buffer);
 
     return spop_check_value((const uint64_t *)(const void *)value, b.start, b.len);
 }
@@ -586,8 +588,8 @@ static inline uint64_t spop_value_refusal(const struct spop_value *value, struct
 /* spop_write_value. */
 static inline uint64_t spop_put_value(const struct spop_value *value, struct spop_bytes buffer, struct spop_room out, uint64_t *at)
 {
-    struct spop_bytes b = spop_lent_bytes(buffer);
-    struct spop_room o = spop_lent_room(out);
+    struct spop_bytes b = spop_inner_bytes(buffer);
+    struct spop_room o = spop_inner_room(out);
 
     return spop_write_value((const uint64_t *)(const void *)value, b.start, b.len, o.start, o.len, at);
 }
@@ -595,7 +597,7 @@ static inline uint64_t spop_put_value(const struct spop_value *value, struct spo
 /* spop_read_pair. */
 static inline uint64_t spop_get_pair(struct spop_bytes input, struct spop_pair *pair, uint64_t *at)
 {
-    struct spop_bytes i = spop_lent_bytes(input);
+    struct spop_bytes i = spop_inner_bytes(input);
 
     return spop_read_pair(i.start, i.len, (uint64_t *)(void *)pair, at);
 }
@@ -604,11 +606,11 @@ static inline uint64_t spop_get_pair(struct spop_bytes input, struct spop_pair *
 static inline uint64_t spop_get_frame(struct spop_bytes input, uint32_t limit, struct spop_message *messages, size_t message_room,
                                       struct spop_pair *pairs, size_t pair_room, struct spop_head *head, uint64_t *at)
 {
-    struct spop_bytes i = spop_lent_bytes(input);
+    struct spop_bytes i = spop_inner_bytes(input);
 
     return spop_read_frame(i.start, i.len, limit,
-                           spop_numbers(messages), spop_numbers_len(messages, message_room, SPOP_MESSAGE_WIDTH),
-                           spop_numbers(pairs), spop_numbers_len(pairs, pair_room, SPOP_PAIR_WIDTH),
+                           spop_inner_numbers(messages), spop_inner_len(messages, message_room, SPOP_MESSAGE_WIDTH),
+                           spop_inner_numbers(pairs), spop_inner_len(pairs, pair_room, SPOP_PAIR_WIDTH),
                            (uint64_t *)(void *)head, at);
 }
 
@@ -616,11 +618,11 @@ static inline uint64_t spop_get_frame(struct spop_bytes input, uint32_t limit, s
 static inline uint64_t spop_put_kv(uint64_t type, struct spop_bytes buffer, const struct spop_pair *pairs, size_t pair_count,
                                    struct spop_room out, uint32_t limit, uint64_t *at)
 {
-    struct spop_bytes b = spop_lent_bytes(buffer);
-    struct spop_room o = spop_lent_room(out);
+    struct spop_bytes b = spop_inner_bytes(buffer);
+    struct spop_room o = spop_inner_room(out);
 
     return spop_write_kv(type, true, false, 0, 0, limit, b.start, b.len,
-                         spop_numbers_lent(pairs), spop_numbers_len(pairs, pair_count, SPOP_PAIR_WIDTH), pair_count,
+                         spop_inner_const_numbers(pairs), spop_inner_len(pairs, pair_count, SPOP_PAIR_WIDTH), pair_count,
                          o.start, o.len, at);
 }
 
@@ -628,11 +630,11 @@ static inline uint64_t spop_put_kv(uint64_t type, struct spop_bytes buffer, cons
 static inline uint64_t spop_put_ack(struct spop_ids ids, struct spop_bytes buffer, const struct spop_action *actions,
                                     size_t action_count, struct spop_room out, uint32_t limit, uint64_t *at)
 {
-    struct spop_bytes b = spop_lent_bytes(buffer);
-    struct spop_room o = spop_lent_room(out);
+    struct spop_bytes b = spop_inner_bytes(buffer);
+    struct spop_room o = spop_inner_room(out);
 
     return spop_write_actions(true, false, ids.stream_id, ids.frame_id, limit, b.start, b.len,
-                              spop_numbers_lent(actions), spop_numbers_len(actions, action_count, SPOP_ACTION_WIDTH), action_count,
+                              spop_inner_const_numbers(actions), spop_inner_len(actions, action_count, SPOP_ACTION_WIDTH), action_count,
                               o.start, o.len, at);
 }
 
@@ -642,18 +644,18 @@ static inline uint64_t spop_put_notify(struct spop_ids ids, struct spop_bytes bu
                                        const struct spop_pair *pairs, size_t pair_count,
                                        struct spop_room out, uint32_t limit, uint64_t *at)
 {
-    struct spop_bytes b = spop_lent_bytes(buffer);
-    struct spop_room o = spop_lent_room(out);
+    struct spop_bytes b = spop_inner_bytes(buffer);
+    struct spop_room o = spop_inner_room(out);
 
-    return spop_write_notify(true, false, ids.stream_id, ids.frame_id, limit, b.start, b.len, spop_numbers_lent(messages),
-                             spop_numbers_len(messages, message_count, SPOP_MESSAGE_WIDTH), message_count, spop_numbers_lent(pairs),
-                             spop_numbers_len(pairs, pair_count, SPOP_PAIR_WIDTH), pair_count, o.start, o.len, at);
+    return spop_write_notify(true, false, ids.stream_id, ids.frame_id, limit, b.start, b.len, spop_inner_const_numbers(messages),
+                             spop_inner_len(messages, message_count, SPOP_MESSAGE_WIDTH), message_count, spop_inner_const_numbers(pairs),
+                             spop_inner_len(pairs, pair_count, SPOP_PAIR_WIDTH), pair_count, o.start, o.len, at);
 }
 
 /* spop_negotiate_version. */
 static inline bool spop_choose_version(const struct spop_version *versions, size_t version_count, struct spop_version *version)
 {
-    return spop_negotiate_version(spop_numbers_lent(versions), spop_numbers_len(versions, version_count, 3),
+    return spop_negotiate_version(spop_inner_const_numbers(versions), spop_inner_len(versions, version_count, 3),
                                   (uint64_t *)(void *)version);
 }
 

@@ -1,5 +1,5 @@
 /* Frames built name by name, and read argument by argument, over the calls of spop.h. Header only, for C and C++; it allocates
- * nothing and keeps no state of its own.
+ * nothing and keeps no state of its own. What is named spop_inner is for its own use.
  *
  *     uint8_t pool[64], out[256];
  *     struct spop_message messages[1];
@@ -95,6 +95,7 @@ static inline struct spop_data spop_data_binary(struct spop_bytes bytes)
     return spop_data_of(SPOP_KIND_BINARY, 0, bytes);
 }
 
+/* Whether the values of a kind are bytes: addresses, strings and binary. */
 static inline bool spop_has_bytes(uint64_t kind)
 {
     return kind >= SPOP_KIND_IPV4 && kind <= SPOP_KIND_BINARY;
@@ -233,7 +234,7 @@ static inline void spop_builder_go_on(struct spop_builder *b)
  * messages and pairs for a NOTIFY, pairs for a KV list, actions for an ACK. */
 static inline void spop_builder_init(struct spop_builder *b, struct spop_room pool)
 {
-    b->pool = spop_lent_room(pool);
+    b->pool = spop_inner_room(pool);
     b->messages = NULL;
     b->message_room = 0;
     b->pairs = NULL;
@@ -266,7 +267,7 @@ static inline void spop_lend_actions(struct spop_builder *b, struct spop_action 
 }
 
 /* What adding a record answers, with its name and its value's bytes, before anything is changed. */
-static inline uint64_t spop_refusal_of(const struct spop_builder *b, bool has_room, struct spop_bytes name, struct spop_bytes bytes)
+static inline uint64_t spop_inner_refusal(const struct spop_builder *b, bool has_room, struct spop_bytes name, struct spop_bytes bytes)
 {
     size_t left = b->pool.len - b->pool_used;
 
@@ -281,7 +282,8 @@ static inline uint64_t spop_refusal_of(const struct spop_builder *b, bool has_ro
     return SPOP_DONE;
 }
 
-static inline uint64_t spop_keep_refusal(struct spop_builder *b, uint64_t refusal, size_t index)
+/* Keeps a refusal where there is none yet, and gives the one that is kept. */
+static inline uint64_t spop_inner_keep(struct spop_builder *b, uint64_t refusal, size_t index)
 {
     if (b->refusal == SPOP_DONE) {
         b->refusal = refusal;
@@ -291,7 +293,7 @@ static inline uint64_t spop_keep_refusal(struct spop_builder *b, uint64_t refusa
 }
 
 /* Copies bytes that fit into the pool, and gives their start. */
-static inline uint64_t spop_pooled(struct spop_builder *b, struct spop_bytes bytes)
+static inline uint64_t spop_inner_pooled(struct spop_builder *b, struct spop_bytes bytes)
 {
     size_t start = b->pool_used;
 
@@ -302,12 +304,12 @@ static inline uint64_t spop_pooled(struct spop_builder *b, struct spop_bytes byt
 }
 
 /* The record of a value, whose bytes fit into the pool. */
-static inline struct spop_value spop_pooled_value(struct spop_builder *b, struct spop_data data)
+static inline struct spop_value spop_inner_value(struct spop_builder *b, struct spop_data data)
 {
     struct spop_value value;
 
     value.kind = data.kind;
-    value.a = spop_has_bytes(data.kind) ? spop_pooled(b, data.bytes) : data.number;
+    value.a = spop_has_bytes(data.kind) ? spop_inner_pooled(b, data.bytes) : data.number;
     value.b = spop_has_bytes(data.kind) ? data.bytes.len : 0;
     value.flags = data.flags;
     return value;
@@ -319,11 +321,11 @@ static inline struct spop_value spop_pooled_value(struct spop_builder *b, struct
 static inline uint64_t spop_add_message_bytes(struct spop_builder *b, struct spop_bytes name)
 {
     size_t index = b->message_count;
-    uint64_t refusal = spop_refusal_of(b, index < b->message_room, name, spop_bytes_of(NULL, 0));
+    uint64_t refusal = spop_inner_refusal(b, index < b->message_room, name, spop_bytes_of(NULL, 0));
 
     if (refusal != SPOP_DONE)
-        return spop_keep_refusal(b, refusal, index);
-    b->messages[index].name_start = spop_pooled(b, name);
+        return spop_inner_keep(b, refusal, index);
+    b->messages[index].name_start = spop_inner_pooled(b, name);
     b->messages[index].name_len = name.len;
     b->messages[index].first_pair = b->pair_count;
     b->messages[index].pair_count = 0;
@@ -336,14 +338,14 @@ static inline uint64_t spop_add_pair(struct spop_builder *b, struct spop_bytes k
 {
     size_t index = b->pair_count;
     struct spop_bytes bytes = spop_has_bytes(data.kind) ? data.bytes : spop_bytes_of(NULL, 0);
-    uint64_t refusal = spop_refusal_of(b, index < b->pair_room, key, bytes);
+    uint64_t refusal = spop_inner_refusal(b, index < b->pair_room, key, bytes);
     struct spop_value value;
 
     if (refusal != SPOP_DONE)
-        return spop_keep_refusal(b, refusal, index);
-    b->pairs[index].key_start = spop_pooled(b, key);
+        return spop_inner_keep(b, refusal, index);
+    b->pairs[index].key_start = spop_inner_pooled(b, key);
     b->pairs[index].key_len = key.len;
-    value = spop_pooled_value(b, data);
+    value = spop_inner_value(b, data);
     b->pairs[index].kind = value.kind;
     b->pairs[index].a = value.a;
     b->pairs[index].b = value.b;
@@ -354,21 +356,22 @@ static inline uint64_t spop_add_pair(struct spop_builder *b, struct spop_bytes k
     return SPOP_DONE;
 }
 
+/* Adds an action, by its type (enum spop_action_type). */
 static inline uint64_t spop_add_action(struct spop_builder *b, uint64_t action, uint64_t scope, struct spop_bytes name,
                                        struct spop_data data)
 {
     size_t index = b->action_count;
     struct spop_bytes bytes = spop_has_bytes(data.kind) ? data.bytes : spop_bytes_of(NULL, 0);
-    uint64_t refusal = spop_refusal_of(b, index < b->action_room, name, bytes);
+    uint64_t refusal = spop_inner_refusal(b, index < b->action_room, name, bytes);
     struct spop_value value;
 
     if (refusal != SPOP_DONE)
-        return spop_keep_refusal(b, refusal, index);
+        return spop_inner_keep(b, refusal, index);
     b->actions[index].action = action;
     b->actions[index].scope = scope;
-    b->actions[index].name_start = spop_pooled(b, name);
+    b->actions[index].name_start = spop_inner_pooled(b, name);
     b->actions[index].name_len = name.len;
-    value = spop_pooled_value(b, data);
+    value = spop_inner_value(b, data);
     b->actions[index].kind = value.kind;
     b->actions[index].a = value.a;
     b->actions[index].b = value.b;
@@ -505,7 +508,8 @@ static inline uint64_t spop_unset(struct spop_builder *b, uint64_t scope, const 
  * this frame has no place for; or what the call of spop.h answers that it is named after. A builder may be written more than once.
  * out must not overlap the pool. */
 
-static inline uint64_t spop_unbuildable(const struct spop_builder *b, size_t out_of_place, uint64_t *at)
+/* Why no frame is written: a refusal that is kept, or records that have no place in it. */
+static inline uint64_t spop_inner_frame_refusal(const struct spop_builder *b, size_t out_of_place, uint64_t *at)
 {
     *at = b->refused_at;
     if (b->refusal != SPOP_DONE)
@@ -513,7 +517,7 @@ static inline uint64_t spop_unbuildable(const struct spop_builder *b, size_t out
     return out_of_place > 0 ? SPOP_NOT_WRITABLE : SPOP_DONE;
 }
 
-static inline struct spop_bytes spop_pool_bytes(const struct spop_builder *b)
+static inline struct spop_bytes spop_inner_pool(const struct spop_builder *b)
 {
     return spop_bytes_of(b->pool.start, b->pool_used);
 }
@@ -522,32 +526,32 @@ static inline struct spop_bytes spop_pool_bytes(const struct spop_builder *b)
 static inline uint64_t spop_build_notify(const struct spop_builder *b, struct spop_ids ids, struct spop_room out, uint32_t limit,
                                          uint64_t *at)
 {
-    uint64_t refusal = spop_unbuildable(b, b->action_count, at);
+    uint64_t refusal = spop_inner_frame_refusal(b, b->action_count, at);
 
     if (refusal != SPOP_DONE)
         return refusal;
-    return spop_put_notify(ids, spop_pool_bytes(b), b->messages, b->message_count, b->pairs, b->pair_count, out, limit, at);
+    return spop_put_notify(ids, spop_inner_pool(b), b->messages, b->message_count, b->pairs, b->pair_count, out, limit, at);
 }
 
 /* spop_put_kv: the pairs of a HELLO or a DISCONNECT, by its type. */
 static inline uint64_t spop_build_kv(const struct spop_builder *b, uint64_t type, struct spop_room out, uint32_t limit, uint64_t *at)
 {
-    uint64_t refusal = spop_unbuildable(b, b->message_count + b->action_count, at);
+    uint64_t refusal = spop_inner_frame_refusal(b, b->message_count + b->action_count, at);
 
     if (refusal != SPOP_DONE)
         return refusal;
-    return spop_put_kv(type, spop_pool_bytes(b), b->pairs, b->pair_count, out, limit, at);
+    return spop_put_kv(type, spop_inner_pool(b), b->pairs, b->pair_count, out, limit, at);
 }
 
 /* spop_put_ack: actions. */
 static inline uint64_t spop_build_ack(const struct spop_builder *b, struct spop_ids ids, struct spop_room out, uint32_t limit,
                                       uint64_t *at)
 {
-    uint64_t refusal = spop_unbuildable(b, b->message_count + b->pair_count, at);
+    uint64_t refusal = spop_inner_frame_refusal(b, b->message_count + b->pair_count, at);
 
     if (refusal != SPOP_DONE)
         return refusal;
-    return spop_put_ack(ids, spop_pool_bytes(b), b->actions, b->action_count, out, limit, at);
+    return spop_put_ack(ids, spop_inner_pool(b), b->actions, b->action_count, out, limit, at);
 }
 
 /* A frame that is read, with the tables that it is read into. */

@@ -225,10 +225,47 @@ static void ack_of_every_kind(void)
     number = spop_build_ack(&l.b, spop_ids_of(1, 2), spop_room_of(out, sizeof out), SPOP_AGREED_FRAME, &at);
     answered("build_ack after that", number, at, SPOP_TABLE_FULL, KINDS);
     spop_builder_clear(&l.b);
+    check("add_action", spop_add_action(&l.b, 3, SPOP_SCOPE_PROCESS, spop_text_of("n"), spop_data_null()) == SPOP_DONE);
+    number = spop_build_ack(&l.b, spop_ids_of(1, 2), spop_room_of(out, sizeof out), SPOP_AGREED_FRAME, &at);
+    answered("build_ack of action 3", number, at, SPOP_NOT_WRITABLE, 0);
+    spop_builder_clear(&l.b);
     spop_set_null(&l.b, 5, "n");
     number = spop_build_ack(&l.b, spop_ids_of(1, 2), spop_room_of(out, sizeof out), SPOP_AGREED_FRAME, &at);
     answered("build_ack of scope 5", number, at, SPOP_NOT_WRITABLE, 0);
     give_back(&l);
+}
+
+/* Each kind of data is what its getter gives back, and a pair's value is what its numbers say. */
+static void data(void)
+{
+    static const struct spop_pair pair = {0, 1, SPOP_KIND_BINARY, 2, 2, 15}, outside = {0, 1, SPOP_KIND_BINARY, 2, 3, 0};
+    struct spop_bytes bytes = spop_bytes_of("k:\0\xff", 4), part;
+    struct spop_data given;
+    bool truth = true;
+    int32_t i32 = 0;
+    uint32_t u32 = 0;
+    int64_t i64 = 0;
+    uint64_t u64 = 0;
+    uint8_t address[16];
+
+    check("data_null", spop_is_null(spop_data_null()) && yes(spop_data_null()) == 1);
+    check("data_bool", spop_as_bool(spop_data_bool(false), &truth) && !truth && yes(spop_data_bool(true)) == 1);
+    check("data_i32", spop_as_i32(spop_data_i32(INT32_MIN), &i32) && i32 == INT32_MIN && yes(spop_data_i32(0)) == 1);
+    check("data_u32", spop_as_u32(spop_data_u32(UINT32_MAX), &u32) && u32 == UINT32_MAX && yes(spop_data_u32(0)) == 1);
+    check("data_i64", spop_as_i64(spop_data_i64(INT64_MIN), &i64) && i64 == INT64_MIN && yes(spop_data_i64(0)) == 1);
+    check("data_u64", spop_as_u64(spop_data_u64(UINT64_MAX), &u64) && u64 == UINT64_MAX && yes(spop_data_u64(0)) == 1);
+    check("data_ipv4", spop_as_ipv4(spop_data_ipv4(ipv4), address) && memcmp(address, ipv4, 4) == 0 && yes(spop_data_ipv4(ipv4)) == 1);
+    check("data_ipv6", spop_as_ipv6(spop_data_ipv6(ipv6), address) && memcmp(address, ipv6, 16) == 0 && yes(spop_data_ipv6(ipv6)) == 1);
+    check("data_string", spop_as_string(spop_data_string(bytes), &part) && part.len == 4 && yes(spop_data_string(bytes)) == 1);
+    check("data_binary", spop_as_binary(spop_data_binary(bytes), &part) && part.len == 4 && yes(spop_data_binary(bytes)) == 1);
+    check("an address of another length", yes(spop_data_of(SPOP_KIND_IPV4, 0, bytes)) == 1 &&
+          yes(spop_data_of(SPOP_KIND_IPV4, 0, spop_bytes_of("abc", 3))) == 0 && yes(spop_data_of(SPOP_KIND_IPV6, 0, bytes)) == 0);
+    check("data of kind 10", yes(spop_data_of(10, 0, bytes)) == 0);
+    check("has_bytes", spop_has_bytes(SPOP_KIND_IPV4) && spop_has_bytes(SPOP_KIND_BINARY) && !spop_has_bytes(SPOP_KIND_U64) &&
+          !spop_has_bytes(10));
+    given = spop_pair_data(bytes, &pair);
+    check("pair_data", given.kind == SPOP_KIND_BINARY && given.flags == 15 && given.bytes.start == bytes.start + 2 && given.bytes.len == 2);
+    check("pair_data outside", spop_pair_data(bytes, &outside).bytes.len == 0);
 }
 
 static void add_upload(struct spop_builder *b)
@@ -447,6 +484,7 @@ static void too_many(void)
 
 int main(void)
 {
+    data();
     notify_of_every_kind();
     kv_of_every_kind();
     ack_of_every_kind();

@@ -50,12 +50,6 @@ static void bytes(void)
     check("bytes of other length", !spop_bytes_equal(all, spop_bytes_at(all, 0, 4)));
     check("no bytes are equal", spop_bytes_equal(none, spop_text_of("")));
     check("bytes are a text", spop_bytes_are(spop_bytes_at(all, 0, 4), "slot") && !spop_bytes_are(all, "slot"));
-    check("nothing is there to point at", spop_nothing() != NULL && spop_lent_bytes(none).start != NULL &&
-          spop_lent_room(spop_room_of(NULL, 7)).start != NULL);
-    check("what is null has no length", spop_lent_bytes(spop_bytes_of(NULL, 7)).len == 0 &&
-          spop_lent_room(spop_room_of(NULL, 7)).len == 0 && spop_numbers_len(NULL, 7, 6) == 0);
-    check("what is not null stays", spop_lent_bytes(all).start == all.start && spop_lent_room(room).len == 2 &&
-          spop_numbers(&head) == &head.type && spop_numbers_lent(&head) == &head.type && spop_numbers_len(&head, 7, 6) == 42);
     check("SPOP_COUNT", SPOP_COUNT(memory) == 2 && SPOP_COUNT(text) == 9);
 }
 
