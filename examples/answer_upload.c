@@ -1,12 +1,13 @@
-/* Reads the NOTIFY frames of standard input, and prints for each the ACK in hex that sets a variable for each argument. They are named
- * slot0, delay0, slot1, delay1, and so on, and stand in the arguments' own order with the arguments' own values. Where a frame is cut
- * or refused, or its ACK is, the last line says so, and the status is 1. */
+/* Reads the NOTIFY frames of standard input, and prints for each the ACK in hex that sets a variable for each argument. They are
+ * named slot0, delay0, slot1, delay1, and so on, and stand in the arguments' own order with the arguments' own values. Where a frame
+ * is cut or refused, or its ACK is, the last line says so, and the status is 1. */
 #include <inttypes.h>
 #include <stdio.h>
 
 #include "spop_build.h"
 
-enum { LIMIT = SPOP_AGREED_FRAME, MOST = LIMIT / 2, DIGITS = 4 };    /* a record takes two bytes or more, so there are at most 8192 */
+/* A record takes two bytes of its frame or more, so there are at most 8192, and four digits count them. */
+enum { LIMIT = SPOP_AGREED_FRAME, MOST = LIMIT / 2, DIGITS = 4 };
 
 /* How many arguments of the frame before this one have its key. */
 static unsigned met_before(const struct spop_walk *argument)

@@ -1,5 +1,5 @@
-/* Reads frames from standard input to its end, and prints each message with its arguments in order. Where a frame is cut or refused,
- * the last line says so, and the status is 1. */
+/* Reads frames from standard input to its end, and prints each message with its arguments in order. Where a frame is cut or
+ * refused, the last line says so, and the status is 1. */
 #define _POSIX_C_SOURCE 200112L
 #include <arpa/inet.h>
 #include <inttypes.h>

@@ -621,9 +621,8 @@ static inline uint64_t spop_put_kv(uint64_t type, struct spop_bytes buffer, cons
     struct spop_bytes b = spop_inner_bytes(buffer);
     struct spop_room o = spop_inner_room(out);
 
-    return spop_write_kv(type, true, false, 0, 0, limit, b.start, b.len,
-                         spop_inner_const_numbers(pairs), spop_inner_len(pairs, pair_count, SPOP_PAIR_WIDTH), pair_count,
-                         o.start, o.len, at);
+    return spop_write_kv(type, true, false, 0, 0, limit, b.start, b.len, spop_inner_const_numbers(pairs),
+                         spop_inner_len(pairs, pair_count, SPOP_PAIR_WIDTH), pair_count, o.start, o.len, at);
 }
 
 /* spop_write_actions, with FIN alone. */
@@ -633,9 +632,8 @@ static inline uint64_t spop_put_ack(struct spop_ids ids, struct spop_bytes buffe
     struct spop_bytes b = spop_inner_bytes(buffer);
     struct spop_room o = spop_inner_room(out);
 
-    return spop_write_actions(true, false, ids.stream_id, ids.frame_id, limit, b.start, b.len,
-                              spop_inner_const_numbers(actions), spop_inner_len(actions, action_count, SPOP_ACTION_WIDTH), action_count,
-                              o.start, o.len, at);
+    return spop_write_actions(true, false, ids.stream_id, ids.frame_id, limit, b.start, b.len, spop_inner_const_numbers(actions),
+                              spop_inner_len(actions, action_count, SPOP_ACTION_WIDTH), action_count, o.start, o.len, at);
 }
 
 /* spop_write_notify, with FIN alone. */
@@ -648,8 +646,9 @@ static inline uint64_t spop_put_notify(struct spop_ids ids, struct spop_bytes bu
     struct spop_room o = spop_inner_room(out);
 
     return spop_write_notify(true, false, ids.stream_id, ids.frame_id, limit, b.start, b.len, spop_inner_const_numbers(messages),
-                             spop_inner_len(messages, message_count, SPOP_MESSAGE_WIDTH), message_count, spop_inner_const_numbers(pairs),
-                             spop_inner_len(pairs, pair_count, SPOP_PAIR_WIDTH), pair_count, o.start, o.len, at);
+                             spop_inner_len(messages, message_count, SPOP_MESSAGE_WIDTH), message_count,
+                             spop_inner_const_numbers(pairs), spop_inner_len(pairs, pair_count, SPOP_PAIR_WIDTH), pair_count,
+                             o.start, o.len, at);
 }
 
 /* spop_negotiate_version. */

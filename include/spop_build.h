@@ -193,9 +193,9 @@ static inline bool spop_as_binary(struct spop_data data, struct spop_bytes *byte
  *    11  the pool has no room for its bytes
  *    16  its bytes are null, and not of length 0
  *
- * What was added before stands. The first refusal is kept: whatever is added after it gets the same answer and is not added either,
- * and so does the frame, with the index that the record would have had in its table for *at. So the answers of adding need not be
- * looked at: a frame from which something is missing is not written. Fields are to be read, and set by the calls alone. */
+ * What was added before stands. The first refusal is kept: whatever is added after it gets the same answer and is not added
+ * either, and so does the frame, with the index that the record would have had in its table for *at. So the answers of adding need
+ * not be looked at: a frame from which something is missing is not written. Fields may be read, and are set by the calls alone. */
 struct spop_builder {
     struct spop_room pool;
     size_t pool_used;
@@ -267,7 +267,8 @@ static inline void spop_lend_actions(struct spop_builder *b, struct spop_action 
 }
 
 /* What adding a record answers, with its name and its value's bytes, before anything is changed. */
-static inline uint64_t spop_inner_refusal(const struct spop_builder *b, bool has_room, struct spop_bytes name, struct spop_bytes bytes)
+static inline uint64_t spop_inner_refusal(const struct spop_builder *b, bool has_room, struct spop_bytes name,
+                                          struct spop_bytes bytes)
 {
     size_t left = b->pool.len - b->pool_used;
 
@@ -504,8 +505,8 @@ static inline uint64_t spop_unset(struct spop_builder *b, uint64_t scope, const 
     return spop_unset_var(b, scope, spop_text_of(name));
 }
 
-/* Writing what was added. Each answers, with *at set: the refusal that the builder keeps; or 14 at 0, where something was added that
- * this frame has no place for; or what the call of spop.h answers that it is named after. A builder may be written more than once.
+/* Writing what was added. Each answers, with *at set: the refusal that the builder keeps; or 14 at 0, where something was added
+ * that this frame has no place for; or what the helper of spop.h answers that heads it. A builder may be written more than once.
  * out must not overlap the pool. */
 
 /* Why no frame is written: a refusal that is kept, or records that have no place in it. */
@@ -534,7 +535,8 @@ static inline uint64_t spop_build_notify(const struct spop_builder *b, struct sp
 }
 
 /* spop_put_kv: the pairs of a HELLO or a DISCONNECT, by its type. */
-static inline uint64_t spop_build_kv(const struct spop_builder *b, uint64_t type, struct spop_room out, uint32_t limit, uint64_t *at)
+static inline uint64_t spop_build_kv(const struct spop_builder *b, uint64_t type, struct spop_room out, uint32_t limit,
+                                     uint64_t *at)
 {
     uint64_t refusal = spop_inner_frame_refusal(b, b->message_count + b->action_count, at);
 
@@ -565,8 +567,8 @@ struct spop_frame {
 };
 
 /* Begins with no frame, and with tables that have room for so many records. */
-static inline void spop_frame_init(struct spop_frame *f, struct spop_message *messages, size_t message_room, struct spop_pair *pairs,
-                                   size_t pair_room)
+static inline void spop_frame_init(struct spop_frame *f, struct spop_message *messages, size_t message_room,
+                                   struct spop_pair *pairs, size_t pair_room)
 {
     static const struct spop_head none = {0, 0, 0, 0, 0, 0};
 

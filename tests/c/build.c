@@ -254,8 +254,10 @@ static void data(void)
     check("data_u32", spop_as_u32(spop_data_u32(UINT32_MAX), &u32) && u32 == UINT32_MAX && yes(spop_data_u32(0)) == 1);
     check("data_i64", spop_as_i64(spop_data_i64(INT64_MIN), &i64) && i64 == INT64_MIN && yes(spop_data_i64(0)) == 1);
     check("data_u64", spop_as_u64(spop_data_u64(UINT64_MAX), &u64) && u64 == UINT64_MAX && yes(spop_data_u64(0)) == 1);
-    check("data_ipv4", spop_as_ipv4(spop_data_ipv4(ipv4), address) && memcmp(address, ipv4, 4) == 0 && yes(spop_data_ipv4(ipv4)) == 1);
-    check("data_ipv6", spop_as_ipv6(spop_data_ipv6(ipv6), address) && memcmp(address, ipv6, 16) == 0 && yes(spop_data_ipv6(ipv6)) == 1);
+    check("data_ipv4", spop_as_ipv4(spop_data_ipv4(ipv4), address) && memcmp(address, ipv4, 4) == 0 &&
+          yes(spop_data_ipv4(ipv4)) == 1);
+    check("data_ipv6", spop_as_ipv6(spop_data_ipv6(ipv6), address) && memcmp(address, ipv6, 16) == 0 &&
+          yes(spop_data_ipv6(ipv6)) == 1);
     check("data_string", spop_as_string(spop_data_string(bytes), &part) && part.len == 4 && yes(spop_data_string(bytes)) == 1);
     check("data_binary", spop_as_binary(spop_data_binary(bytes), &part) && part.len == 4 && yes(spop_data_binary(bytes)) == 1);
     check("an address of another length", yes(spop_data_of(SPOP_KIND_IPV4, 0, bytes)) == 1 &&
@@ -264,7 +266,8 @@ static void data(void)
     check("has_bytes", spop_has_bytes(SPOP_KIND_IPV4) && spop_has_bytes(SPOP_KIND_BINARY) && !spop_has_bytes(SPOP_KIND_U64) &&
           !spop_has_bytes(10));
     given = spop_pair_data(bytes, &pair);
-    check("pair_data", given.kind == SPOP_KIND_BINARY && given.flags == 15 && given.bytes.start == bytes.start + 2 && given.bytes.len == 2);
+    check("pair_data", given.kind == SPOP_KIND_BINARY && given.flags == 15 && given.bytes.start == bytes.start + 2 &&
+          given.bytes.len == 2);
     check("pair_data outside", spop_pair_data(bytes, &outside).bytes.len == 0);
 }
 
@@ -303,7 +306,8 @@ static uint64_t add_more(struct spop_builder *b, enum more more)
 }
 
 /* One more where pool, messages or pairs are full: it is refused and kept, takes nothing of what was added, and can be forgotten. */
-static void one_over(const char *what, size_t pool, size_t messages, size_t pairs, enum more more, uint64_t should, uint64_t should_at)
+static void one_over(const char *what, size_t pool, size_t messages, size_t pairs, enum more more, uint64_t should,
+                     uint64_t should_at)
 {
     struct lent l;
     uint8_t out[64];
@@ -385,7 +389,8 @@ static void wrong_bytes(void)
     uint64_t at, number;
 
     lend(&l, 8, 1, 2, 2);
-    check("a key that is null", spop_add_pair(&l.b, spop_bytes_of(NULL, 1), spop_data_null()) == SPOP_OUTSIDE && l.b.pair_count == 0);
+    check("a key that is null", spop_add_pair(&l.b, spop_bytes_of(NULL, 1), spop_data_null()) == SPOP_OUTSIDE &&
+          l.b.pair_count == 0);
     spop_builder_clear(&l.b);
     check("binary that is null", spop_add_binary(&l.b, "x", NULL, 1) == SPOP_OUTSIDE && l.b.pool_used == 0);
     spop_builder_clear(&l.b);

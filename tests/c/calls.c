@@ -190,7 +190,8 @@ static void read_one(const struct reading *r)
     memset(head, MARK, sizeof head);
     memset(messages, MARK, sizeof messages);
     memset(records, MARK, sizeof records);
-    number = spop_read_frame_records(input, len, r->limit, messages, SPOP_MESSAGE_WIDTH * r->messages, records, r->pairs, head, &at);
+    number = spop_read_frame_records(input, len, r->limit, messages, SPOP_MESSAGE_WIDTH * r->messages, records, r->pairs, head,
+                                     &at);
     answered(r->what, number, at, r->number, r->at);
     if (upload)
         check("the same records", memcmp(records, numbers_of_pairs, sizeof records) == 0 && messages[0] == 12 && head[5] == 4);
@@ -199,14 +200,15 @@ static void read_one(const struct reading *r)
               is_all(records, sizeof records, MARK));
 }
 
-/* What the writers are lent: "status-code", "message" and "normal" of a disconnect, "slot_a" and "slot_b" of an ACK, "upload", "slot"
- * and "delay" of a NOTIFY, and two bytes that are no text. */
+/* What the writers are lent: "status-code", "message" and "normal" of a disconnect, "slot_a" and "slot_b" of an ACK, "upload",
+ * "slot" and "delay" of a NOTIFY, and two bytes that are no text. */
 static const uint8_t pool[] = "status-codemessagenormal" "slot_aslot_b" "uploadslotdelay" "\xc3\x28";
-enum { POOL = sizeof pool - 1, STATUS_CODE = 0, MESSAGE = 11, NORMAL = 18, SLOT_A = 24, SLOT_B = 30, NAME = 36, SLOT = 42, DELAY = 46,
-       NO_TEXT = 51 };
+enum { POOL = sizeof pool - 1, STATUS_CODE = 0, MESSAGE = 11, NORMAL = 18, SLOT_A = 24, SLOT_B = 30, NAME = 36, SLOT = 42,
+       DELAY = 46, NO_TEXT = 51 };
 
 /* Checks a writer's answer, and that a refusal writes nothing. */
-static void wrote(const char *what, uint64_t number, uint64_t at, const uint8_t *out, size_t room, uint64_t should, uint64_t should_at)
+static void wrote(const char *what, uint64_t number, uint64_t at, const uint8_t *out, size_t room, uint64_t should,
+                  uint64_t should_at)
 {
     answered(what, number, at, should, should_at);
     check(what, is_all(out, room, MARK) == (should != SPOP_DONE));
@@ -305,7 +307,8 @@ static void notify(void)
     number = spop_write_notify(true, false, 1, 1, 55, pool, POOL, m, 4, 1, p, 24, 4, out, 64, &at);
     wrote("write_notify of a key outside", number, at, out, sizeof out, SPOP_OUTSIDE, 3);
     m[3] = 256;
-    number = spop_write_notify(true, false, 1, 1, SPOP_MAX_FRAME, pool, POOL, m, 4, 1, many, 256 * SPOP_PAIR_WIDTH, 256, out, 64, &at);
+    number = spop_write_notify(true, false, 1, 1, SPOP_MAX_FRAME, pool, POOL, m, 4, 1, many, 256 * SPOP_PAIR_WIDTH, 256, out, 64,
+                               &at);
     wrote("write_notify of 256 arguments", number, at, out, sizeof out, SPOP_TOO_MANY, 0);
 }
 
@@ -319,7 +322,8 @@ static void hello(void)
     number = spop_negotiate_max_frame_size(SPOP_AGREED_FRAME, 255, &at);
     answered("negotiate_max_frame_size of 255", number, at, SPOP_SIZE_TOO_SMALL, 0);
     check("negotiate_version without a 2", !spop_negotiate_version(old, 5, version) && version[0] == 7 && version[2] == 7);
-    check("negotiate_version", spop_negotiate_version(announced, 6, version) && version[0] == 2 && version[1] == 0 && version[2] == 0);
+    check("negotiate_version", spop_negotiate_version(announced, 6, version) && version[0] == 2 && version[1] == 0 &&
+          version[2] == 0);
 }
 
 int main(void)

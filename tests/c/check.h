@@ -1,5 +1,5 @@
-/* Checks that count themselves: one that does not hold is a line of its own, and the last line has how many there were. Every program
- * here is C99 and C++11 at once. */
+/* Checks that count themselves: one that does not hold is a line of its own, and the last line has how many there were. Every
+ * program here is C99 and C++11 at once. */
 #ifndef CHECK_H
 #define CHECK_H
 
@@ -12,7 +12,7 @@
 
 static int checks, failures;
 
-static void check(const char *what, bool holds)
+static inline void check(const char *what, bool holds)
 {
     checks++;
     if (!holds) {
@@ -22,17 +22,17 @@ static void check(const char *what, bool holds)
 }
 
 /* Checks a call's number and what goes with it. */
-static void answered(const char *what, uint64_t number, uint64_t at, uint64_t should_number, uint64_t should_at)
+static inline void answered(const char *what, uint64_t number, uint64_t at, uint64_t should_number, uint64_t should_at)
 {
     checks++;
     if (number != should_number || at != should_at) {
         failures++;
-        printf("%s: it answered %" PRIu64 " with %" PRIu64 ", and not %" PRIu64 " with %" PRIu64 "\n", what, number, at, should_number,
-               should_at);
+        printf("%s: it answered %" PRIu64 " with %" PRIu64 ", and not %" PRIu64 " with %" PRIu64 "\n", what, number, at,
+               should_number, should_at);
     }
 }
 
-static unsigned nibble(char digit)
+static inline unsigned nibble(char digit)
 {
     return (unsigned)(digit <= '9' ? digit - '0' : digit - 'a' + 10);
 }
@@ -85,7 +85,7 @@ static inline void *exactly(size_t len)
     return memory;
 }
 
-static int checked(void)
+static inline int checked(void)
 {
     printf("%d checks\n", checks);
     return failures > 0;

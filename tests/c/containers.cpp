@@ -44,8 +44,8 @@ static void empty()
     answered("put_kv", number, at, SPOP_NO_ROOM, 0);
     number = spop_put_ack(spop_ids{1, 1}, lent(bytes), actions.data(), actions.size(), room(out), 256, &at);
     answered("put_ack", number, at, SPOP_NO_ROOM, 0);
-    number = spop_put_notify(spop_ids{1, 1}, lent(bytes), messages.data(), messages.size(), pairs.data(), pairs.size(), room(out), 256,
-                             &at);
+    number = spop_put_notify(spop_ids{1, 1}, lent(bytes), messages.data(), messages.size(), pairs.data(), pairs.size(), room(out),
+                             256, &at);
     answered("put_notify", number, at, SPOP_NO_ROOM, 0);
     spop_builder_init(&b, room(out));
     spop_lend_messages(&b, messages.data(), messages.size());

@@ -1,5 +1,5 @@
-/* Words of the helpers that changed places. Without EXCHANGED this compiles; with each number of it a compiler has to refuse it, or to
- * warn, where the calls of numbers and lengths would take it in silence. */
+/* Words of the helpers that changed places. Without EXCHANGED this compiles; with each number of it a compiler has to refuse it, or
+ * to warn, where the calls of numbers and lengths would take it in silence. */
 #include "spop_build.h"
 
 void exchanged(struct spop_message *messages, struct spop_pair *pairs, struct spop_action *actions, struct spop_bytes input,
