@@ -292,7 +292,7 @@ static void is_upload(const struct spop_builder *b, const char *what)
 }
 
 /* What one over some room is: the upload fills it, and then comes one more. */
-enum more { A_MESSAGE, A_PAIR, A_KEY, A_TEXT, AN_ADDRESS };
+enum more { A_MESSAGE, A_PAIR, A_KEY, A_TEXT, A_KEY_AND_TEXT, AN_ADDRESS };
 
 static uint64_t add_more(struct spop_builder *b, enum more more)
 {
@@ -301,6 +301,7 @@ static uint64_t add_more(struct spop_builder *b, enum more more)
     case A_PAIR: return spop_add_null(b, "");
     case A_KEY: return spop_add_null(b, "k");
     case A_TEXT: return spop_add_string(b, "", "t");
+    case A_KEY_AND_TEXT: return spop_add_string(b, "k", "t");
     default: return spop_add_ipv6(b, "", ipv6);
     }
 }
@@ -428,7 +429,9 @@ static void wrong_bytes(void)
 static void out_of_place(void)
 {
     struct lent l;
-    struct spop_pair others[1];
+    struct spop_message other_messages[1];
+    struct spop_pair other_pairs[1];
+    struct spop_action other_actions[1];
     uint8_t out[64];
     struct spop_room room = spop_room_of(out, sizeof out);
     uint64_t at, number;
@@ -457,9 +460,15 @@ static void out_of_place(void)
     spop_builder_clear(&l.b);
     spop_add_message(&l.b, "m");
     spop_add_null(&l.b, "k");
-    spop_lend_pairs(&l.b, others, 1);
+    spop_unset(&l.b, SPOP_SCOPE_PROCESS, "x");
+    spop_lend_pairs(&l.b, other_pairs, 1);
+    spop_lend_actions(&l.b, other_actions, 1);
+    check("another table has no records", l.b.message_count == 1 && l.b.pair_count == 0 && l.b.action_count == 0);
     number = spop_build_notify(&l.b, spop_ids_of(0, 0), room, 64, &at);
     answered("a NOTIFY whose pairs were forgotten", number, at, SPOP_NOT_WRITABLE, 0);
+    spop_lend_messages(&l.b, other_messages, 1);
+    number = spop_build_notify(&l.b, spop_ids_of(0, 0), room, 64, &at);
+    answered("a NOTIFY of which all was forgotten", number, at, SPOP_DONE, 11);
     give_back(&l);
 }
 
@@ -497,6 +506,7 @@ int main(void)
     one_over("a pair over the table's room", UPLOAD_POOL, 1, 4, A_PAIR, SPOP_TABLE_FULL, 4);
     one_over("a key over the pool's room", UPLOAD_POOL, 1, 5, A_KEY, SPOP_NO_ROOM, 4);
     one_over("a text over the pool's room", UPLOAD_POOL, 1, 5, A_TEXT, SPOP_NO_ROOM, 4);
+    one_over("a key that fits, and a text that then does not", UPLOAD_POOL + 1, 1, 5, A_KEY_AND_TEXT, SPOP_NO_ROOM, 4);
     one_over("an address one byte over the pool's room", UPLOAD_POOL + 15, 1, 5, AN_ADDRESS, SPOP_NO_ROOM, 4);
     one_less("a pool with one byte less", UPLOAD_POOL - 1, 1, 4, SPOP_NO_ROOM, 3);
     one_less("no room for the message", UPLOAD_POOL, 0, 4, SPOP_TABLE_FULL, 0);
