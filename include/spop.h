@@ -394,7 +394,7 @@ bool spop_negotiate_version(const uint64_t *versions, size_t versions_len, uint6
 
 /* The helpers. Each is one of the calls above, with its answer, and takes the structs: bytes have their length with them, and a
  * table its count of records, from which the count of its numbers is made. They are named get where the call reads and put where
- * it writes. No two neighbouring words of theirs are numbers that could change places unseen.
+ * it writes; of those no two neighbouring words are both numbers, which could change places unseen.
  *
  * A null pointer is taken for what has no element, whatever is said of its length: so an empty container may be lent as it is. */
 
