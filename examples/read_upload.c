@@ -1,7 +1,5 @@
 /* Reads frames from standard input to its end, and prints each message with its arguments in order. Where a frame is cut or
  * refused, the last line says so, and the status is 1. */
-#define _POSIX_C_SOURCE 200112L
-#include <arpa/inet.h>
 #include <inttypes.h>
 #include <stdio.h>
 
@@ -19,12 +17,44 @@ static void print_text(struct spop_bytes bytes)
         fwrite(text, 1, len, stdout);
 }
 
-static void print_address(int family, struct spop_bytes address)
+static void print_ipv4(const uint8_t *address)
 {
-    char text[INET6_ADDRSTRLEN];
+    printf("%u.%u.%u.%u", address[0], address[1], address[2], address[3]);
+}
 
-    if (inet_ntop(family, address.start, text, sizeof text) != NULL)
-        printf("%s", text);
+/* As RFC 5952 has it: the first of the longest runs of two zero groups or more is left out, and an IPv4 address that is mapped
+ * stays readable. */
+static void print_ipv6(const uint8_t *address)
+{
+    static const uint8_t mapped[12] = {0, 0, 0, 0, 0, 0, 0, 0, 0, 0, 0xff, 0xff};
+    unsigned groups[8];
+    int start = -1, len = 1;
+
+    if (memcmp(address, mapped, sizeof mapped) == 0) {
+        printf("::ffff:");
+        print_ipv4(address + 12);
+        return;
+    }
+    for (int i = 0; i < 8; i++)
+        groups[i] = 256u * address[2 * i] + address[2 * i + 1];
+    for (int i = 0; i < 8; i++) {
+        int zeros = 0;
+
+        while (i + zeros < 8 && groups[i + zeros] == 0)
+            zeros++;
+        if (zeros > len) {
+            start = i;
+            len = zeros;
+        }
+    }
+    for (int i = 0; i < 8; i++) {
+        if (i == start) {
+            printf("::");
+            i += len - 1;
+        } else {
+            printf("%s%x", i > 0 && i != start + len ? ":" : "", groups[i]);
+        }
+    }
 }
 
 static void print_value(struct spop_data value)
@@ -38,8 +68,8 @@ static void print_value(struct spop_data value)
     case SPOP_KIND_I32: spop_as_i32(value, &i32); printf("%" PRId32, i32); break;
     case SPOP_KIND_I64: spop_as_i64(value, &i64); printf("%" PRId64, i64); break;
     case SPOP_KIND_U32: case SPOP_KIND_U64: printf("%" PRIu64, value.number); break;
-    case SPOP_KIND_IPV4: print_address(AF_INET, value.bytes); break;
-    case SPOP_KIND_IPV6: print_address(AF_INET6, value.bytes); break;
+    case SPOP_KIND_IPV4: print_ipv4(value.bytes.start); break;
+    case SPOP_KIND_IPV6: print_ipv6(value.bytes.start); break;
     case SPOP_KIND_STRING: print_text(value.bytes); break;
     default:
         for (size_t i = 0; i < value.bytes.len; i++)
