@@ -15,13 +15,13 @@ static void there_and_back(uint64_t n)
     uint8_t bytes[10];
     uint64_t written, used, value;
 
-    if (spop_encode_varint(n, bytes, sizeof bytes, &written) != 0) {
+    if (spop_encode_varint(n, bytes, sizeof bytes, &written) != SPOP_DONE) {
         printf("%" PRIu64 " does not fit\n", n);
         return;
     }
     printf("%" PRIu64 " is ", n);
     show(bytes, written);
-    if (spop_decode_varint(bytes, written, &value, &used) == 0)
+    if (spop_decode_varint(bytes, written, &value, &used) == SPOP_DONE)
         printf(", read back as %" PRIu64 " from %" PRIu64 " of %" PRIu64 " bytes\n", value, used, spop_varint_len(n));
     else
         printf(", and does not read back\n");
@@ -33,7 +33,7 @@ static void refused(const uint8_t *bytes, size_t length)
     uint64_t number = spop_decode_varint(bytes, length, &value, &at);
 
     show(bytes, length);
-    printf(" is answered %" PRIu64 " at %" PRIu64 "\n", number, at);
+    printf(" is answered %" PRIu64 " at %" PRIu64 ": %s\n", number, at, spop_refusal_text(number));
 }
 
 int main(void)
@@ -42,7 +42,7 @@ int main(void)
     static const uint8_t cut[] = {0xf0, 0x80};
     static const uint8_t large[] = {0xf0, 0x80, 0x80, 0x80, 0x80, 0x80, 0x80, 0x80, 0x80, 0x0f};
 
-    for (size_t i = 0; i < sizeof numbers / sizeof *numbers; i++)
+    for (size_t i = 0; i < SPOP_COUNT(numbers); i++)
         there_and_back(numbers[i]);
     refused(cut, sizeof cut);
     refused(large, sizeof large);

@@ -6,145 +6,114 @@
 #define _POSIX_C_SOURCE 200112L
 #include <inttypes.h>
 #include <stdio.h>
-#include <string.h>
 #include <unistd.h>
 
-#include "spop.h"
+#include "spop_build.h"
 
 enum {
-    LIMIT = 16384,         /* for a frame, without its four length bytes */
     MESSAGES = 64,         /* the rooms of the tables */
     PAIRS = 256,
     MOST_BYTES = 1 << 20   /* of the input */
 };
 
-enum { WAIT = 1 };
-enum { TYPE_NOTIFY = 3 };
-
-/* What spop_read_frame fills in. */
-struct frame {
-    uint64_t head[6];      /* type, flags, stream id, frame id, message count, pair count */
-    uint64_t messages[SPOP_MESSAGE_WIDTH * MESSAGES];
-    uint64_t pairs[SPOP_PAIR_WIDTH * PAIRS];
-};
-
-static const char *why(uint64_t number)
-{
-    switch (number) {
-    case 2: return "its length is over the limit";
-    case 3: return "its bytes end too soon";
-    case 4: return "its type or its flags are unknown";
-    case 5: return "it is aborted";
-    case 6: return "it is of a type that agents send";
-    case 7: return "a number is too large";
-    case 8: return "there is no such type of data";
-    case 9: return "a key is met twice";
-    case 10: return "it has more messages or pairs than there is room for";
-    case 19: return "a number does not fit into 64 bits";
-    default: return "for a reason that is not known here";
-    }
-}
-
 /* Bytes from anywhere do no harm to a terminal so: what is not plain ASCII is escaped. */
-static void print_text(const uint8_t *bytes, uint64_t length)
+static void print_text(struct spop_bytes text)
 {
     putchar('"');
-    for (uint64_t i = 0; i < length; i++) {
-        if (bytes[i] == '"' || bytes[i] == '\\')
-            printf("\\%c", bytes[i]);
-        else if (bytes[i] >= 0x20 && bytes[i] < 0x7f)
-            putchar(bytes[i]);
+    for (size_t i = 0; i < text.len; i++) {
+        uint8_t byte = text.start[i];
+
+        if (byte == '"' || byte == '\\')
+            printf("\\%c", byte);
+        else if (byte >= 0x20 && byte < 0x7f)
+            putchar(byte);
         else
-            printf("\\x%02x", bytes[i]);
+            printf("\\x%02x", byte);
     }
     putchar('"');
 }
 
-static void print_hex(const uint8_t *bytes, uint64_t length)
+static void print_hex(struct spop_bytes bytes)
 {
-    if (length == 0)
+    if (bytes.len == 0)
         putchar('-');
-    for (uint64_t i = 0; i < length; i++)
-        printf("%02x", bytes[i]);
+    for (size_t i = 0; i < bytes.len; i++)
+        printf("%02x", bytes.start[i]);
 }
 
-/* The number whose 64 bits in two's complement these are. */
-static int64_t signed_number(uint64_t bits)
-{
-    int64_t n;
-
-    memcpy(&n, &bits, sizeof n);
-    return n;
-}
-
-/* A value's kind, a and b; its flags are not printed. Starts count from the frame's first byte. */
-static void print_value(const uint8_t *frame, const uint64_t *value)
+/* A value's kind and what it is; its flags are not printed. */
+static void print_value(struct spop_data value)
 {
     static const char *const kinds[] = {"null", "bool", "i32", "u32", "i64", "u64", "IPv4", "IPv6", "string", "binary"};
-    uint64_t kind = value[0], a = value[1], b = value[2];
+    int32_t i32;
+    int64_t i64;
 
-    printf("%s ", kinds[kind]);
-    switch (kind) {
-    case 0: putchar('-'); break;
-    case 1: printf("%s", a == 1 ? "true" : "false"); break;
-    case 2: case 4: printf("%" PRId64, signed_number(a)); break;
-    case 3: case 5: printf("%" PRIu64, a); break;
-    case 8: print_text(frame + a, b); break;
-    default: print_hex(frame + a, b); break;
+    printf("%s ", kinds[value.kind]);
+    switch (value.kind) {
+    case SPOP_KIND_NULL: putchar('-'); break;
+    case SPOP_KIND_BOOL: printf("%s", value.number == 1 ? "true" : "false"); break;
+    case SPOP_KIND_I32: spop_as_i32(value, &i32); printf("%" PRId32, i32); break;
+    case SPOP_KIND_I64: spop_as_i64(value, &i64); printf("%" PRId64, i64); break;
+    case SPOP_KIND_U32: case SPOP_KIND_U64: printf("%" PRIu64, value.number); break;
+    case SPOP_KIND_STRING: print_text(value.bytes); break;
+    default: print_hex(value.bytes); break;
     }
 }
 
-static void print_notify(const uint8_t *bytes, const struct frame *f)
+static void print_notify(const struct spop_frame *frame)
 {
-    for (uint64_t i = 0; i < f->head[4]; i++) {
-        const uint64_t *message = f->messages + SPOP_MESSAGE_WIDTH * i;
+    struct spop_walk w = spop_walk_over(frame);
 
+    for (uint64_t i = 0; spop_next_message(&w); i++) {
         printf("message %" PRIu64 " ", i);
-        print_text(bytes + message[0], message[1]);
-        printf(", %" PRIu64 " arguments\n", message[3]);
-        for (uint64_t k = message[2]; k < message[2] + message[3]; k++) {
-            const uint64_t *pair = f->pairs + SPOP_PAIR_WIDTH * k;
-
+        print_text(w.name);
+        printf(", %" PRIu64 " arguments\n", frame->messages[i].pair_count);
+        while (spop_next_argument(&w)) {
             printf("  ");
-            print_text(bytes + pair[0], pair[1]);
+            print_text(w.key);
             printf(" ");
-            print_value(bytes, pair + 2);
+            print_value(w.value);
             printf("\n");
         }
     }
 }
 
-/* Reads frame after frame to the end, and answers the status. */
-static int read_all(const uint8_t *bytes, size_t length)
+/* Says what is wrong with a frame. */
+static void print_refusal(uint64_t index, uint64_t number, uint64_t at)
 {
-    static struct frame f;
-    uint64_t found = 0;
+    fflush(stdout);
+    if (number == SPOP_WAIT)
+        fprintf(stderr, "frame %" PRIu64 " is not whole, bytes missing: %" PRIu64 "\n", index, at);
+    else
+        fprintf(stderr, "frame %" PRIu64 " is refused with %" PRIu64 " at %" PRIu64 ": %s\n", index, number, at,
+                spop_refusal_text(number));
+}
 
-    for (uint64_t index = 0; length > 0; index++) {
-        uint64_t at;
-        uint64_t number = spop_read_frame(bytes, length, LIMIT, f.messages, SPOP_MESSAGE_WIDTH * MESSAGES,
-                                          f.pairs, SPOP_PAIR_WIDTH * PAIRS, f.head, &at);
+/* Reads frame after frame to the end, and answers the status. */
+static int read_all(struct spop_bytes input)
+{
+    static struct spop_message messages[MESSAGES];
+    static struct spop_pair pairs[PAIRS];
+    struct spop_frame frame;
+    uint64_t found = 0, at;
 
-        if (number == WAIT) {
-            fflush(stdout);
-            fprintf(stderr, "frame %" PRIu64 " is not whole, bytes missing: %" PRIu64 "\n", index, at);
+    spop_frame_init(&frame, messages, MESSAGES, pairs, PAIRS);
+    for (uint64_t index = 0; input.len > 0; index++) {
+        uint64_t number = spop_frame_read(&frame, input, SPOP_AGREED_FRAME, &at);
+
+        if (number != SPOP_DONE) {
+            print_refusal(index, number, at);
             return 1;
         }
-        if (number != 0) {
-            fflush(stdout);
-            fprintf(stderr, "frame %" PRIu64 " is refused with %" PRIu64 " at %" PRIu64 ": %s\n", index, number, at, why(number));
-            return 1;
-        }
-        printf("frame %" PRIu64 " type %" PRIu64 " stream %" PRIu64 " id %" PRIu64 ", %" PRIu64 " bytes\n", index, f.head[0],
-               f.head[2], f.head[3], at);
-        if (f.head[0] == TYPE_NOTIFY) {
-            print_notify(bytes, &f);
+        printf("frame %" PRIu64 " type %" PRIu64 " stream %" PRIu64 " id %" PRIu64 ", %" PRIu64 " bytes\n", index, frame.head.type,
+               frame.head.stream_id, frame.head.frame_id, at);
+        if (frame.head.type == SPOP_NOTIFY) {
+            print_notify(&frame);
             found++;
         } else {
             printf("no NOTIFY, so passed over\n");
         }
-        bytes += at;
-        length -= at;
+        input = spop_bytes_behind(input, at);
     }
     if (found == 0) {
         fflush(stdout);
@@ -175,7 +144,7 @@ int main(void)
     }
     if (length == 0) {
         printf("nothing on standard input: a frame of the program's own\n");
-        return read_all(upload, sizeof upload - 1);
+        return read_all(spop_bytes_of(upload, sizeof upload - 1));
     }
-    return read_all(input, length);
+    return read_all(spop_bytes_of(input, length));
 }

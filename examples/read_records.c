@@ -7,21 +7,19 @@
 
 #include "spop.h"
 
-enum { LIMIT = 16384, MESSAGES = 4, PAIRS = 16 };
-
-/* The kinds of a value that an upload has. */
-enum { KIND_U32 = 3, KIND_I64 = 4 };
+enum { MESSAGES = 4, PAIRS = 16 };
 
 /* What spop_read_frame_records fills in. */
 struct frame {
     uint64_t head[6];    /* type, flags, stream id, frame id, message count, pair count */
-    uint64_t messages[4 * MESSAGES];
+    uint64_t messages[SPOP_MESSAGE_WIDTH * MESSAGES];
     struct spop_pair pairs[PAIRS];
 };
 
 static uint64_t read_frame(const uint8_t *bytes, size_t length, size_t room, struct frame *f, uint64_t *at)
 {
-    return spop_read_frame_records(bytes, length, LIMIT, f->messages, 4 * MESSAGES, f->pairs, room, f->head, at);
+    return spop_read_frame_records(bytes, length, SPOP_AGREED_FRAME, f->messages, SPOP_MESSAGE_WIDTH * MESSAGES, f->pairs, room,
+                                   f->head, at);
 }
 
 /* Starts count from the frame's first byte. */
@@ -45,9 +43,9 @@ static void print_delays(const uint8_t *bytes, const uint64_t *message, const st
     const struct spop_pair *first = pairs + message[2], *slot = NULL;
 
     for (const struct spop_pair *pair = first; pair < first + message[3]; pair++) {
-        if (pair->kind == KIND_U32 && has_key(bytes, pair, "slot"))
+        if (pair->kind == SPOP_KIND_U32 && has_key(bytes, pair, "slot"))
             slot = pair;
-        else if (slot != NULL && pair->kind == KIND_I64 && has_key(bytes, pair, "delay"))
+        else if (slot != NULL && pair->kind == SPOP_KIND_I64 && has_key(bytes, pair, "delay"))
             printf("slot %" PRIu64 ": %" PRId64 " ps\n", slot->a, signed_number(pair->a));
     }
 }
@@ -58,13 +56,13 @@ static void show(const uint8_t *bytes, size_t length)
     uint64_t at;
     uint64_t number = read_frame(bytes, length, PAIRS, &f, &at);
 
-    if (number != 0) {
+    if (number != SPOP_DONE) {
         printf("answered %" PRIu64 " with %" PRIu64 "\n", number, at);
         return;
     }
     printf("%" PRIu64 " bytes, %" PRIu64 " pairs\n", at, f.head[5]);
     for (uint64_t i = 0; i < f.head[4]; i++)
-        print_delays(bytes, f.messages + 4 * i, f.pairs);
+        print_delays(bytes, f.messages + SPOP_MESSAGE_WIDTH * i, f.pairs);
 }
 
 /* Shows the refusal's number and place, and whether anything that was lent has changed. */

@@ -1,6 +1,10 @@
-/* The SPOP codec's calls for C and C++. Link libspop.a (tools/native-lib spop).
+/* The SPOP codec's calls for C and C++. Link libspop, static or shared (tools/native-lib spop).
  *
- * Every call takes every input, ends, and does its own refusing. Unless its line says otherwise it answers a number:
+ * This file has the names of all numbers, then the calls of the library, and at the end helpers that take structs in place of
+ * numbers and lengths. spop_build.h stands on them: it builds frames name by name, and walks over what was read.
+ *
+ * Every call takes every input, ends, and does its own refusing. Unless its line says otherwise it answers a number, which has
+ * a name in enum spop_refusal:
  *
  *    0  done            *at: the bytes used or written
  *    1  wait            the frame is not whole yet; *at: the bytes missing from its four length bytes, or then from the frame
@@ -27,7 +31,8 @@
  * numbers of the records that were read.
  *
  * No pointer may be null, also where its length is 0 (it need not point at anything then), and what a call may change must not
- * overlap what else is lent to it. Lengths are counted in elements. Calls keep no state, so threads need no lock.
+ * overlap what else is lent to it. Lengths are counted in elements. Calls keep no state, so threads need no lock. The helpers take
+ * null too, as an empty container gives it.
  */
 #ifndef SPOP_H
 #define SPOP_H
@@ -35,10 +40,197 @@
 #include <stdbool.h>
 #include <stddef.h>
 #include <stdint.h>
+#include <string.h>
 
 #ifdef __cplusplus
 extern "C" {
 #endif
+
+/* What a call answers. */
+enum spop_refusal {
+    SPOP_DONE = 0,
+    SPOP_WAIT = 1,
+    SPOP_OVERSIZE = 2,
+    SPOP_TOO_SOON = 3,
+    SPOP_UNKNOWN = 4,
+    SPOP_ABORTED = 5,
+    SPOP_AGENTS = 6,
+    SPOP_TOO_LARGE = 7,
+    SPOP_NO_TYPE = 8,
+    SPOP_MET_TWICE = 9,
+    SPOP_TABLE_FULL = 10,
+    SPOP_NO_ROOM = 11,
+    SPOP_OVER_LIMIT = 12,
+    SPOP_SIZE_TOO_SMALL = 13,
+    SPOP_NOT_WRITABLE = 14,
+    SPOP_NOT_TEXT = 15,
+    SPOP_OUTSIDE = 16,
+    SPOP_TOO_MANY = 17,
+    SPOP_NOT_FITTING = 19
+};
+
+/* The kinds of a value. */
+enum spop_kind {
+    SPOP_KIND_NULL = 0,
+    SPOP_KIND_BOOL = 1,
+    SPOP_KIND_I32 = 2,
+    SPOP_KIND_U32 = 3,
+    SPOP_KIND_I64 = 4,
+    SPOP_KIND_U64 = 5,
+    SPOP_KIND_IPV4 = 6,
+    SPOP_KIND_IPV6 = 7,
+    SPOP_KIND_STRING = 8,
+    SPOP_KIND_BINARY = 9
+};
+
+/* The types of a frame. Those from 101 on are an agent's. */
+enum spop_frame_type {
+    SPOP_HAPROXY_HELLO = 1,
+    SPOP_HAPROXY_DISCONNECT = 2,
+    SPOP_NOTIFY = 3,
+    SPOP_AGENT_HELLO = 101,
+    SPOP_AGENT_DISCONNECT = 102,
+    SPOP_ACK = 103
+};
+
+/* The flags of a frame. */
+enum spop_frame_flag {
+    SPOP_FIN = 1,
+    SPOP_ABORT = 2
+};
+
+/* What an action does. */
+enum spop_action_type {
+    SPOP_SET_VAR = 1,
+    SPOP_UNSET_VAR = 2
+};
+
+/* How long an action's variable lives. */
+enum spop_scope {
+    SPOP_SCOPE_PROCESS = 0,
+    SPOP_SCOPE_SESSION = 1,
+    SPOP_SCOPE_TRANSACTION = 2,
+    SPOP_SCOPE_REQUEST = 3,
+    SPOP_SCOPE_RESPONSE = 4
+};
+
+/* Limits to lend, for a frame without its four length bytes: the ceiling, and the agreed size of a frame. A call takes any limit
+ * of 32 bits. */
+enum {
+    SPOP_MAX_FRAME = 1048576,
+    SPOP_AGREED_FRAME = 16384
+};
+
+/* How many numbers a value has, and each record of a table. */
+enum {
+    SPOP_VALUE_WIDTH = 4,
+    SPOP_MESSAGE_WIDTH = 4,
+    SPOP_PAIR_WIDTH = 6,
+    SPOP_ACTION_WIDTH = 8
+};
+
+/* The numbers of records by name, in the order of the tables. A table of records is lent as the table of numbers that it is: a
+ * record is numbers of 64 bits and nothing else, so nothing stands between them or between two records (asserted below), a pointer
+ * to a record is one to its first number, and each number is only ever read and written as the uint64_t that it is. */
+
+/* A value's four numbers. */
+struct spop_value {
+    uint64_t kind;
+    uint64_t a;
+    uint64_t b;
+    uint64_t flags;
+};
+
+/* A message's four numbers. */
+struct spop_message {
+    uint64_t name_start;
+    uint64_t name_len;
+    uint64_t first_pair;
+    uint64_t pair_count;
+};
+
+/* A pair's six numbers. */
+struct spop_pair {
+    uint64_t key_start;
+    uint64_t key_len;
+    uint64_t kind;
+    uint64_t a;
+    uint64_t b;
+    uint64_t flags;
+};
+
+/* An action's eight numbers. */
+struct spop_action {
+    uint64_t action;
+    uint64_t scope;
+    uint64_t name_start;
+    uint64_t name_len;
+    uint64_t kind;
+    uint64_t a;
+    uint64_t b;
+    uint64_t flags;
+};
+
+/* The six numbers of a frame's head. */
+struct spop_head {
+    uint64_t type;
+    uint64_t flags;
+    uint64_t stream_id;
+    uint64_t frame_id;
+    uint64_t message_count;
+    uint64_t pair_count;
+};
+
+/* The three numbers of a version. */
+struct spop_version {
+    uint64_t major;
+    uint64_t minor;
+    uint64_t patch;
+};
+
+#if defined(__cplusplus) && __cplusplus >= 201103L
+#define SPOP_HOLDS(name, condition) static_assert(condition, #name)
+#elif defined(__STDC_VERSION__) && __STDC_VERSION__ >= 201112L
+#define SPOP_HOLDS(name, condition) _Static_assert(condition, #name)
+#else
+#define SPOP_HOLDS(name, condition) typedef char name[(condition) ? 1 : -1]
+#endif
+SPOP_HOLDS(spop_value_is_four_numbers, sizeof(struct spop_value) == SPOP_VALUE_WIDTH * sizeof(uint64_t));
+SPOP_HOLDS(spop_message_is_four_numbers, sizeof(struct spop_message) == SPOP_MESSAGE_WIDTH * sizeof(uint64_t));
+SPOP_HOLDS(spop_pair_is_six_numbers, sizeof(struct spop_pair) == SPOP_PAIR_WIDTH * sizeof(uint64_t));
+SPOP_HOLDS(spop_action_is_eight_numbers, sizeof(struct spop_action) == SPOP_ACTION_WIDTH * sizeof(uint64_t));
+SPOP_HOLDS(spop_head_is_six_numbers, sizeof(struct spop_head) == 6 * sizeof(uint64_t));
+SPOP_HOLDS(spop_version_is_three_numbers, sizeof(struct spop_version) == 3 * sizeof(uint64_t));
+#undef SPOP_HOLDS
+
+/* A sentence for what a call answers. */
+static inline const char *spop_refusal_text(uint64_t number)
+{
+    switch (number) {
+    case SPOP_DONE: return "done";
+    case SPOP_WAIT: return "the frame is not whole yet";
+    case SPOP_OVERSIZE: return "the frame's length is over the limit";
+    case SPOP_TOO_SOON: return "the bytes end too soon";
+    case SPOP_UNKNOWN: return "the frame's type or flags are unknown";
+    case SPOP_ABORTED: return "the frame has ABORT set";
+    case SPOP_AGENTS: return "the frame is one that agents send";
+    case SPOP_TOO_LARGE: return "a number is over 64 bits";
+    case SPOP_NO_TYPE: return "a data type is none of 0 to 9";
+    case SPOP_MET_TWICE: return "a key is met twice";
+    case SPOP_TABLE_FULL: return "a table has no room for a record";
+    case SPOP_NO_ROOM: return "the output is too short";
+    case SPOP_OVER_LIMIT: return "the frame to be written is over the limit";
+    case SPOP_SIZE_TOO_SMALL: return "a frame size is under 256";
+    case SPOP_NOT_WRITABLE: return "a record or the frame's metadata is not writable";
+    case SPOP_NOT_TEXT: return "a text is not UTF-8";
+    case SPOP_OUTSIDE: return "a record points outside its buffer, or a count outside its table";
+    case SPOP_TOO_MANY: return "a message has more than 255 arguments";
+    case SPOP_NOT_FITTING: return "a number's tenth byte is above 15";
+    default: return "no such number";
+    }
+}
+
+/* The calls of the library. */
 
 /* Answers how many bytes the written form of n has: 1 to 10. */
 uint64_t spop_varint_len(uint64_t n);
@@ -59,14 +251,6 @@ bool spop_same_text(const uint8_t *a, size_t a_len, const uint8_t *b, size_t b_l
 
 /* Writes the lossy text of the bytes at the front of out. 0 with its length, at most 3 * len, or 11. */
 uint64_t spop_lossy_text(const uint8_t *bytes, size_t len, uint8_t *out, size_t out_len, uint64_t *at);
-
-/* How many numbers a value has, and each record of a table. */
-enum {
-    SPOP_VALUE_WIDTH = 4,
-    SPOP_MESSAGE_WIDTH = 4,
-    SPOP_PAIR_WIDTH = 6,
-    SPOP_ACTION_WIDTH = 8
-};
 
 /* A value is four numbers: kind, a, b and flags. a and b are
  *
@@ -149,16 +333,6 @@ uint64_t spop_read_frame(const uint8_t *input, size_t input_len, uint32_t limit,
                          uint64_t *messages, size_t messages_len, uint64_t *pairs, size_t pairs_len,
                          uint64_t head[6], uint64_t *at);
 
-/* A pair's six numbers, in the same order, by name. */
-struct spop_pair {
-    uint64_t key_start;
-    uint64_t key_len;
-    uint64_t kind;
-    uint64_t a;
-    uint64_t b;
-    uint64_t flags;
-};
-
 /* Reads a frame as spop_read_frame does, with a table of records for the pairs, which has room for pairs_len of them. The answer,
  * *at, head and messages are those that spop_read_frame gives with a table of six times as many numbers. After 0 the records are
  * at the front of pairs, with the numbers that it gives, and those behind them stay. After any other number none has changed. */
@@ -217,6 +391,272 @@ uint64_t spop_negotiate_max_frame_size(uint32_t theirs, uint32_t ours, uint64_t 
 /* Each three numbers of versions are an announced version (major, minor, patch); one or two left over are not read. True where
  * one of them has the major number 2, and then version is set to 2, 0, 0; else it stays. */
 bool spop_negotiate_version(const uint64_t *versions, size_t versions_len, uint64_t version[3]);
+
+/* The helpers. Each is one of the calls above, with its answer, and takes the structs: bytes have their length with them, and a
+ * table its count of records, from which the count of its numbers is made. They are named get where the call reads and put where
+ * it writes; of those no two neighbouring words are both numbers, which could change places unseen.
+ *
+ * A null pointer is taken for what has no element, whatever is said of its length: so an empty container may be lent as it is. */
+
+/* How many elements an array has; compilers warn of a pointer here. */
+#define SPOP_COUNT(array) (sizeof(array) / sizeof *(array))
+
+/* Bytes that are lent to be read. */
+struct spop_bytes {
+    const uint8_t *start;
+    size_t len;
+};
+
+/* Bytes that are lent to be written. */
+struct spop_room {
+    uint8_t *start;
+    size_t len;
+};
+
+/* Which stream a frame is of, and which of its frames it is. */
+struct spop_ids {
+    uint64_t stream_id;
+    uint64_t frame_id;
+};
+
+static inline struct spop_bytes spop_bytes_of(const void *start, size_t len)
+{
+    struct spop_bytes bytes;
+
+    bytes.start = (const uint8_t *)start;
+    bytes.len = len;
+    return bytes;
+}
+
+/* The bytes of a C string, which must not be null, without the 0 at its end. */
+static inline struct spop_bytes spop_text_of(const char *text)
+{
+    return spop_bytes_of(text, strlen(text));
+}
+
+static inline struct spop_room spop_room_of(void *start, size_t len)
+{
+    struct spop_room room;
+
+    room.start = (uint8_t *)start;
+    room.len = len;
+    return room;
+}
+
+static inline struct spop_ids spop_ids_of(uint64_t stream_id, uint64_t frame_id)
+{
+    struct spop_ids ids;
+
+    ids.stream_id = stream_id;
+    ids.frame_id = frame_id;
+    return ids;
+}
+
+/* The ids that an ACK takes from the NOTIFY that it answers. */
+static inline struct spop_ids spop_head_ids(const struct spop_head *head)
+{
+    return spop_ids_of(head->stream_id, head->frame_id);
+}
+
+/* A part of bytes that a record points at, for one that was read from them: none where it is not inside. */
+static inline struct spop_bytes spop_bytes_at(struct spop_bytes bytes, uint64_t start, uint64_t len)
+{
+    if (bytes.start == NULL || start > bytes.len || len > bytes.len - start)
+        return spop_bytes_of(NULL, 0);
+    return spop_bytes_of(bytes.start + start, (size_t)len);
+}
+
+/* What stands behind the first of some bytes: the input that is left after a frame of so many. */
+static inline struct spop_bytes spop_bytes_behind(struct spop_bytes bytes, uint64_t used)
+{
+    return used <= bytes.len ? spop_bytes_at(bytes, used, bytes.len - used) : spop_bytes_of(NULL, 0);
+}
+
+/* Whether two are the same byte by byte. */
+static inline bool spop_bytes_equal(struct spop_bytes a, struct spop_bytes b)
+{
+    return a.len == b.len && (a.len == 0 || memcmp(a.start, b.start, a.len) == 0);
+}
+
+/* Whether bytes are those of a C string. */
+static inline bool spop_bytes_are(struct spop_bytes bytes, const char *text)
+{
+    return spop_bytes_equal(bytes, spop_text_of(text));
+}
+
+/* What is named spop_inner is for the helpers' own use. */
+
+/* What is lent in place of null. Its length is 0 then, so it is neither read nor written. */
+static inline uint64_t *spop_inner_nothing(void)
+{
+    static uint64_t nothing;
+
+    return &nothing;
+}
+
+static inline struct spop_bytes spop_inner_bytes(struct spop_bytes bytes)
+{
+    return bytes.start != NULL ? bytes : spop_bytes_of(spop_inner_nothing(), 0);
+}
+
+static inline struct spop_room spop_inner_room(struct spop_room room)
+{
+    return room.start != NULL ? room : spop_room_of(spop_inner_nothing(), 0);
+}
+
+/* The numbers that a table of records is, and how many. */
+static inline uint64_t *spop_inner_numbers(void *records)
+{
+    return records != NULL ? (uint64_t *)records : spop_inner_nothing();
+}
+
+static inline const uint64_t *spop_inner_const_numbers(const void *records)
+{
+    return records != NULL ? (const uint64_t *)records : spop_inner_nothing();
+}
+
+static inline size_t spop_inner_len(const void *records, size_t count, size_t width)
+{
+    return records != NULL ? count * width : 0;
+}
+
+/* spop_encode_varint. */
+static inline uint64_t spop_put_number(uint64_t n, struct spop_room out, uint64_t *at)
+{
+    struct spop_room o = spop_inner_room(out);
+
+    return spop_encode_varint(n, o.start, o.len, at);
+}
+
+/* spop_decode_varint. */
+static inline uint64_t spop_get_number(struct spop_bytes input, uint64_t *value, uint64_t *at)
+{
+    struct spop_bytes i = spop_inner_bytes(input);
+
+    return spop_decode_varint(i.start, i.len, value, at);
+}
+
+/* spop_is_utf8. */
+static inline bool spop_bytes_are_text(struct spop_bytes bytes)
+{
+    struct spop_bytes b = spop_inner_bytes(bytes);
+
+    return spop_is_utf8(b.start, b.len);
+}
+
+/* spop_same_text. */
+static inline bool spop_texts_equal(struct spop_bytes a, struct spop_bytes b)
+{
+    struct spop_bytes x = spop_inner_bytes(a), y = spop_inner_bytes(b);
+
+    return spop_same_text(x.start, x.len, y.start, y.len);
+}
+
+/* spop_lossy_text. */
+static inline uint64_t spop_put_lossy_text(struct spop_bytes bytes, struct spop_room out, uint64_t *at)
+{
+    struct spop_bytes b = spop_inner_bytes(bytes);
+    struct spop_room o = spop_inner_room(out);
+
+    return spop_lossy_text(b.start, b.len, o.start, o.len, at);
+}
+
+/* spop_typed_data. */
+static inline uint64_t spop_get_value(struct spop_bytes input, struct spop_value *value, uint64_t *at)
+{
+    struct spop_bytes i = spop_inner_bytes(input);
+
+    return spop_typed_data(i.start, i.len, (uint64_t *)(void *)value, at);
+}
+
+/* spop_value_len. */
+static inline uint64_t spop_value_bytes(const struct spop_value *value, struct spop_bytes buffer)
+{
+    struct spop_bytes b = spop_inner_bytes(buffer);
+
+    return spop_value_len((const uint64_t *)(const void *)value, b.start, b.len);
+}
+
+/* spop_check_value. */
+static inline uint64_t spop_value_refusal(const struct spop_value *value, struct spop_bytes buffer)
+{
+    struct spop_bytes b = spop_inner_bytes(buffer);
+
+    return spop_check_value((const uint64_t *)(const void *)value, b.start, b.len);
+}
+
+/* spop_write_value. */
+static inline uint64_t spop_put_value(const struct spop_value *value, struct spop_bytes buffer, struct spop_room out, uint64_t *at)
+{
+    struct spop_bytes b = spop_inner_bytes(buffer);
+    struct spop_room o = spop_inner_room(out);
+
+    return spop_write_value((const uint64_t *)(const void *)value, b.start, b.len, o.start, o.len, at);
+}
+
+/* spop_read_pair. */
+static inline uint64_t spop_get_pair(struct spop_bytes input, struct spop_pair *pair, uint64_t *at)
+{
+    struct spop_bytes i = spop_inner_bytes(input);
+
+    return spop_read_pair(i.start, i.len, (uint64_t *)(void *)pair, at);
+}
+
+/* spop_read_frame, with tables that have room for so many records. */
+static inline uint64_t spop_get_frame(struct spop_bytes input, uint32_t limit, struct spop_message *messages, size_t message_room,
+                                      struct spop_pair *pairs, size_t pair_room, struct spop_head *head, uint64_t *at)
+{
+    struct spop_bytes i = spop_inner_bytes(input);
+
+    return spop_read_frame(i.start, i.len, limit,
+                           spop_inner_numbers(messages), spop_inner_len(messages, message_room, SPOP_MESSAGE_WIDTH),
+                           spop_inner_numbers(pairs), spop_inner_len(pairs, pair_room, SPOP_PAIR_WIDTH),
+                           (uint64_t *)(void *)head, at);
+}
+
+/* spop_write_kv, with FIN alone and both ids 0, as a HELLO and a DISCONNECT have them. */
+static inline uint64_t spop_put_kv(uint64_t type, struct spop_bytes buffer, const struct spop_pair *pairs, size_t pair_count,
+                                   struct spop_room out, uint32_t limit, uint64_t *at)
+{
+    struct spop_bytes b = spop_inner_bytes(buffer);
+    struct spop_room o = spop_inner_room(out);
+
+    return spop_write_kv(type, true, false, 0, 0, limit, b.start, b.len, spop_inner_const_numbers(pairs),
+                         spop_inner_len(pairs, pair_count, SPOP_PAIR_WIDTH), pair_count, o.start, o.len, at);
+}
+
+/* spop_write_actions, with FIN alone. */
+static inline uint64_t spop_put_ack(struct spop_ids ids, struct spop_bytes buffer, const struct spop_action *actions,
+                                    size_t action_count, struct spop_room out, uint32_t limit, uint64_t *at)
+{
+    struct spop_bytes b = spop_inner_bytes(buffer);
+    struct spop_room o = spop_inner_room(out);
+
+    return spop_write_actions(true, false, ids.stream_id, ids.frame_id, limit, b.start, b.len, spop_inner_const_numbers(actions),
+                              spop_inner_len(actions, action_count, SPOP_ACTION_WIDTH), action_count, o.start, o.len, at);
+}
+
+/* spop_write_notify, with FIN alone. */
+static inline uint64_t spop_put_notify(struct spop_ids ids, struct spop_bytes buffer,
+                                       const struct spop_message *messages, size_t message_count,
+                                       const struct spop_pair *pairs, size_t pair_count,
+                                       struct spop_room out, uint32_t limit, uint64_t *at)
+{
+    struct spop_bytes b = spop_inner_bytes(buffer);
+    struct spop_room o = spop_inner_room(out);
+
+    return spop_write_notify(true, false, ids.stream_id, ids.frame_id, limit, b.start, b.len, spop_inner_const_numbers(messages),
+                             spop_inner_len(messages, message_count, SPOP_MESSAGE_WIDTH), message_count,
+                             spop_inner_const_numbers(pairs), spop_inner_len(pairs, pair_count, SPOP_PAIR_WIDTH), pair_count,
+                             o.start, o.len, at);
+}
+
+/* spop_negotiate_version. */
+static inline bool spop_choose_version(const struct spop_version *versions, size_t version_count, struct spop_version *version)
+{
+    return spop_negotiate_version(spop_inner_const_numbers(versions), spop_inner_len(versions, version_count, 3),
+                                  (uint64_t *)(void *)version);
+}
 
 #ifdef __cplusplus
 }
