@@ -1,5 +1,5 @@
-# The folder that is installed from, by tools/install here and from a tarball of tools/dist elsewhere: headers, both libraries, spop.pc,
-# and `install` itself. For scripts that set `top`, the repository's folder, to source.
+# The folder that is installed from, by tools/install here and from a tarball of tools/dist elsewhere: headers, both libraries,
+# spop.pc, and `install` itself. For scripts that set `top`, the repository's folder, to source.
 
 spop_version() { sed -n 's/^Version: //p' "$top/tools/spop.pc"; }
 
