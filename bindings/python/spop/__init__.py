@@ -587,7 +587,9 @@ Messages = Iterable[Union[Message, Tuple[Name, Iterable[Argument]]]]
 
 def write_notify(stream_id: int, frame_id: int, messages: Messages, limit: int = AGREED_FRAME) -> bytes:
     """A NOTIFY frame. A message is a Message or (name, arguments), and an argument a Pair or (key, value)."""
-    pool, message_numbers, pair_numbers = bytearray(), [], []
+    pool = bytearray()
+    message_numbers: List[int] = []
+    pair_numbers: List[int] = []
     for item in _items("messages", messages):
         name, arguments = _parts("a message is a Message or (name, arguments)", item, (2,))
         first = len(pair_numbers) // 6
@@ -598,7 +600,8 @@ def write_notify(stream_id: int, frame_id: int, messages: Messages, limit: int =
 
 def write_ack(stream_id: int, frame_id: int, actions: Iterable[Union[SetVar, UnsetVar]], limit: int = AGREED_FRAME) -> bytes:
     """An ACK frame with these actions."""
-    pool, numbers = bytearray(), []
+    pool = bytearray()
+    numbers: List[int] = []
     for action in _items("actions", actions):
         numbers += _action(action, pool)
     return _write(_lib.spop_write_actions, [True, False, *_ids(stream_id, frame_id)], limit, pool, (numbers, 8))
@@ -714,7 +717,7 @@ def _a_and_b(value: Plain, kind: Kind, pool: bytearray) -> Tuple[int, int]:
         raise TypeError(f"a value of kind {kind.name} cannot be {type(value).__name__}")
     if isinstance(value, (IPv4Address, IPv6Address)):
         return _put(_address_bytes(value), pool)
-    return _put(_lent(value), pool) if isinstance(value, _BUFFER) else (int(value or 0), 0)    # type: ignore[arg-type]
+    return _put(_lent(value), pool) if isinstance(value, _BUFFER) else (int(value is True), 0)
 
 
 def _address_bytes(address: Union[IPv4Address, IPv6Address]) -> bytes:
