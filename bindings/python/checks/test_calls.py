@@ -6,7 +6,7 @@ import subprocess
 import sys
 import tempfile
 import unittest
-from ctypes import ArgumentError, c_uint8, c_uint64
+from ctypes import POINTER, ArgumentError, c_bool, c_char_p, c_size_t, c_uint8, c_uint32, c_uint64
 from pathlib import Path
 
 import spop
@@ -19,14 +19,35 @@ PACKAGE = Path(spop.__file__).parent
 HEADER = (TOP / "include/spop.h").read_text("utf-8")
 
 
+TYPES = {
+    "bool": c_bool, "uint32_t": c_uint32, "uint64_t": c_uint64, "size_t": c_size_t, "const uint8_t *": c_char_p,
+    "uint8_t *": POINTER(c_uint8), "uint64_t *": POINTER(c_uint64), "const uint64_t *": POINTER(c_uint64),
+    "struct spop_pair *": POINTER(_calls.spop_pair),
+}
+
+
+def prototypes():
+    """Each call of the header: its name, what it answers, and its parameters' names and types."""
+    code = re.sub(r"/\*.*?\*/", "", HEADER, flags=re.S)
+    widths = dict(re.findall(r"(SPOP_\w+_WIDTH)\s*=?\s*(\d+)", code))
+    for answer, name, parameters in re.findall(r"^(uint64_t|bool) (spop_\w+)\(([^)]*)\);", code, re.M):
+        yield name, (TYPES[answer], [parameter(text.strip(), widths) for text in parameters.split(",")])
+
+
+def parameter(text, widths):
+    kind, name, array = re.fullmatch(r"(.*?)(\w+)(?:\[(\w+)\])?", text, re.S).groups()
+    return name, POINTER(c_uint64 * int(widths.get(array, array))) if array else TYPES[kind.strip()]
+
+
 class Table(unittest.TestCase):
     def test_it_has_each_call_of_the_header_with_its_parameters_in_order(self):
-        code = re.sub(r"/\*.*?\*/", "", HEADER, flags=re.S)
-        found = re.findall(r"^(?:uint64_t|bool) (spop_\w+)\(([^)]*)\);", code, re.M)
+        found = list(prototypes())
         self.assertEqual(18, len(found))
-        names = [(name, [re.sub(r"\[.*", "", parameter).split()[-1].lstrip("*") for parameter in parameters.split(",")])
-                 for name, parameters in found]
-        self.assertEqual(names, [(name, [parameter for parameter, _ in parameters]) for name, (_, parameters) in _calls.CALLS.items()])
+        self.assertEqual(found, list(_calls.CALLS.items()))
+
+    def test_the_pair_by_name(self):
+        fields = re.search(r"struct spop_pair \{(.*?)\}", HEADER, re.S).group(1)
+        self.assertEqual([(name, c_uint64) for name in re.findall(r"uint64_t (\w+);", fields)], _calls.spop_pair._fields_)
 
     def test_a_table_of_another_width_is_no_argument(self):
         at = c_uint64()

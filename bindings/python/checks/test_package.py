@@ -122,7 +122,10 @@ class Package(unittest.TestCase):
 
     def test_what_is_no_shared_library(self):
         other = self.folder / "libspop.a"
-        for content in (b"", b"!<arch>\n" + bytes(100), LIBRARY.read_bytes()[:19], LIBRARY.read_bytes()[:18] + b"\3\0"):
+        head = LIBRARY.read_bytes()[:20]
+        # An archive, a file that is cut, a 32-bit one, an object that is not shared, and another processor's.
+        for content in (b"", b"!<arch>\n" + bytes(100), head[:19], head[:4] + b"\1" + head[5:], head[:16] + b"\1" + head[17:],
+                        head[:18] + b"\3\0"):
             other.write_bytes(content)
             with self.assertRaisesRegex(SystemExit, "is no shared library for x86_64 or aarch64"):
                 self.build(other)

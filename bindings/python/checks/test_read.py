@@ -146,6 +146,9 @@ class Refusals(unittest.TestCase):
         data = plain.frame(3, 0, 0, 5000 * plain.message(b""))
         self.assertEqual((10, 11 + 2 * 1001), self.answer(data, max_messages=1000))
         self.assertEqual((0, 0), self.answer(data, max_messages=5000, max_pairs=0))
+        pairs = plain.frame(1, 0, 0, *[plain.pair(b"%d" % k, 0, None) for k in range(1000)])
+        self.assertEqual((0, 0), self.answer(pairs, max_messages=0, max_pairs=1000))
+        self.assertEqual((10, len(pairs)), self.answer(pairs, max_messages=0, max_pairs=999))
 
     def test_a_later_refusal_is_found_behind_many_records(self):
         for count in (64, 65, 600):
