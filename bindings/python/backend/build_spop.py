@@ -1,7 +1,7 @@
 """Builds the wheel of the package spop, as pip asks for it (PEP 517 and PEP 660). It holds the module and the shared library.
 
-The library is the file that SPOP_LIBRARY names, else target/native/libspop.so of the repository, else spop/libspop.so of this folder.
-The same files give the same wheel, byte for byte.
+The library is the file that SPOP_LIBRARY names, else target/native/libspop.so of the repository, else spop/libspop.so of this
+folder. The same files give the same wheel, byte for byte.
 """
 import base64
 import hashlib
@@ -56,7 +56,7 @@ def find_library():
         if place.is_file():
             return place
     tried = f"SPOP_LIBRARY names {named}, which is no file" if named else f"there is neither {places[0]} nor {places[1]}"
-    stop(f"the library is not built: {tried} (tools/native-lib spop builds it)")
+    stop(f"the library is not built: {tried} (tools/native-lib spop builds it; SPOP_LIBRARY names another)")
 
 
 def machine_of(library):
@@ -82,9 +82,10 @@ def version():
 
 
 def metadata():
-    head = (f"Metadata-Version: 2.1\nName: spop\nVersion: {version()}\nSummary: Frames between HAProxy and its agents, read and written"
-            " by a proved library\nRequires-Python: >=3.9\nDescription-Content-Type: text/markdown\n\n")
-    return head.encode() + (HERE / "README.md").read_bytes()
+    lines = ["Metadata-Version: 2.1", "Name: spop", f"Version: {version()}",
+             "Summary: Frames between HAProxy and its agents, read and written by a proved library",
+             "Requires-Python: >=3.9", "Description-Content-Type: text/markdown", "", ""]
+    return "\n".join(lines).encode() + (HERE / "README.md").read_bytes()
 
 
 def write_wheel(folder, files, library):

@@ -1,6 +1,8 @@
-"""Run by `python3 -m unittest` in bindings/python, on the library that SPOP_LIBRARY names, or else that of SPOP_NATIVE or target/native.
+"""Run by `python3 -m unittest` in bindings/python, on the library that SPOP_LIBRARY names, else the one in SPOP_NATIVE or in
+target/native.
 
-unittest imports the packages that it finds in the order of their names, so this one, which says where the library is, comes before spop.
+unittest imports the packages that it finds in the order of their names, so this one, which says where the library is, comes before
+spop.
 """
 import os
 from pathlib import Path

@@ -70,7 +70,8 @@ class Refusals(unittest.TestCase):
         self.assert_untouched(0)
         self.assertEqual(11, spop._lib.spop_write_value((c_uint64 * 4)(3, 240, 0, 0), b"", 0, self.out, 2, self.at))
         self.assert_untouched(0)
-        self.assertEqual(11, spop._lib.spop_write_actions(True, False, 0, 0, 99, b"", 0, (c_uint64 * 8)(), 0, 0, self.out, 8, self.at))
+        none = (c_uint64 * 8)()
+        self.assertEqual(11, spop._lib.spop_write_actions(True, False, 0, 0, 99, b"", 0, none, 0, 0, self.out, 8, self.at))
         self.assert_untouched(0)
 
     def test_outside(self):
@@ -85,7 +86,8 @@ class Refusals(unittest.TestCase):
 
     def test_runs_of_arguments(self):
         message, pair = (c_uint64 * 4)(0, 0, 1, 0), (c_uint64 * 6)()
-        self.assertEqual(14, spop._lib.spop_write_notify(True, False, 0, 0, 99, b"", 0, message, 4, 1, pair, 6, 1, self.out, 8, self.at))
+        self.assertEqual(14, spop._lib.spop_write_notify(True, False, 0, 0, 99, b"", 0, message, 4, 1, pair, 6, 1, self.out, 8,
+                                                         self.at))
         self.assert_untouched(0)
 
     def assert_untouched(self, place):
@@ -101,8 +103,9 @@ class Loading(unittest.TestCase):
 
     def imported(self, **environment):
         """Imports the copied module, and answers where its library is, or the error's last line."""
+        environment.update(PATH=os.environ["PATH"], PYTHONDONTWRITEBYTECODE="1")
         run = subprocess.run([sys.executable, "-c", "import spop; print(spop._lib._name, spop.varint_len(240))"], cwd=self.folder,
-                             env={"PATH": os.environ["PATH"], "PYTHONDONTWRITEBYTECODE": "1", **environment}, capture_output=True, text=True)
+                             env=environment, capture_output=True, text=True)
         return (run.stdout or run.stderr).strip().split("\n")[-1]
 
     def test_the_one_that_is_named(self):
@@ -123,8 +126,8 @@ class Loading(unittest.TestCase):
 
     def test_none(self):
         said = self.imported(LD_LIBRARY_PATH=str(self.folder))
-        self.assertRegex(said, r"^ImportError: spop: the library libspop\.so\.0 cannot be used \(SPOP_LIBRARY is not set, and there is no "
-                               rf"{self.folder}/spop/libspop\.so\): .*No such file")
+        self.assertRegex(said, r"^ImportError: spop: the library libspop\.so\.0 cannot be used \(SPOP_LIBRARY is not set, and there"
+                               rf" is no {self.folder}/spop/libspop\.so\): .*No such file")
 
     def test_the_named_one_is_not_there(self):
         shutil.copy(self.library, self.folder / "spop/libspop.so")
@@ -133,7 +136,8 @@ class Loading(unittest.TestCase):
 
     def test_another_library_and_no_library(self):
         other = re.search(r"/\S*/libc[.-]\S*so\S*", Path("/proc/self/maps").read_text()).group()
-        self.assertRegex(self.imported(SPOP_LIBRARY=other), rf"^ImportError: spop: the library {re.escape(other)} .*spop_varint_len")
+        self.assertRegex(self.imported(SPOP_LIBRARY=other),
+                         rf"^ImportError: spop: the library {re.escape(other)} .*spop_varint_len")
         (self.folder / "spop/libspop.so").write_text("text")
         self.assertRegex(self.imported(), r"^ImportError: spop: the library .*it stands beside the module")
 

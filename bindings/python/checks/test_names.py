@@ -47,7 +47,8 @@ class Names(unittest.TestCase):
 
     def test_kinds_are_those_of_the_rules(self):
         rows = re.findall(r"^\| (\d) \| (\w+) \| (?:nothing|a number|\d+ bytes|a length)", RULES, re.M)
-        self.assertEqual({name.upper(): int(number) for number, name in rows}, {member.name: member.value for member in spop.Kind})
+        self.assertEqual({name.upper(): int(number) for number, name in rows},
+                         {member.name: member.value for member in spop.Kind})
 
     def test_scopes_are_those_of_the_rules(self):
         line = re.search(r"^Scopes are (.*)\.$", RULES, re.M).group(1)

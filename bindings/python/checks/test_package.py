@@ -53,10 +53,10 @@ class Package(unittest.TestCase):
         with named(library):
             return self.folder / getattr(self.backend, how)(str(self.folder))
 
-    def imported(self, path, **environment):
+    def imported(self, path):
+        environment = {"PATH": os.environ["PATH"], "PYTHONDONTWRITEBYTECODE": "1", "PYTHONPATH": str(path)}
         run = subprocess.run([sys.executable, "-c", "import spop; print(spop.__file__, spop.encode_varint(2288).hex())"], cwd="/",
-                             env={"PATH": os.environ["PATH"], "PYTHONDONTWRITEBYTECODE": "1", "PYTHONPATH": str(path), **environment},
-                             capture_output=True, text=True)
+                             env=environment, capture_output=True, text=True)
         return run.stdout.split() or run.stderr
 
     def test_what_is_in_it(self):
@@ -64,8 +64,8 @@ class Package(unittest.TestCase):
         self.assertRegex(wheel.name, rf"^spop-{spop.__version__}-py3-none-linux_(x86_64|aarch64)\.whl$")
         with zipfile.ZipFile(wheel) as files:
             info = f"spop-{spop.__version__}.dist-info"
-            self.assertEqual(["spop/__init__.py", "spop/_calls.py", "spop/py.typed", "spop/libspop.so", f"{info}/METADATA", f"{info}/WHEEL",
-                              f"{info}/licenses/NOTICE", f"{info}/RECORD"], files.namelist())
+            self.assertEqual(["spop/__init__.py", "spop/_calls.py", "spop/py.typed", "spop/libspop.so", f"{info}/METADATA",
+                              f"{info}/WHEEL", f"{info}/licenses/NOTICE", f"{info}/RECORD"], files.namelist())
             self.assertEqual(LIBRARY.read_bytes(), files.read("spop/libspop.so"))
             self.assertEqual((TOP / "NOTICE").read_bytes(), files.read(f"{info}/licenses/NOTICE"))
             self.assertIn(f"Name: spop\nVersion: {spop.__version__}\n", files.read(f"{info}/METADATA").decode())
@@ -82,8 +82,8 @@ class Package(unittest.TestCase):
         self.assertEqual([path, "", ""], lines[-1])
 
     def test_every_source_is_in_it(self):
-        self.assertEqual(sorted(path.name for path in (HERE / "spop").iterdir() if path.name not in ("__pycache__", "libspop.so")),
-                         sorted(self.backend.SOURCES))
+        there = {path.name for path in (HERE / "spop").iterdir()} - {"__pycache__", "libspop.so"}
+        self.assertEqual(there, set(self.backend.SOURCES))
 
     def test_it_runs_where_it_is_unpacked(self):
         with zipfile.ZipFile(self.build()) as files:
@@ -115,7 +115,7 @@ class Package(unittest.TestCase):
         self.assertRegex(self.build(other).name, r"linux_aarch64\.whl$")
 
     def test_the_library_is_not_built(self):
-        with self.assertRaisesRegex(SystemExit, r"^spop: the library is not built: there is neither .*target/native/libspop\.so nor "):
+        with self.assertRaisesRegex(SystemExit, r"^spop: the library is not built: there is neither .*/native/libspop\.so nor "):
             self.build(None)
         with self.assertRaisesRegex(SystemExit, r"SPOP_LIBRARY names /none\.so, which is no file"):
             self.build("/none.so")

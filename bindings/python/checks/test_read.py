@@ -37,7 +37,8 @@ class Frames(unittest.TestCase):
     def test_every_kind_as_a_plain_value(self):
         contents = [(0, None, None), (1, 0, False), (1, 1, True), (2, -5, -5), (3, 2**32 - 1, 2**32 - 1), (4, -2**63, -2**63),
                     (5, 2**64 - 1, 2**64 - 1), (6, b"\x7f\0\0\1", IPv4Address("127.0.0.1")),
-                    (7, 15 * b"\0" + b"\1", IPv6Address("::1")), (8, "é".encode(), "é"), (8, b"\xe9", "\ufffd"), (9, b"\xe9", b"\xe9")]
+                    (7, 15 * b"\0" + b"\1", IPv6Address("::1")), (8, "é".encode(), "é"), (8, b"\xe9", "\ufffd"),
+                    (9, b"\xe9", b"\xe9")]
         data = plain.frame(3, 0, 0, plain.message(b"m", *[plain.pair(b"k", kind, content) for kind, content, _ in contents]))
         read = spop.read_frame(data).messages[0].arguments
         self.assertEqual([(Kind(kind), value) for kind, _, value in contents], [(pair.kind, pair.value) for pair in read])
@@ -45,11 +46,11 @@ class Frames(unittest.TestCase):
             self.assertIsInstance(pair.value, type(value))
 
     def test_messages_keep_their_own_arguments(self):
-        data = plain.frame(3, 7, 8, plain.message(b"m", plain.pair(b"a", 3, 1), plain.pair(b"b", 0, None, 15)), plain.message(b""),
-                           plain.message(b"m", plain.pair(b"a", 3, 1)))
+        data = plain.frame(3, 7, 8, plain.message(b"m", plain.pair(b"a", 3, 1), plain.pair(b"b", 0, None, 15)),
+                           plain.message(b""), plain.message(b"m", plain.pair(b"a", 3, 1)))
         a, b = Pair("a", 1, Kind.U32, 0), Pair("b", None, Kind.NULL, 15)
-        self.assertEqual(Frame(FrameType.NOTIFY, 1, 7, 8, len(data), [Message("m", [a, b]), Message("", []), Message("m", [a])], [a, b, a]),
-                         spop.read_frame(data))
+        messages = [Message("m", [a, b]), Message("", []), Message("m", [a])]
+        self.assertEqual(Frame(FrameType.NOTIFY, 1, 7, 8, len(data), messages, [a, b, a]), spop.read_frame(data))
 
     def test_a_kv_list(self):
         data = plain.frame(1, 0, 0, plain.pair(b"supported-versions", 8, b"2.0"), plain.pair(b"max-frame-size", 3, 16380),
@@ -63,14 +64,15 @@ class Frames(unittest.TestCase):
     def test_names_and_keys_keep_their_bytes(self):
         frame = spop.read_frame(plain.frame(3, 0, 0, plain.message(b"m\xff", plain.pair(b"k\xfe", 8, b"v\xfd"))))
         pair = frame.pairs[0]
-        self.assertEqual((b"m\xff", b"k\xfe", b"v\xfd", b"v\xfd"), (frame.messages[0].name.raw, pair.key.raw, pair.value.raw, pair.raw))
+        self.assertEqual((b"m\xff", b"k\xfe", b"v\xfd", b"v\xfd"),
+                         (frame.messages[0].name.raw, pair.key.raw, pair.value.raw, pair.raw))
 
     def test_as_many_messages_and_pairs_as_there_are(self):
         for count in (63, 64, 65, 511, 512, 513, 5000):
             self.assert_all_read(plain.frame(3, 0, 0, count * plain.message(b"")), count, 0)
             full, rest = divmod(count, 255)
-            self.assert_all_read(plain.frame(3, 0, 0, full * plain.message(b"", *255 * [b"\0\0"]), plain.message(b"", *rest * [b"\0\0"])),
-                                 full + 1, count)
+            messages = full * plain.message(b"", *255 * [b"\0\0"]) + plain.message(b"", *rest * [b"\0\0"])
+            self.assert_all_read(plain.frame(3, 0, 0, messages), full + 1, count)
             self.assert_all_read(plain.frame(1, 0, 0, *[plain.pair(b"%d" % k, 0, None) for k in range(count)]), 0, count)
 
     def assert_all_read(self, data, messages, pairs):

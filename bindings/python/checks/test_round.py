@@ -75,8 +75,8 @@ class Rounds(unittest.TestCase):
         for _ in range(ROUNDS):
             data, _, ids = self.some_notify(chance, some_text, flags=False)
             frame = spop.read_frame(data)
-            self.assertEqual(data, spop.write_notify(*ids, [
-                (message.name, [(pair.key, pair.value) for pair in message.arguments]) for message in frame.messages], spop.MAX_FRAME))
+            messages = [(message.name, [(pair.key, pair.value) for pair in message.arguments]) for message in frame.messages]
+            self.assertEqual(data, spop.write_notify(*ids, messages, spop.MAX_FRAME))
 
     def test_kv_frames(self):
         chance = random.Random(3)
@@ -134,9 +134,12 @@ class Rounds(unittest.TestCase):
         self.assertEqual([], wrong)
 
     def some_notify(self, chance, text, flags=True):
-        messages = [(text(chance), some_pairs(chance, text, chance.choice((0, 1, 4, 9)))) for _ in range(chance.choice((0, 1, 1, 2, 5)))]
-        if not flags:
-            messages = [(name, [(key, kind, content, 0, value) for key, kind, content, _, value in pairs]) for name, pairs in messages]
+        messages = []
+        for _ in range(chance.choice((0, 1, 1, 2, 5))):
+            pairs = some_pairs(chance, text, chance.choice((0, 1, 4, 9)))
+            if not flags:
+                pairs = [(key, kind, content, 0, value) for key, kind, content, _, value in pairs]
+            messages.append((text(chance), pairs))
         ids = chance.choice((0, 1, 240, chance.randrange(2**64))), chance.choice((0, 1, 2**64 - 1))
         return plain.frame(3, *ids, *[plain.message(name, *bytes_of(pairs)) for name, pairs in messages]), messages, ids
 

@@ -47,7 +47,8 @@ class Streams(unittest.TestCase):
         for source in (ALL, bytearray(ALL), memoryview(ALL), io.BytesIO(ALL), *[kind(ALL, size) for kind in (Receiving, Reading)
                                                                                 for size in (1, 2, 3, 5, 59, 1000)]):
             reader = spop.frames(source)
-            self.assertEqual([(1, 0, len(HELLO)), (3, 1, 59), (3, 2, len(EMPTY))], [(f.type, f.stream_id, f.used) for f in reader])
+            self.assertEqual([(1, 0, len(HELLO)), (3, 1, 59), (3, 2, len(EMPTY))],
+                             [(frame.type, frame.stream_id, frame.used) for frame in reader])
             self.assertEqual(len(ALL), reader.offset)
             self.assertEqual([], list(reader))
 

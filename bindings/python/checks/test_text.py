@@ -24,8 +24,8 @@ class Texts(unittest.TestCase):
         short = itertools.chain.from_iterable(itertools.product(range(256), repeat=length) for length in range(3))
         long = itertools.chain.from_iterable(itertools.product(FIRSTS, *[EDGES] * length) for length in (2, 3))
         for data in map(bytes, itertools.chain(short, long)):
-            lossy = plain.lossy(data)
-            if plain.is_utf8(data) != spop.is_utf8(data) or lossy != spop.lossy_text(data).encode() or lossy != spop.Text(data).encode():
+            expected = plain.is_utf8(data), plain.lossy(data), plain.lossy(data)
+            if expected != (spop.is_utf8(data), spop.lossy_text(data).encode(), spop.Text(data).encode()):
                 self.fail(data.hex())
 
     def test_the_same_text(self):
@@ -38,7 +38,8 @@ class Texts(unittest.TestCase):
         self.assertFalse(spop.same_text(b"", b"\x00"))
 
     def test_bytes_are_asked_for(self):
-        for call in (spop.is_utf8, spop.lossy_text, lambda text: spop.same_text(text, b""), lambda text: spop.same_text(b"", text)):
+        for call in (spop.is_utf8, spop.lossy_text, lambda text: spop.same_text(text, b""),
+                     lambda text: spop.same_text(b"", text)):
             with self.assertRaises(TypeError):
                 call("text")
 

@@ -54,7 +54,8 @@ class Values(unittest.TestCase):
     def test_an_int_that_is_out_of_range(self):
         for width in (I32, U32, I64, U64):
             for number in (width.least - 1, width.most + 1):
-                with self.assertRaisesRegex(ValueError, f"{number} is no {width.__name__.lower()}: that has to be {width.least} to"):
+                said = f"{number} is no {width.__name__.lower()}: that has to be {width.least} to {width.most}"
+                with self.assertRaisesRegex(ValueError, said):
                     width(number)
                 with self.assertRaises(ValueError):
                     spop.write_value(Value(number, width.kind))
@@ -73,8 +74,8 @@ class Values(unittest.TestCase):
         self.assertEqual(("3", "3", 4, int), (str(U32(3)), f"{U32(3)}", U32(3) + 1, type(U32(3) + 1)))
 
     def test_each_kind_takes_its_own_values_alone(self):
-        samples = {Kind.NULL: None, Kind.BOOL: True, Kind.I32: 1, Kind.U32: 1, Kind.I64: 1, Kind.U64: 1, Kind.IPV4: V4, Kind.IPV6: V6,
-                   Kind.STRING: "1", Kind.BINARY: b"1"}
+        samples = {Kind.NULL: None, Kind.BOOL: True, Kind.I32: 1, Kind.U32: 1, Kind.I64: 1, Kind.U64: 1, Kind.IPV4: V4,
+                   Kind.IPV6: V6, Kind.STRING: "1", Kind.BINARY: b"1"}
         for kind in Kind:
             for other, value in samples.items():
                 taken = other == kind or {kind, other} <= {Kind.I32, Kind.U32, Kind.I64, Kind.U64}
@@ -106,8 +107,8 @@ class Values(unittest.TestCase):
                 self.assertEqual(written, spop.write_value(Value(content, Kind(kind), flags)))
 
     def test_worked_examples(self):
-        for written, value in (("02f0f1fefe7e", Value(0, Kind.I32)), ("21", Value(False, Kind.BOOL)), ("f1", Value(True, Kind.BOOL)),
-                               ("f0", Value(None, Kind.NULL, 15)), ("2307", Value(7, Kind.U32, 2))):
+        for written, value in (("02f0f1fefe7e", Value(0, Kind.I32)), ("21", Value(False, Kind.BOOL)),
+                               ("f1", Value(True, Kind.BOOL)), ("f0", Value(None, Kind.NULL, 15)), ("2307", Value(7, Kind.U32, 2))):
             self.assertEqual((value, len(written) // 2), spop.typed_data(bytes.fromhex(written)))
 
     def test_refusals_of_reading(self):
@@ -142,8 +143,8 @@ class Values(unittest.TestCase):
         self.assert_refused(8, 3, spop.read_pair, b"\x01A\x0a")
 
     def test_the_bytes_of_a_pair(self):
-        for kind, content, raw in ((0, None, b""), (1, True, b""), (3, 5, b""), (6, V4.packed, V4.packed), (7, V6.packed, V6.packed),
-                                   (8, b"caf\xe9", b"caf\xe9"), (9, b"\xff", b"\xff")):
+        for kind, content, raw in ((0, None, b""), (1, True, b""), (3, 5, b""), (6, V4.packed, V4.packed),
+                                   (7, V6.packed, V6.packed), (8, b"caf\xe9", b"caf\xe9"), (9, b"\xff", b"\xff")):
             pair, _ = spop.read_pair(plain.pair(b"k\xff", kind, content))
             self.assertEqual((raw, b"k\xff", "k\ufffd"), (pair.raw, pair.key.raw, pair.key))
             self.assertEqual(Value(pair.value, pair.kind, pair.flags), pair.typed)

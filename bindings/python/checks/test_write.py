@@ -11,16 +11,18 @@ SLOTS = [("slot", U32(3)), ("delay", I64(1250)), ("slot", U32(17)), ("delay", I6
 
 class Writers(unittest.TestCase):
     def test_a_notify(self):
-        as_pairs = [Pair("slot", 3, Kind.U32), Pair("delay", 1250, Kind.I64), Pair("slot", 17, Kind.U32), Pair("delay", -730, Kind.I64)]
+        as_pairs = [Pair("slot", 3, Kind.U32), Pair("delay", 1250, Kind.I64), Pair("slot", 17, Kind.U32),
+                    Pair("delay", -730, Kind.I64)]
         for arguments in (SLOTS, as_pairs, iter(SLOTS), [[b"slot", U32(3)], (b"delay", 1250), *SLOTS[2:]]):
             self.assertEqual(UPLOAD, spop.write_notify(1, 1, [("upload", arguments)]))
         self.assertEqual(UPLOAD, spop.write_notify(1, 1, iter([Message("upload", as_pairs)])))
 
     def test_a_notify_of_several_messages(self):
         self.assertEqual(
-            plain.frame(3, 2**64 - 1, 240, plain.message(b"m", plain.pair(b"a", 1, 1), plain.pair(b"a", 8, b"x")), plain.message(b""),
-                        plain.message("é".encode(), plain.pair(b"b", 9, b"\xff", 15))),
-            spop.write_notify(2**64 - 1, 240, [("m", [("a", True), ("a", "x")]), ("", []), ("é", [("b", Value(b"\xff", Kind.BINARY, 15))])]))
+            plain.frame(3, 2**64 - 1, 240, plain.message(b"m", plain.pair(b"a", 1, 1), plain.pair(b"a", 8, b"x")),
+                        plain.message(b""), plain.message("é".encode(), plain.pair(b"b", 9, b"\xff", 15))),
+            spop.write_notify(2**64 - 1, 240, [("m", [("a", True), ("a", "x")]), ("", []),
+                                               ("é", [("b", Value(b"\xff", Kind.BINARY, 15))])]))
         self.assertEqual(plain.frame(3, 0, 0), spop.write_notify(0, 0, []))
 
     def test_an_exchange_is_another_frame(self):
@@ -28,7 +30,8 @@ class Writers(unittest.TestCase):
 
     def test_an_ack(self):
         written = bytes.fromhex("000000206700000001" "0102" "01030206" "736c6f745f61" "0307" "01030206" "736c6f745f62" "03fc03")
-        self.assertEqual(written, spop.write_ack(1, 2, [SetVar(Scope.TRANSACTION, "slot_a", U32(7)), SetVar(2, "slot_b", U32(300))]))
+        actions = [SetVar(Scope.TRANSACTION, "slot_a", U32(7)), SetVar(2, "slot_b", U32(300))]
+        self.assertEqual(written, spop.write_ack(1, 2, actions))
 
     def test_an_ack_of_every_scope_and_both_actions(self):
         actions = [action for scope in Scope for action in (SetVar(scope, "v", Value(None, Kind.NULL, 3)), UnsetVar(scope, b"w"))]
@@ -49,8 +52,8 @@ class Writers(unittest.TestCase):
     def test_a_disconnect(self):
         written = bytes.fromhex("000000256600000001" "0000" "0b7374617475732d636f64650300" "076d65737361676508066e6f726d616c")
         self.assertEqual(written, spop.write_disconnect())
-        self.assertEqual(plain.frame(102, 0, 0, plain.pair(b"status-code", 3, 2), plain.pair(b"message", 8, b"a timeout occurred")),
-                         spop.write_disconnect(2, "a timeout occurred"))
+        items = plain.pair(b"status-code", 3, 2), plain.pair(b"message", 8, b"a timeout occurred")
+        self.assertEqual(plain.frame(102, 0, 0, *items), spop.write_disconnect(2, "a timeout occurred"))
 
     def test_a_kv_list_with_any_flags_and_ids(self):
         pairs = [("version", "2.0"), Pair("healthcheck", False, Kind.BOOL)]
@@ -93,7 +96,8 @@ class Refusals(unittest.TestCase):
         self.assert_refused(14, 1, spop.write_ack, 1, 1, [SetVar(4, "v", 1), SetVar(5, "v", 1)])
         self.assert_refused(14, 0, spop.write_ack, 1, 1, [UnsetVar(2**64 - 1, "v")])
         self.assert_refused(14, 1, spop.write_kv, 1, [("a", 1), Pair("b", True, Kind.BOOL, 1)])
-        self.assert_refused(14, 2, spop.write_notify, 1, 1, [("m", [("a", 1)]), ("m", [("a", 1), Pair("b", None, Kind.NULL, 16)])])
+        messages = [("m", [("a", 1)]), ("m", [("a", 1), Pair("b", None, Kind.NULL, 16)])]
+        self.assert_refused(14, 2, spop.write_notify, 1, 1, messages)
 
     def test_texts(self):
         for bad in (b"\xff", "\ud800", Text(b"caf\xe9")):
@@ -115,7 +119,8 @@ class Refusals(unittest.TestCase):
 
 class WrongWays(unittest.TestCase):
     def test_ids_and_limits_that_ctypes_would_cut(self):
-        for call in (lambda *ids, **more: spop.write_notify(*ids, [], **more), lambda *ids, **more: spop.write_ack(*ids, [], **more),
+        for call in (lambda *ids, **more: spop.write_notify(*ids, [], **more),
+                     lambda *ids, **more: spop.write_ack(*ids, [], **more),
                      lambda *ids, **more: spop.write_kv(1, [], *ids, **more)):
             for ids in ((-1, 0), (2**64, 0), (0, -1), (0, 2**64)):
                 with self.assertRaisesRegex(ValueError, "_id has to be"):
@@ -138,16 +143,18 @@ class WrongWays(unittest.TestCase):
                 call()
 
     def test_what_is_no_message(self):
-        for messages, said in ((("upload", SLOTS), "a message is .*, and not str"), ([("upload",)], "not of 1 parts"), ("up", "and not str"),
-                               ([("upload", SLOTS, 1)], "not of 3 parts"), ([5], "and not int"), ([(5, SLOTS)], "a name .*, and not int"),
-                               ([("upload", "slot")], "arguments are a list"), ([("upload", 5)], "not iterable"), (5, "not iterable")):
+        for messages, said in ((("upload", SLOTS), "a message is .*, and not str"), ([("upload",)], "not of 1 parts"),
+                               ("up", "and not str"), ([("upload", SLOTS, 1)], "not of 3 parts"), ([5], "and not int"),
+                               ([(5, SLOTS)], "a name .*, and not int"), ([("upload", "slot")], "arguments are a list"),
+                               ([("upload", 5)], "not iterable"), (5, "not iterable")):
             with self.assertRaisesRegex(TypeError, said):
                 spop.write_notify(0, 0, messages)
 
     def test_what_is_no_argument(self):
-        for arguments, said in ((("slot", 3), "an argument is .*, and not str"), ([("slot",)], "not of 1 parts"), (["ab"], "and not str"),
-                                ([("slot", 3, Kind.U32)], "not of 3 parts"), ([(3, "slot")], "a key .*, and not int"),
-                                ([("slot", 1.5)], "and not float"), ([("slot", Pair("slot", 3, Kind.U32))], "and not Pair")):
+        for arguments, said in ((("slot", 3), "an argument is .*, and not str"), ([("slot",)], "not of 1 parts"),
+                                (["ab"], "and not str"), ([("slot", 3, Kind.U32)], "not of 3 parts"),
+                                ([(3, "slot")], "a key .*, and not int"), ([("slot", 1.5)], "and not float"),
+                                ([("slot", Pair("slot", 3, Kind.U32))], "and not Pair")):
             with self.assertRaisesRegex(TypeError, said):
                 spop.write_notify(0, 0, [("upload", arguments)])
             with self.assertRaisesRegex(TypeError, said):

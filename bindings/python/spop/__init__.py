@@ -5,26 +5,28 @@
             for pair in message.arguments:
                 print(pair.key, pair.value)
 
-Messages, arguments and actions keep their order. A call answers a value, or raises Refused with the library's number, place and text, or
-Incomplete with the count of bytes that are missing. What is wrong with a Python value before the library sees it is a TypeError or a
-ValueError. No call keeps any state, so threads need no lock.
+Messages, arguments and actions keep their order. A call answers a value, or raises Refused with the library's number, place and
+text, or Incomplete with the count of bytes that are missing. What is wrong with a Python value before the library sees it is a
+TypeError or a ValueError. No call keeps any state, so threads need no lock.
 """
 import io
 import operator
 from ctypes import c_uint8, c_uint64, string_at
 from enum import IntEnum
 from ipaddress import IPv4Address, IPv6Address
-from typing import (Any, Callable, ClassVar, Dict, Iterable, Iterator, List, Mapping, NamedTuple, Optional, Sequence, Tuple, Type, Union)
+from typing import (Any, Callable, ClassVar, Dict, Iterable, Iterator, List, Mapping, NamedTuple, Optional, Sequence, Tuple, Type,
+                    Union)
 
 from . import _calls
 
 __version__ = "0.1.0"
 __all__ = [
-    "AGREED_FRAME", "Action", "Error", "Flag", "Frame", "FrameType", "Frames", "I32", "I64", "Incomplete", "Kind", "MAX_FRAME", "Message",
-    "MessageRecord", "Pair", "PairRecord", "Records", "Refusal", "Refused", "Scope", "SetVar", "Text", "U32", "U64", "UnsetVar", "Value",
-    "check_value", "decode_varint", "encode_varint", "frames", "is_utf8", "kind_of", "lossy_text", "negotiate_max_frame_size",
-    "negotiate_version", "read_frame", "read_frame_records", "read_pair", "refusal_text", "same_text", "typed_data", "value_len",
-    "varint_len", "write_ack", "write_disconnect", "write_hello", "write_kv", "write_notify", "write_value",
+    "AGREED_FRAME", "Action", "Error", "Flag", "Frame", "FrameType", "Frames", "I32", "I64", "Incomplete", "Kind", "MAX_FRAME",
+    "Message", "MessageRecord", "Pair", "PairRecord", "Records", "Refusal", "Refused", "Scope", "SetVar", "Text", "U32", "U64",
+    "UnsetVar", "Value", "check_value", "decode_varint", "encode_varint", "frames", "is_utf8", "kind_of", "lossy_text",
+    "negotiate_max_frame_size", "negotiate_version", "read_frame", "read_frame_records", "read_pair", "refusal_text",
+    "same_text", "typed_data", "value_len", "varint_len", "write_ack", "write_disconnect", "write_hello", "write_kv",
+    "write_notify", "write_value",
 ]
 
 _lib = _calls.load()
@@ -144,9 +146,10 @@ class Error(Exception):
 class Refused(Error):
     """The library's refusal: its `number`, `place` and `text`.
 
-    The place counts bytes from the first one that was lent, or is the index of a record: in a NOTIFY that is to be written an argument's
-    counts over all messages. A frame that was refused while it was read has in `skip` how many bytes it has with its length bytes: the
-    next one is so much further. From `frames` it has its bytes in `frame`; of one that is over the limit these are the length bytes.
+    The place counts bytes from the first one that was lent, or is the index of a record: in a NOTIFY that is to be written an
+    argument's counts over all messages. A frame that was refused while it was read has in `skip` how many bytes it has with its
+    length bytes: the next one is so much further. From `frames` it has its bytes in `frame`; of one that is over the limit these are
+    the length bytes.
     """
 
     def __init__(self, number: int, place: int, text: Optional[str] = None) -> None:
@@ -282,7 +285,7 @@ def _signed(number: int) -> int:
     return number - 2**64 if number >> 63 else number
 
 
-# What the value of each kind is, of the bytes that were read and its a and b. The numbers are in range, so the widths need not test it.
+# The value of each kind, from the bytes that were read and its a and b. Numbers are in range, so the widths need not test it.
 _READ: Tuple[Callable[[bytes, int, int], Plain], ...] = (
     lambda lent, a, b: None,
     lambda lent, a, b: a == 1,
@@ -301,11 +304,11 @@ _KINDS = tuple(Kind)
 class Pair(NamedTuple):
     """An argument of a message, or an item of a KV list.
 
-    `value` is a plain value: None, bool, int (an I32, U32, I64 or U64, which keeps its width), str (a Text), bytes, IPv4Address or
-    IPv6Address.
+    `value` is a plain value: None, bool, int (an I32, U32, I64 or U64, which keeps its width), str (a Text), bytes, IPv4Address
+    or IPv6Address.
     """
 
-    key: str
+    key: Text
     value: Plain
     kind: Kind
     flags: int = 0
@@ -365,7 +368,7 @@ def _tell(number: int, place: int) -> None:
 # Reading
 
 class Message(NamedTuple):
-    name: str
+    name: Text
     arguments: List[Pair]
 
 
@@ -413,12 +416,13 @@ class Records(NamedTuple):
     pairs: List[PairRecord]
 
 
-def read_frame(data: Buffer, limit: int = MAX_FRAME, *, max_messages: Optional[int] = None, max_pairs: Optional[int] = None) -> Frame:
+def read_frame(data: Buffer, limit: int = MAX_FRAME, *, max_messages: Optional[int] = None,
+               max_pairs: Optional[int] = None) -> Frame:
     """Reads the frame at the front of the bytes, one that HAProxy sends. Bytes behind it are not looked at.
 
-    The limit is the most that its length bytes may say. There is room for all that a frame can have, unless the keywords ask for less:
-    then one with more is refused with 10. In a KV list each key is compared with those before it, so its time grows with the square of
-    their count, which max_pairs bounds.
+    The limit is the most that its length bytes may say. There is room for all that a frame can have, unless the keywords ask for
+    less: then one with more is refused with 10. In a KV list each key is compared with those before it, so its time grows with the
+    square of their count, which max_pairs bounds.
     """
     lent = _lent(data)
     head, messages, numbers, used = _read(_lib.spop_read_frame, lent, limit, max_messages, max_pairs, _NUMBERS, 6)
@@ -472,8 +476,8 @@ def _read(call: Any, lent: bytes, limit: int, max_messages: Optional[int], max_p
 class Frames(Iterator[Frame]):
     """The frames of a stream, one after the other; `offset` is where the next one starts, counted from where the reading began.
 
-    It takes no byte from the stream beyond the frame that it gives. It can go on after each exception: after Refused with the next
-    frame, and else, such as after a timeout, with what is missing of this one.
+    It takes no byte from the stream beyond the frame that it gives. It can go on after each exception: after Refused with the
+    next frame, and else, such as after a timeout, with what is missing of this one.
     """
 
     def __init__(self, source: Any, limit: int = MAX_FRAME, *, max_messages: Optional[int] = None,
@@ -544,7 +548,7 @@ class Frames(Iterator[Frame]):
 def frames(source: Any, limit: int = MAX_FRAME, *, max_messages: Optional[int] = None, max_pairs: Optional[int] = None) -> Frames:
     """The frames of bytes, or of a stream: a socket, or what else has recv(count) or read(count). It may give them in any parts.
 
-    Raises Incomplete where the stream ends inside a frame, and Refused for a frame that is refused; a further next() goes on behind it.
+    Raises Incomplete where the stream ends inside a frame, and Refused for one that is refused; the next one comes with next().
     """
     return Frames(source, limit, max_messages=max_messages, max_pairs=max_pairs)
 
@@ -595,7 +599,8 @@ def write_notify(stream_id: int, frame_id: int, messages: Messages, limit: int =
         first = len(pair_numbers) // 6
         pair_numbers += _pairs(arguments, pool)
         message_numbers += [*_put(_name_bytes(name), pool), first, len(pair_numbers) // 6 - first]
-    return _write(_lib.spop_write_notify, [True, False, *_ids(stream_id, frame_id)], limit, pool, (message_numbers, 4), (pair_numbers, 6))
+    head = [True, False, *_ids(stream_id, frame_id)]
+    return _write(_lib.spop_write_notify, head, limit, pool, (message_numbers, 4), (pair_numbers, 6))
 
 
 def write_ack(stream_id: int, frame_id: int, actions: Iterable[Union[SetVar, UnsetVar]], limit: int = AGREED_FRAME) -> bytes:
@@ -604,13 +609,15 @@ def write_ack(stream_id: int, frame_id: int, actions: Iterable[Union[SetVar, Uns
     numbers: List[int] = []
     for action in _items("actions", actions):
         numbers += _action(action, pool)
-    return _write(_lib.spop_write_actions, [True, False, *_ids(stream_id, frame_id)], limit, pool, (numbers, 8))
+    head = [True, False, *_ids(stream_id, frame_id)]
+    return _write(_lib.spop_write_actions, head, limit, pool, (numbers, 8))
 
 
-def write_hello(max_frame_size: int = AGREED_FRAME, *, version: str = "2.0", capabilities: str = "", limit: int = AGREED_FRAME) -> bytes:
+def write_hello(max_frame_size: int = AGREED_FRAME, *, version: str = "2.0", capabilities: str = "",
+                limit: int = AGREED_FRAME) -> bytes:
     """An AGENT-HELLO frame with its three items: version, max-frame-size and capabilities."""
-    return write_kv(FrameType.AGENT_HELLO, [("version", version), ("max-frame-size", U32(max_frame_size)), ("capabilities", capabilities)],
-                    limit=limit)
+    items: List[Argument] = [("version", version), ("max-frame-size", U32(max_frame_size)), ("capabilities", capabilities)]
+    return write_kv(FrameType.AGENT_HELLO, items, limit=limit)
 
 
 def write_disconnect(status_code: int = 0, message: str = "normal", limit: int = AGREED_FRAME) -> bytes:
@@ -618,8 +625,8 @@ def write_disconnect(status_code: int = 0, message: str = "normal", limit: int =
     return write_kv(FrameType.AGENT_DISCONNECT, [("status-code", U32(status_code)), ("message", message)], limit=limit)
 
 
-def write_kv(type: int, pairs: Iterable[Argument], stream_id: int = 0, frame_id: int = 0, *, fin: bool = True, abort: bool = False,
-             limit: int = AGREED_FRAME) -> bytes:
+def write_kv(type: int, pairs: Iterable[Argument], stream_id: int = 0, frame_id: int = 0, *, fin: bool = True,
+             abort: bool = False, limit: int = AGREED_FRAME) -> bytes:
     """A frame of a KV list: a HELLO or a DISCONNECT. Those of an agent have FIN alone and both ids 0."""
     pool = bytearray()
     numbers = _pairs(pairs, pool)
@@ -628,7 +635,7 @@ def write_kv(type: int, pairs: Iterable[Argument], stream_id: int = 0, frame_id:
 
 
 def _write(call: Any, head: List[Any], limit: int, pool: bytearray, *tables: Tuple[List[int], int]) -> bytes:
-    """Calls a writer of frames with tables of numbers, each with its record's width, and room for the longest frame they can make."""
+    """Calls a writer with tables of numbers, each with its record's width, and room for the longest frame that they can make."""
     limit = _whole("limit", limit, 32)
     words: List[Any] = []
     for numbers, width in tables:
@@ -807,8 +814,10 @@ def negotiate_max_frame_size(theirs: int, ours: int) -> int:
 
 def negotiate_version(versions: Iterable[Tuple[int, int, int]]) -> Optional[Tuple[int, int, int]]:
     """(2, 0, 0) where one of the announced versions, each (major, minor, patch), has the major number 2; else None."""
-    numbers = [_whole("a version's number", part, 64)
-               for version in _items("versions", versions) for part in _parts("a version is (major, minor, patch)", version, (3,))]
+    numbers: List[int] = []
+    for announced in _items("versions", versions):
+        parts = _parts("a version is (major, minor, patch)", announced, (3,))
+        numbers += [_whole("a version's number", part, 64) for part in parts]
     version = (c_uint64 * 3)()
     if not _lib.spop_negotiate_version(_array(_NUMBERS, len(numbers))(*numbers), len(numbers), version):
         return None

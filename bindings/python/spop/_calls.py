@@ -1,7 +1,8 @@
 """The library's calls as ctypes has them, and the library.
 
-CALLS has a line for each prototype of include/spop.h, in the header's order and with its names. `const uint8_t *` is c_char_p, which lends
-a bytes object as it is; an array of fixed width is a pointer to that array, so that one of another width is no argument.
+CALLS has an entry for each prototype of include/spop.h, in the header's order and with its names. `const uint8_t *` is c_char_p,
+which lends a bytes object as it is; an array of fixed width is a pointer to that array, so that one of another width is no
+argument.
 """
 import os
 from ctypes import CDLL, POINTER, Structure, c_bool, c_char_p, c_size_t, c_uint8, c_uint32, c_uint64
@@ -17,7 +18,8 @@ class spop_pair(Structure):
 
 CALLS: Dict[str, Tuple[Any, List[Tuple[str, Any]]]] = {
     "spop_varint_len": (c_uint64, [("n", c_uint64)]),
-    "spop_encode_varint": (c_uint64, [("n", c_uint64), ("out", POINTER(c_uint8)), ("out_len", c_size_t), ("at", POINTER(c_uint64))]),
+    "spop_encode_varint": (c_uint64, [("n", c_uint64), ("out", POINTER(c_uint8)), ("out_len", c_size_t),
+                                      ("at", POINTER(c_uint64))]),
     "spop_decode_varint": (c_uint64, [("input", c_char_p), ("input_len", c_size_t), ("value", POINTER(c_uint64)),
                                       ("at", POINTER(c_uint64))]),
     "spop_is_utf8": (c_bool, [("bytes", c_char_p), ("len", c_size_t)]),
@@ -32,12 +34,13 @@ CALLS: Dict[str, Tuple[Any, List[Tuple[str, Any]]]] = {
                                     ("out", POINTER(c_uint8)), ("out_len", c_size_t), ("at", POINTER(c_uint64))]),
     "spop_read_pair": (c_uint64, [("input", c_char_p), ("input_len", c_size_t), ("pair", POINTER(c_uint64 * 6)),
                                   ("at", POINTER(c_uint64))]),
-    "spop_read_frame": (c_uint64, [("input", c_char_p), ("input_len", c_size_t), ("limit", c_uint32), ("messages", POINTER(c_uint64)),
-                                   ("messages_len", c_size_t), ("pairs", POINTER(c_uint64)), ("pairs_len", c_size_t),
-                                   ("head", POINTER(c_uint64 * 6)), ("at", POINTER(c_uint64))]),
+    "spop_read_frame": (c_uint64, [("input", c_char_p), ("input_len", c_size_t), ("limit", c_uint32),
+                                   ("messages", POINTER(c_uint64)), ("messages_len", c_size_t), ("pairs", POINTER(c_uint64)),
+                                   ("pairs_len", c_size_t), ("head", POINTER(c_uint64 * 6)), ("at", POINTER(c_uint64))]),
     "spop_read_frame_records": (c_uint64, [("input", c_char_p), ("input_len", c_size_t), ("limit", c_uint32),
-                                           ("messages", POINTER(c_uint64)), ("messages_len", c_size_t), ("pairs", POINTER(spop_pair)),
-                                           ("pairs_len", c_size_t), ("head", POINTER(c_uint64 * 6)), ("at", POINTER(c_uint64))]),
+                                           ("messages", POINTER(c_uint64)), ("messages_len", c_size_t),
+                                           ("pairs", POINTER(spop_pair)), ("pairs_len", c_size_t),
+                                           ("head", POINTER(c_uint64 * 6)), ("at", POINTER(c_uint64))]),
     "spop_write_kv": (c_uint64, [("type", c_uint64), ("fin", c_bool), ("abort", c_bool), ("stream_id", c_uint64),
                                  ("frame_id", c_uint64), ("limit", c_uint32), ("buffer", c_char_p), ("buffer_len", c_size_t),
                                  ("pairs", POINTER(c_uint64)), ("pairs_len", c_size_t), ("pair_count", c_uint64),
