@@ -335,9 +335,9 @@ def _pair(lent: bytes, start: int, length: int, kind: int, a: int, b: int, flags
 _Head = c_uint64 * 6
 _ValueNumbers = c_uint64 * 4
 _PairNumbers = c_uint64 * 6
-_NUMBERS = tuple(c_uint64 * (64 << 3 * step) for step in range(8))
-_BYTES = tuple(c_uint8 * (64 << 3 * step) for step in range(8))
-_PAIRS = tuple(_calls.spop_pair * (64 << 3 * step) for step in range(8))
+_NUMBERS = tuple(c_uint64 * (64 << step) for step in range(22))
+_BYTES = tuple(c_uint8 * (64 << step) for step in range(22))
+_PAIRS = tuple(_calls.spop_pair * (64 << step) for step in range(22))
 
 
 def _array(types: Sequence[Any], count: int) -> Any:
