@@ -83,7 +83,9 @@ impl Error for Refusal {}
 pub enum Answer {
     /// The frame is not whole yet. Call again with the same bytes and so many more behind them; where the four length bytes were
     /// not all there, it may then wait once more, for the rest.
-    Wait { missing: usize },
+    Wait {
+        missing: usize,
+    },
     Refused(Refusal),
 }
 
