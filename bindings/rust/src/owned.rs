@@ -213,7 +213,7 @@ impl Notify {
 /// let metadata = Metadata { stream_id: 1, frame_id: 2, ..Metadata::default() };
 /// let ack = Ack::new(metadata).set_var(Scope::Transaction, "slot_a", 7u32).unset_var(Scope::Session, "b");
 /// let bytes = ack.write(AGREED_FRAME).unwrap();
-/// assert_eq!(bytes, *b"\0\0\0\x17\x67\0\0\0\x01\x01\x02\x01\x03\x02\x06slot_a\x03\x07\x02\x02\x01\x01b");
+/// assert_eq!(bytes, *b"\0\0\0\x18\x67\0\0\0\x01\x01\x02\x01\x03\x02\x06slot_a\x03\x07\x02\x02\x01\x01b");
 /// ```
 #[derive(Clone, Debug, Default, PartialEq, Eq)]
 pub struct Ack {
