@@ -125,9 +125,11 @@ pub struct Tables {
 }
 
 impl Tables {
-    /// The most pairs of a KV list, and more than fit into a frame of the agreed size. Its keys are compared each with each, so
-    /// without an end the time for one frame would grow with the square of its length. A HAPROXY-HELLO has about five.
-    pub const MOST_KEYS: usize = AGREED_FRAME as usize / 2;
+    /// The most pairs of a KV list. Its keys are compared each with each, so without an end the time for one frame would grow with the
+    /// square of its length. A HAPROXY-HELLO has about five.
+    ///
+    /// A frame of the agreed size has no more: they all have different keys, and so all but 130 of them take four bytes or more.
+    pub const MOST_KEYS: usize = AGREED_FRAME as usize / 4 + 64;
 
     /// The rooms of the first tables.
     const FIRST: usize = 32;
