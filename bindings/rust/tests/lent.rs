@@ -161,8 +161,11 @@ fn a_text_keeps_its_bytes() {
 
 // ---------------------------------------------------------------- values
 
-/// Each kind of value: its bytes, what it stands for, and how it is shown.
-fn values() -> Vec<(Vec<u8>, Value<&'static [u8]>, &'static str)> {
+/// A value's bytes, what they stand for, and how that is shown.
+type Written = (Vec<u8>, Value<&'static [u8]>, &'static str);
+
+/// Each kind of value.
+fn values() -> Vec<Written> {
     let ipv6 = [0x20, 0x01, 0x0d, 0xb8, 0, 0, 0, 0, 0, 0, 0, 0, 0, 0, 0, 1];
     vec![
         (vec![0x00], Value::Null, "null"),
