@@ -230,7 +230,8 @@ fn two_frames() -> Vec<u8> {
 }
 
 fn shown(frames: impl Iterator<Item = Result<Frame, StreamError>>) -> Vec<String> {
-    let frames = frames.map(|frame| match frame {
+    // No stream here has as many.
+    let frames = frames.take(9).map(|frame| match frame {
         Ok(frame) => format!("type {}, {} bytes", frame.kind.number(), frame.used),
         Err(error) => error.to_string(),
     });
