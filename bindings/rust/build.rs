@@ -22,8 +22,8 @@ fn main() {
     println!("cargo:rerun-if-changed={}", library.display());
     if !library.is_file() {
         fail(&format!(
-            "there is no {LIBRARY} in {} ({from}); build it by `tools/native-lib spop` in the repository, or set SPOP_LIB_DIR to its \
-             folder",
+            "there is no {LIBRARY} in {} ({from}); build it by `tools/native-lib spop` in the repository, or set SPOP_LIB_DIR to \
+             its folder",
             folder.display()
         ));
     }
@@ -60,5 +60,5 @@ fn installed() -> Option<PathBuf> {
 
 fn top() -> PathBuf {
     let here = PathBuf::from(env::var_os("CARGO_MANIFEST_DIR").expect("cargo names the crate's folder"));
-    here.join("../..")
+    here.ancestors().nth(2).unwrap_or(&here).to_path_buf()
 }
