@@ -1,5 +1,6 @@
 //! The paper's numbers for what the Rust answers. Every part takes them from here.
 
+use crate::both::PARTED;
 use nom::{
     Err, Needed,
     error::{Error, ErrorKind},
@@ -41,6 +42,9 @@ impl fmt::Display for Answer {
         match self {
             Self::Paper { number: DONE, at } => write!(out, "0 (done), {at} bytes"),
             Self::Paper { number: WAIT, at } => write!(out, "1 (wait), {at} missing"),
+            Self::Paper { number: PARTED, .. } => {
+                write!(out, "the crate's safe form does otherwise")
+            }
             Self::Paper { number, at } => write!(out, "{number} at {at}"),
             Self::Unlisted(what, Some(kind)) => write!(out, "{what} {kind:?}, not in the table"),
             Self::Unlisted(what, None) => write!(out, "{what}, not in the table"),

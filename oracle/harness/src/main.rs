@@ -1,6 +1,7 @@
 //! Runs the original Rust and the port on the same inputs, in one process.
 
 mod answers;
+mod both;
 mod counts;
 mod inputs;
 mod listing;

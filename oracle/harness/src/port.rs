@@ -1,4 +1,8 @@
-//! The port's calls under their C names, and each in a form that Rust can call safely.
+//! The port's calls, through the crate `muleflurry` of `bindings/rust`, each in a form that Rust can call safely and that adds nothing
+//! to it. These are timed; what is compared goes through `both.rs`.
+
+#[cfg(feature = "port")]
+use muleflurry::sys;
 
 /// How many numbers a value has, and each record of a table.
 pub const VALUE_WIDTH: usize = 4;
@@ -6,331 +10,249 @@ pub const MESSAGE_WIDTH: usize = 4;
 pub const PAIR_WIDTH: usize = 6;
 pub const ACTION_WIDTH: usize = 8;
 
-/// Declares the calls. A build without the library gets calls that are never to be reached.
-macro_rules! c_calls {
-    ($(fn $name:ident($($arg:ident: $kind:ty),*) -> $answer:ty;)*) => {
-        #[cfg(feature = "port")]
-        unsafe extern "C" {
-            $(fn $name($($arg: $kind),*) -> $answer;)*
-        }
+/// Gives each call its body. A build without the library gets calls that are never to be reached.
+macro_rules! calls {
+    ($($(#[$note:meta])* pub fn $name:ident($($arg:ident: $kind:ty),* $(,)?) -> $answer:ty $body:block)*) => {
         $(
+            $(#[$note])*
+            #[cfg(feature = "port")]
+            pub fn $name($($arg: $kind),*) -> $answer $body
+
+            $(#[$note])*
             #[cfg(not(feature = "port"))]
-            unsafe fn $name($(_: $kind),*) -> $answer {
+            pub fn $name($(_: $kind),*) -> $answer {
                 unreachable!("built without the port")
             }
         )*
     };
 }
 
-c_calls! {
-    fn spop_varint_len(n: u64) -> u64;
-    fn spop_encode_varint(n: u64, out: *mut u8, out_len: usize, at: *mut u64) -> u64;
-    fn spop_decode_varint(input: *const u8, input_len: usize, value: *mut u64, at: *mut u64) -> u64;
-    fn spop_is_utf8(bytes: *const u8, len: usize) -> bool;
-    fn spop_same_text(a: *const u8, a_len: usize, b: *const u8, b_len: usize) -> bool;
-    fn spop_lossy_text(bytes: *const u8, len: usize, out: *mut u8, out_len: usize, at: *mut u64) -> u64;
-    fn spop_typed_data(input: *const u8, input_len: usize, value: *mut u64, at: *mut u64) -> u64;
-    fn spop_value_len(value: *const u64, buffer: *const u8, buffer_len: usize) -> u64;
-    fn spop_check_value(value: *const u64, buffer: *const u8, buffer_len: usize) -> u64;
-    fn spop_write_value(value: *const u64, buffer: *const u8, buffer_len: usize, out: *mut u8, out_len: usize, at: *mut u64) -> u64;
-    fn spop_negotiate_max_frame_size(theirs: u32, ours: u32, at: *mut u64) -> u64;
-    fn spop_negotiate_version(versions: *const u64, versions_len: usize, version: *mut u64) -> bool;
-    fn spop_write_kv(
+pub(crate) use calls;
+
+calls! {
+    pub fn varint_len(n: u64) -> u64 {
+        // SAFETY: the call takes a number alone.
+        unsafe { sys::spop_varint_len(n) }
+    }
+
+    pub fn encode_varint(n: u64, out: &mut [u8], at: &mut u64) -> u64 {
+        // SAFETY: the slice is lent with its length, and nothing lent overlaps.
+        unsafe { sys::spop_encode_varint(n, out.as_mut_ptr(), out.len(), at) }
+    }
+
+    pub fn decode_varint(input: &[u8], value: &mut u64, at: &mut u64) -> u64 {
+        // SAFETY: the slice is lent with its length, and nothing lent overlaps.
+        unsafe { sys::spop_decode_varint(input.as_ptr(), input.len(), value, at) }
+    }
+
+    pub fn is_utf8(bytes: &[u8]) -> bool {
+        // SAFETY: the slice is lent with its length.
+        unsafe { sys::spop_is_utf8(bytes.as_ptr(), bytes.len()) }
+    }
+
+    pub fn same_text(a: &[u8], b: &[u8]) -> bool {
+        // SAFETY: each slice is lent with its length.
+        unsafe { sys::spop_same_text(a.as_ptr(), a.len(), b.as_ptr(), b.len()) }
+    }
+
+    pub fn lossy_text(bytes: &[u8], out: &mut [u8], at: &mut u64) -> u64 {
+        // SAFETY: each slice is lent with its length, and nothing lent overlaps.
+        unsafe { sys::spop_lossy_text(bytes.as_ptr(), bytes.len(), out.as_mut_ptr(), out.len(), at) }
+    }
+
+    pub fn typed_data(input: &[u8], value: &mut [u64; VALUE_WIDTH], at: &mut u64) -> u64 {
+        // SAFETY: the slice is lent with its length, the record has its numbers, and nothing lent overlaps.
+        unsafe { sys::spop_typed_data(input.as_ptr(), input.len(), value, at) }
+    }
+
+    pub fn value_len(value: &[u64; VALUE_WIDTH], buffer: &[u8]) -> u64 {
+        // SAFETY: the record has its numbers, and the slice is lent with its length.
+        unsafe { sys::spop_value_len(value, buffer.as_ptr(), buffer.len()) }
+    }
+
+    pub fn check_value(value: &[u64; VALUE_WIDTH], buffer: &[u8]) -> u64 {
+        // SAFETY: the record has its numbers, and the slice is lent with its length.
+        unsafe { sys::spop_check_value(value, buffer.as_ptr(), buffer.len()) }
+    }
+
+    pub fn write_value(value: &[u64; VALUE_WIDTH], buffer: &[u8], out: &mut [u8], at: &mut u64) -> u64 {
+        // SAFETY: the record has its numbers, each slice is lent with its length, and nothing lent overlaps.
+        unsafe {
+            sys::spop_write_value(
+                value,
+                buffer.as_ptr(),
+                buffer.len(),
+                out.as_mut_ptr(),
+                out.len(),
+                at,
+            )
+        }
+    }
+
+    pub fn negotiate_max_frame_size(theirs: u32, ours: u32, at: &mut u64) -> u64 {
+        // SAFETY: one number is lent.
+        unsafe { sys::spop_negotiate_max_frame_size(theirs, ours, at) }
+    }
+
+    pub fn negotiate_version(versions: &[u64], version: &mut [u64; 3]) -> bool {
+        // SAFETY: the slice is lent with its length, the version has three numbers, and nothing lent overlaps.
+        unsafe { sys::spop_negotiate_version(versions.as_ptr(), versions.len(), version) }
+    }
+
+    /// FIN and ABORT are `flags`, the stream's and the frame's number are `ids`.
+    #[allow(clippy::too_many_arguments)]
+    pub fn write_kv(
         kind: u64,
-        fin: bool,
-        abort: bool,
-        stream_id: u64,
-        frame_id: u64,
+        flags: [bool; 2],
+        ids: [u64; 2],
         limit: u32,
-        buffer: *const u8,
-        buffer_len: usize,
-        pairs: *const u64,
-        pairs_len: usize,
-        pair_count: u64,
-        out: *mut u8,
-        out_len: usize,
-        at: *mut u64
-    ) -> u64;
-    fn spop_write_actions(
-        fin: bool,
-        abort: bool,
-        stream_id: u64,
-        frame_id: u64,
+        buffer: &[u8],
+        pairs: &[u64],
+        count: u64,
+        out: &mut [u8],
+        at: &mut u64,
+    ) -> u64 {
+        // SAFETY: each slice is lent with its length, and nothing lent overlaps.
+        unsafe {
+            sys::spop_write_kv(
+                kind,
+                flags[0],
+                flags[1],
+                ids[0],
+                ids[1],
+                limit,
+                buffer.as_ptr(),
+                buffer.len(),
+                pairs.as_ptr(),
+                pairs.len(),
+                count,
+                out.as_mut_ptr(),
+                out.len(),
+                at,
+            )
+        }
+    }
+
+    /// FIN and ABORT are `flags`, the stream's and the frame's number are `ids`.
+    #[allow(clippy::too_many_arguments)]
+    pub fn write_actions(
+        flags: [bool; 2],
+        ids: [u64; 2],
         limit: u32,
-        buffer: *const u8,
-        buffer_len: usize,
-        actions: *const u64,
-        actions_len: usize,
-        action_count: u64,
-        out: *mut u8,
-        out_len: usize,
-        at: *mut u64
-    ) -> u64;
-    fn spop_write_notify(
-        fin: bool,
-        abort: bool,
-        stream_id: u64,
-        frame_id: u64,
+        buffer: &[u8],
+        actions: &[u64],
+        count: u64,
+        out: &mut [u8],
+        at: &mut u64,
+    ) -> u64 {
+        // SAFETY: each slice is lent with its length, and nothing lent overlaps.
+        unsafe {
+            sys::spop_write_actions(
+                flags[0],
+                flags[1],
+                ids[0],
+                ids[1],
+                limit,
+                buffer.as_ptr(),
+                buffer.len(),
+                actions.as_ptr(),
+                actions.len(),
+                count,
+                out.as_mut_ptr(),
+                out.len(),
+                at,
+            )
+        }
+    }
+
+    /// FIN and ABORT are `flags`, the stream's and the frame's number are `ids`.
+    #[allow(clippy::too_many_arguments)]
+    pub fn write_notify(
+        flags: [bool; 2],
+        ids: [u64; 2],
         limit: u32,
-        buffer: *const u8,
-        buffer_len: usize,
-        messages: *const u64,
-        messages_len: usize,
+        buffer: &[u8],
+        messages: &[u64],
         message_count: u64,
-        pairs: *const u64,
-        pairs_len: usize,
+        pairs: &[u64],
         pair_count: u64,
-        out: *mut u8,
-        out_len: usize,
-        at: *mut u64
-    ) -> u64;
-    fn spop_read_pair(input: *const u8, input_len: usize, pair: *mut u64, at: *mut u64) -> u64;
-    fn spop_read_frame(
-        input: *const u8,
-        input_len: usize,
+        out: &mut [u8],
+        at: &mut u64,
+    ) -> u64 {
+        // SAFETY: each slice is lent with its length, and nothing lent overlaps.
+        unsafe {
+            sys::spop_write_notify(
+                flags[0],
+                flags[1],
+                ids[0],
+                ids[1],
+                limit,
+                buffer.as_ptr(),
+                buffer.len(),
+                messages.as_ptr(),
+                messages.len(),
+                message_count,
+                pairs.as_ptr(),
+                pairs.len(),
+                pair_count,
+                out.as_mut_ptr(),
+                out.len(),
+                at,
+            )
+        }
+    }
+
+    pub fn read_pair(input: &[u8], pair: &mut [u64; PAIR_WIDTH], at: &mut u64) -> u64 {
+        // SAFETY: the slice is lent with its length, the record has its numbers, and nothing lent overlaps.
+        unsafe { sys::spop_read_pair(input.as_ptr(), input.len(), pair, at) }
+    }
+
+    pub fn read_frame(
+        input: &[u8],
         limit: u32,
-        messages: *mut u64,
-        messages_len: usize,
-        pairs: *mut u64,
-        pairs_len: usize,
-        head: *mut u64,
-        at: *mut u64
-    ) -> u64;
-    fn spop_read_frame_records(
-        input: *const u8,
-        input_len: usize,
+        messages: &mut [u64],
+        pairs: &mut [u64],
+        head: &mut [u64; 6],
+        at: &mut u64,
+    ) -> u64 {
+        // SAFETY: each slice is lent with its length, the head has six numbers, and nothing lent overlaps.
+        unsafe {
+            sys::spop_read_frame(
+                input.as_ptr(),
+                input.len(),
+                limit,
+                messages.as_mut_ptr(),
+                messages.len(),
+                pairs.as_mut_ptr(),
+                pairs.len(),
+                head,
+                at,
+            )
+        }
+    }
+
+    /// The header's struct of a pair is its numbers in a row.
+    pub fn read_frame_records(
+        input: &[u8],
         limit: u32,
-        messages: *mut u64,
-        messages_len: usize,
-        pairs: *mut [u64; PAIR_WIDTH],
-        pairs_len: usize,
-        head: *mut u64,
-        at: *mut u64
-    ) -> u64;
-}
-
-pub fn varint_len(n: u64) -> u64 {
-    // SAFETY: the call takes a number alone.
-    unsafe { spop_varint_len(n) }
-}
-
-pub fn encode_varint(n: u64, out: &mut [u8], at: &mut u64) -> u64 {
-    // SAFETY: the slice is lent with its length, and nothing lent overlaps.
-    unsafe { spop_encode_varint(n, out.as_mut_ptr(), out.len(), at) }
-}
-
-pub fn decode_varint(input: &[u8], value: &mut u64, at: &mut u64) -> u64 {
-    // SAFETY: the slice is lent with its length, and nothing lent overlaps.
-    unsafe { spop_decode_varint(input.as_ptr(), input.len(), value, at) }
-}
-
-pub fn is_utf8(bytes: &[u8]) -> bool {
-    // SAFETY: the slice is lent with its length.
-    unsafe { spop_is_utf8(bytes.as_ptr(), bytes.len()) }
-}
-
-pub fn same_text(a: &[u8], b: &[u8]) -> bool {
-    // SAFETY: each slice is lent with its length.
-    unsafe { spop_same_text(a.as_ptr(), a.len(), b.as_ptr(), b.len()) }
-}
-
-pub fn lossy_text(bytes: &[u8], out: &mut [u8], at: &mut u64) -> u64 {
-    // SAFETY: each slice is lent with its length, and nothing lent overlaps.
-    unsafe { spop_lossy_text(bytes.as_ptr(), bytes.len(), out.as_mut_ptr(), out.len(), at) }
-}
-
-pub fn typed_data(input: &[u8], value: &mut [u64; VALUE_WIDTH], at: &mut u64) -> u64 {
-    // SAFETY: the slice is lent with its length, the record has its numbers, and nothing lent overlaps.
-    unsafe { spop_typed_data(input.as_ptr(), input.len(), value.as_mut_ptr(), at) }
-}
-
-pub fn value_len(value: &[u64; VALUE_WIDTH], buffer: &[u8]) -> u64 {
-    // SAFETY: the record has its numbers, and the slice is lent with its length.
-    unsafe { spop_value_len(value.as_ptr(), buffer.as_ptr(), buffer.len()) }
-}
-
-pub fn check_value(value: &[u64; VALUE_WIDTH], buffer: &[u8]) -> u64 {
-    // SAFETY: the record has its numbers, and the slice is lent with its length.
-    unsafe { spop_check_value(value.as_ptr(), buffer.as_ptr(), buffer.len()) }
-}
-
-pub fn write_value(value: &[u64; VALUE_WIDTH], buffer: &[u8], out: &mut [u8], at: &mut u64) -> u64 {
-    // SAFETY: the record has its numbers, each slice is lent with its length, and nothing lent overlaps.
-    unsafe {
-        spop_write_value(
-            value.as_ptr(),
-            buffer.as_ptr(),
-            buffer.len(),
-            out.as_mut_ptr(),
-            out.len(),
-            at,
-        )
-    }
-}
-
-pub fn negotiate_max_frame_size(theirs: u32, ours: u32, at: &mut u64) -> u64 {
-    // SAFETY: one number is lent.
-    unsafe { spop_negotiate_max_frame_size(theirs, ours, at) }
-}
-
-pub fn negotiate_version(versions: &[u64], version: &mut [u64; 3]) -> bool {
-    // SAFETY: the slice is lent with its length, the version has three numbers, and nothing lent overlaps.
-    unsafe { spop_negotiate_version(versions.as_ptr(), versions.len(), version.as_mut_ptr()) }
-}
-
-/// FIN and ABORT are `flags`, the stream's and the frame's number are `ids`.
-#[allow(clippy::too_many_arguments)]
-pub fn write_kv(
-    kind: u64,
-    flags: [bool; 2],
-    ids: [u64; 2],
-    limit: u32,
-    buffer: &[u8],
-    pairs: &[u64],
-    count: u64,
-    out: &mut [u8],
-    at: &mut u64,
-) -> u64 {
-    // SAFETY: each slice is lent with its length, and nothing lent overlaps.
-    unsafe {
-        spop_write_kv(
-            kind,
-            flags[0],
-            flags[1],
-            ids[0],
-            ids[1],
-            limit,
-            buffer.as_ptr(),
-            buffer.len(),
-            pairs.as_ptr(),
-            pairs.len(),
-            count,
-            out.as_mut_ptr(),
-            out.len(),
-            at,
-        )
-    }
-}
-
-/// FIN and ABORT are `flags`, the stream's and the frame's number are `ids`.
-#[allow(clippy::too_many_arguments)]
-pub fn write_actions(
-    flags: [bool; 2],
-    ids: [u64; 2],
-    limit: u32,
-    buffer: &[u8],
-    actions: &[u64],
-    count: u64,
-    out: &mut [u8],
-    at: &mut u64,
-) -> u64 {
-    // SAFETY: each slice is lent with its length, and nothing lent overlaps.
-    unsafe {
-        spop_write_actions(
-            flags[0],
-            flags[1],
-            ids[0],
-            ids[1],
-            limit,
-            buffer.as_ptr(),
-            buffer.len(),
-            actions.as_ptr(),
-            actions.len(),
-            count,
-            out.as_mut_ptr(),
-            out.len(),
-            at,
-        )
-    }
-}
-
-/// FIN and ABORT are `flags`, the stream's and the frame's number are `ids`.
-#[allow(clippy::too_many_arguments)]
-pub fn write_notify(
-    flags: [bool; 2],
-    ids: [u64; 2],
-    limit: u32,
-    buffer: &[u8],
-    messages: &[u64],
-    message_count: u64,
-    pairs: &[u64],
-    pair_count: u64,
-    out: &mut [u8],
-    at: &mut u64,
-) -> u64 {
-    // SAFETY: each slice is lent with its length, and nothing lent overlaps.
-    unsafe {
-        spop_write_notify(
-            flags[0],
-            flags[1],
-            ids[0],
-            ids[1],
-            limit,
-            buffer.as_ptr(),
-            buffer.len(),
-            messages.as_ptr(),
-            messages.len(),
-            message_count,
-            pairs.as_ptr(),
-            pairs.len(),
-            pair_count,
-            out.as_mut_ptr(),
-            out.len(),
-            at,
-        )
-    }
-}
-
-pub fn read_pair(input: &[u8], pair: &mut [u64; PAIR_WIDTH], at: &mut u64) -> u64 {
-    // SAFETY: the slice is lent with its length, the record has its numbers, and nothing lent overlaps.
-    unsafe { spop_read_pair(input.as_ptr(), input.len(), pair.as_mut_ptr(), at) }
-}
-
-pub fn read_frame(
-    input: &[u8],
-    limit: u32,
-    messages: &mut [u64],
-    pairs: &mut [u64],
-    head: &mut [u64; 6],
-    at: &mut u64,
-) -> u64 {
-    // SAFETY: each slice is lent with its length, the head has six numbers, and nothing lent overlaps.
-    unsafe {
-        spop_read_frame(
-            input.as_ptr(),
-            input.len(),
-            limit,
-            messages.as_mut_ptr(),
-            messages.len(),
-            pairs.as_mut_ptr(),
-            pairs.len(),
-            head.as_mut_ptr(),
-            at,
-        )
-    }
-}
-
-/// The header's struct of a pair is its numbers in a row.
-pub fn read_frame_records(
-    input: &[u8],
-    limit: u32,
-    messages: &mut [u64],
-    pairs: &mut [[u64; PAIR_WIDTH]],
-    head: &mut [u64; 6],
-    at: &mut u64,
-) -> u64 {
-    // SAFETY: each slice is lent with its length, the head has six numbers, and nothing lent overlaps.
-    unsafe {
-        spop_read_frame_records(
-            input.as_ptr(),
-            input.len(),
-            limit,
-            messages.as_mut_ptr(),
-            messages.len(),
-            pairs.as_mut_ptr(),
-            pairs.len(),
-            head.as_mut_ptr(),
-            at,
-        )
+        messages: &mut [u64],
+        pairs: &mut [[u64; PAIR_WIDTH]],
+        head: &mut [u64; 6],
+        at: &mut u64,
+    ) -> u64 {
+        // SAFETY: each slice is lent with its length, the head has six numbers, and nothing lent overlaps.
+        unsafe {
+            sys::spop_read_frame_records(
+                input.as_ptr(),
+                input.len(),
+                limit,
+                messages.as_mut_ptr(),
+                messages.len(),
+                pairs.as_mut_ptr().cast(),
+                pairs.len(),
+                head,
+                at,
+            )
+        }
     }
 }

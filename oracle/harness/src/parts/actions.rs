@@ -2,6 +2,7 @@
 
 use crate::{
     answers::Answer,
+    both,
     inputs::{self, Random},
     port::{self, ACTION_WIDTH, VALUE_WIDTH},
     reader::back::Written,
@@ -35,7 +36,7 @@ struct Call {
 impl Call {
     fn by_port(&self) -> Wrote {
         Wrote::by_port(self.room, |out, at| {
-            port::write_actions(
+            both::write_actions(
                 [self.fin, self.abort],
                 [self.stream, self.frame],
                 self.limit,

@@ -2,6 +2,7 @@
 
 use crate::{
     answers::Answer,
+    both,
     inputs::{self, Random},
     port, shrink,
     text::Difference,
@@ -33,7 +34,7 @@ fn hello(size: u32, versions: Vec<Version>) -> HaproxyHello {
 
 fn size_by_port(theirs: u32, ours: u32) -> Answer {
     let mut at = UNTOUCHED;
-    let number = port::negotiate_max_frame_size(theirs, ours, &mut at);
+    let number = both::negotiate_max_frame_size(theirs, ours, &mut at);
     Answer::new(number, at)
 }
 
@@ -46,7 +47,7 @@ fn size_by_rust(theirs: u32, ours: u32) -> Answer {
 
 fn version_by_port(numbers: &[u64]) -> (bool, [u64; 3]) {
     let mut version = [UNTOUCHED; 3];
-    let given = port::negotiate_version(numbers, &mut version);
+    let given = both::negotiate_version(numbers, &mut version);
     (given, version)
 }
 

@@ -2,6 +2,7 @@
 
 use crate::{
     answers::Answer,
+    both,
     inputs::{self, Random},
     port::{self, PAIR_WIDTH},
     reader::back::{Writer, Written},
@@ -39,7 +40,7 @@ pub struct Call {
 impl Writer for Call {
     fn by_port(&self) -> Wrote {
         Wrote::by_port(self.room, |out, at| {
-            port::write_kv(
+            both::write_kv(
                 self.kind,
                 [self.fin, self.abort],
                 [self.stream, self.frame],

@@ -3,6 +3,7 @@
 
 use crate::{
     answers::{self, Answer},
+    both,
     inputs::{self, Random},
     port::{self, MESSAGE_WIDTH, PAIR_WIDTH},
     reader::back::{Writer, Written},
@@ -43,7 +44,7 @@ pub struct Call {
 impl Writer for Call {
     fn by_port(&self) -> Wrote {
         Wrote::by_port(self.room, |out, at| {
-            port::write_notify(
+            both::write_notify(
                 [self.fin, self.abort],
                 [self.stream, self.frame],
                 self.limit,

@@ -2,6 +2,7 @@
 
 use crate::{
     answers::{self, Answer, TOO_SHORT_OUT},
+    both,
     counts::ENOUGH,
     inputs::{self, FIRSTS, LONGEST, Random},
     port, shrink, tenth,
@@ -23,7 +24,7 @@ const UNTOUCHED: u64 = 0xa5c3_96e1_5a3c_691e;
 // ---------------------------------------------------------------- one input, both sides
 
 fn differs_in_length(n: u64) -> bool {
-    port::varint_len(n) != varint_len(n) as u64
+    both::varint_len(n) != varint_len(n) as u64
 }
 
 /// An encode call: the number, the length of the output, and what its bytes are made from.
@@ -49,7 +50,7 @@ impl Encode {
     fn by_port(&self) -> Encoded {
         let mut area = self.before();
         let mut at = UNTOUCHED;
-        let number = port::encode_varint(self.n, &mut area[..self.room], &mut at);
+        let number = both::encode_varint(self.n, &mut area[..self.room], &mut at);
         let answer = Answer::new(number, at);
         Encoded { answer, area }
     }
@@ -86,7 +87,7 @@ fn decode_by_port(input: &[u8]) -> Decoded {
     let mut area = [0; AREA];
     area[..input.len()].copy_from_slice(input);
     let (mut value, mut at) = (UNTOUCHED, UNTOUCHED);
-    let number = port::decode_varint(&area[..input.len()], &mut value, &mut at);
+    let number = both::decode_varint(&area[..input.len()], &mut value, &mut at);
     let answer = Answer::new(number, at);
     Decoded { answer, value }
 }
@@ -125,7 +126,7 @@ fn length_difference(n: u64) -> Difference {
     let n = shrink::number(n, differs_in_length);
     Difference::in_call("varint_len")
         .row("number", n)
-        .row("port", port::varint_len(n))
+        .row("port", both::varint_len(n))
         .row("rust", varint_len(n))
 }
 

@@ -2,6 +2,7 @@
 
 use crate::{
     answers::{Answer, TOO_SHORT_OUT},
+    both,
     inputs::{self, Random},
     port, shrink,
     text::{Difference, hex},
@@ -27,7 +28,7 @@ fn lossy(bytes: &[u8]) -> Vec<u8> {
 }
 
 fn differs_in_form(bytes: &[u8]) -> bool {
-    port::is_utf8(bytes) != str::from_utf8(bytes).is_ok()
+    both::is_utf8(bytes) != str::from_utf8(bytes).is_ok()
 }
 
 #[derive(PartialEq)]
@@ -38,7 +39,7 @@ struct Written {
 
 fn lossy_by_port(bytes: &[u8], room: usize) -> Written {
     let (mut area, mut at) = ([FILL; AREA], UNTOUCHED);
-    let number = port::lossy_text(bytes, &mut area[..room], &mut at);
+    let number = both::lossy_text(bytes, &mut area[..room], &mut at);
     let answer = Answer::new(number, at);
     Written { answer, area }
 }
@@ -61,7 +62,7 @@ fn differs_in_lossy(bytes: &[u8], room: usize) -> bool {
 }
 
 fn differs_in_sameness(a: &[u8], b: &[u8]) -> bool {
-    port::same_text(a, b) != (String::from_utf8_lossy(a) == String::from_utf8_lossy(b))
+    both::same_text(a, b) != (String::from_utf8_lossy(a) == String::from_utf8_lossy(b))
 }
 
 // ---------------------------------------------------------------- a difference, made small
@@ -70,7 +71,7 @@ fn form_difference(bytes: &[u8]) -> Difference {
     let bytes = shrink::bytes(bytes, differs_in_form);
     Difference::in_call("is_utf8")
         .row("bytes", hex(&bytes))
-        .row("port", port::is_utf8(&bytes))
+        .row("port", both::is_utf8(&bytes))
         .row("rust", str::from_utf8(&bytes).is_ok())
 }
 
@@ -95,7 +96,7 @@ fn sameness_difference(a: &[u8], b: &[u8]) -> Difference {
     Difference::in_call("same_text")
         .row("a", hex(&a))
         .row("b", hex(&b))
-        .row("port", port::same_text(&a, &b))
+        .row("port", both::same_text(&a, &b))
         .row("rust", lossy(&a) == lossy(&b))
 }
 

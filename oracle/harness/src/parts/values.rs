@@ -2,6 +2,7 @@
 
 use crate::{
     answers::{self, Answer, TOO_SHORT_OUT},
+    both,
     counts::ENOUGH,
     inputs::{self, Random},
     port::{self, VALUE_WIDTH},
@@ -34,7 +35,7 @@ struct Read {
 
 fn read_by_port(input: &[u8]) -> Read {
     let (mut value, mut at) = ([UNTOUCHED; VALUE_WIDTH], UNTOUCHED);
-    let number = port::typed_data(input, &mut value, &mut at);
+    let number = both::typed_data(input, &mut value, &mut at);
     let answer = Answer::new(number, at);
     Read { answer, value }
 }
@@ -146,11 +147,11 @@ struct Wrote {
 impl Write {
     fn by_port(&self) -> Wrote {
         let (mut area, mut at) = ([FILL; AREA], UNTOUCHED);
-        let length = port::value_len(&self.record, &self.buffer);
-        let answer = match port::check_value(&self.record, &self.buffer) {
+        let length = both::value_len(&self.record, &self.buffer);
+        let answer = match both::check_value(&self.record, &self.buffer) {
             answers::DONE => {
                 let out = &mut area[..self.room];
-                let number = port::write_value(&self.record, &self.buffer, out, &mut at);
+                let number = both::write_value(&self.record, &self.buffer, out, &mut at);
                 Answer::new(number, at)
             }
             number => Answer::new(number, 0),

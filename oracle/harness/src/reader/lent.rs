@@ -3,7 +3,8 @@
 use super::model::Read;
 use crate::{
     answers::{self, Answer},
-    port::{self, MESSAGE_WIDTH, PAIR_WIDTH},
+    both,
+    port::{MESSAGE_WIDTH, PAIR_WIDTH},
 };
 use std::fmt;
 
@@ -37,7 +38,7 @@ impl Reading {
     pub fn by_port(input: &[u8], limit: u32, [messages_len, pairs_len]: [usize; 2]) -> Self {
         let (mut messages, mut pairs) = (table(messages_len), table(pairs_len));
         let (mut head, [mut at]) = (pattern(), pattern());
-        let number = port::read_frame(
+        let number = both::read_frame(
             input,
             limit,
             &mut messages[..messages_len],
@@ -57,7 +58,7 @@ impl Reading {
     pub fn by_records(input: &[u8], limit: u32, [messages_len, pairs_len]: [usize; 2]) -> Self {
         let (mut messages, mut pairs) = (table(messages_len), table(pairs_len));
         let (mut head, [mut at]) = (pattern(), pattern());
-        let number = port::read_frame_records(
+        let number = both::read_frame_records(
             input,
             limit,
             &mut messages[..messages_len],

@@ -8,8 +8,9 @@ use super::{
 };
 use crate::{
     answers::{self, Answer},
+    both,
     inputs::LONGEST,
-    port::{self, MESSAGE_WIDTH, PAIR_WIDTH},
+    port::{MESSAGE_WIDTH, PAIR_WIDTH},
     shrink,
     tenth::{self, NOT_FITTING},
     text::{Difference, hex},
@@ -145,7 +146,7 @@ fn pair_for_rust(input: &[u8], paper: PairRead) -> (&[u8], PairRead) {
 
 fn pair_by_port(input: &[u8]) -> (Answer, Pair) {
     let (mut pair, [mut at]) = (lent::pattern(), lent::pattern());
-    let number = port::read_pair(input, &mut pair, &mut at);
+    let number = both::read_pair(input, &mut pair, &mut at);
     (Answer::new(number, at), pair)
 }
 
