@@ -15,7 +15,7 @@ def answer(frame):
 
 
 try:
-    for frame in spop.frames(sys.stdin.buffer):
+    for frame in spop.frames(sys.stdin.buffer, spop.AGREED_FRAME):
         if frame.type == spop.FrameType.NOTIFY:
             print(answer(frame).hex())
 except spop.Error as error:

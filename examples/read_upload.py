@@ -22,7 +22,7 @@ def text_of(value):
 
 sys.stdout.reconfigure(encoding="utf-8")
 try:
-    for frame in spop.frames(sys.stdin.buffer):
+    for frame in spop.frames(sys.stdin.buffer, spop.AGREED_FRAME):
         for message in frame.messages:
             print(message.name)
             for pair in message.arguments:

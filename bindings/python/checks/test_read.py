@@ -73,7 +73,8 @@ class Frames(unittest.TestCase):
             full, rest = divmod(count, 255)
             messages = full * plain.message(b"", *255 * [b"\0\0"]) + plain.message(b"", *rest * [b"\0\0"])
             self.assert_all_read(plain.frame(3, 0, 0, messages), full + 1, count)
-            self.assert_all_read(plain.frame(1, 0, 0, *[plain.pair(b"%d" % k, 0, None) for k in range(count)]), 0, count)
+            keys = min(count, 4160)
+            self.assert_all_read(plain.frame(1, 0, 0, *[plain.pair(b"%d" % k, 0, None) for k in range(keys)]), 0, keys)
 
     def assert_all_read(self, data, messages, pairs):
         frame, records = spop.read_frame(data), spop.read_frame_records(data)
@@ -151,6 +152,14 @@ class Refusals(unittest.TestCase):
         pairs = plain.frame(1, 0, 0, *[plain.pair(b"%d" % k, 0, None) for k in range(1000)])
         self.assertEqual((0, 0), self.answer(pairs, max_messages=0, max_pairs=1000))
         self.assertEqual((10, len(pairs)), self.answer(pairs, max_messages=0, max_pairs=999))
+
+    def test_the_most_keys_of_a_list(self):
+        """Each key is compared with those before it, so a list has an end unless the caller asks for more."""
+        pairs = [plain.pair(b"%d" % k, 0, None) for k in range(4161)]
+        most, more = plain.frame(1, 0, 0, *pairs[:4160]), plain.frame(2, 0, 0, *pairs)
+        self.assertEqual((0, 0), self.answer(most))
+        self.assertEqual((10, len(more)), self.answer(more))
+        self.assertEqual((0, 0), self.answer(more, max_pairs=4161))
 
     def test_a_later_refusal_is_found_behind_many_records(self):
         for count in (64, 65, 600):

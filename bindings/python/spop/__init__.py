@@ -420,9 +420,9 @@ def read_frame(data: Buffer, limit: int = MAX_FRAME, *, max_messages: Optional[i
                max_pairs: Optional[int] = None) -> Frame:
     """Reads the frame at the front of the bytes, one that HAProxy sends. Bytes behind it are not looked at.
 
-    The limit is the most that its length bytes may say. There is room for all that a frame can have, unless the keywords ask for
+    The limit is the most that its length bytes may say. There is room for all that a NOTIFY can have, unless the keywords ask for
     less: then one with more is refused with 10. In a KV list each key is compared with those before it, so its time grows with the
-    square of their count, which max_pairs bounds.
+    square of their count: one of more than 4,160 keys is refused with 10, unless max_pairs asks for more.
     """
     lent = _lent(data)
     head, messages, numbers, used = _read(_lib.spop_read_frame, lent, limit, max_messages, max_pairs, _NUMBERS, 6)
@@ -441,6 +441,13 @@ def read_frame_records(data: Buffer, limit: int = MAX_FRAME, *, max_messages: Op
 
 
 _FIRST_ROOM = 64
+# More keys than a frame of the agreed size can have. A KV list of a megabyte of them would take minutes.
+_MOST_KEYS = 4160
+
+
+def _most_pairs(lent: bytes, most: int) -> int:
+    is_kv = lent[4:5] in (b"\x01", b"\x02")
+    return min(most, _MOST_KEYS) if is_kv else most
 
 
 def _read(call: Any, lent: bytes, limit: int, max_messages: Optional[int], max_pairs: Optional[int], types: Sequence[Any],
@@ -454,7 +461,7 @@ def _read(call: Any, lent: bytes, limit: int, max_messages: Optional[int], max_p
     # A record takes two bytes of its frame or more. A frame that is not whole or too long is not read to its records.
     most = length // 2 if length <= min(limit, len(lent) - 4) else 0
     most_messages = most if max_messages is None else min(most, _whole("max_messages", max_messages, 64))
-    most_pairs = most if max_pairs is None else min(most, _whole("max_pairs", max_pairs, 64))
+    most_pairs = _most_pairs(lent, most) if max_pairs is None else min(most, _whole("max_pairs", max_pairs, 64))
     room = _FIRST_ROOM
     while True:
         numbers, pairs_len = 4 * min(room, most_messages), width * min(room, most_pairs)
