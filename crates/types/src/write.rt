@@ -115,10 +115,10 @@ fn put_value(value: Value, buffer: &[u8], out: &mut [u8]) -> usize
     ensures { λ r. ⌜ PutsValue value (now (buffer .entry)) r (now (out .entry)) (now (out .exit)) ⌝ }
 {
     let kind = value.kind;
-    if kind < 2 {
-        return put_plain(value, out);
-    }
     if kind < 6 {
+        if kind < 2 {
+            return put_plain(value, out);
+        }
         return put_integer(value, out);
     }
     if 16 <= value.flags {

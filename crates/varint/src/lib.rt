@@ -84,13 +84,13 @@ pub fn decode_varint(input: &[u8]) -> Number
         return refused(TOO_SOON, 0);
     }
     let first = input[0];
-    if first < 240 {
-        return Number::Done {
-            value: first as u64,
-            used: 1,
-        };
+    if 240 <= first {
+        return decode_more(first as u64, input);
     }
-    decode_more(first as u64, input)
+    Number::Done {
+        value: first as u64,
+        used: 1,
+    }
 }
 
 // Reads on after a first byte that is not the number itself. Nine bytes cannot add up to more than 64 bits, so the tenth alone is asked.

@@ -33,20 +33,20 @@ returns c = ap numberRead (c .refused .ensures) ∙ sym (none _ (c .before .if1 
 shared-slice-read-first : tie.Need-shared-slice-read-first
 shared-slice-read-first c = search needs
 
-cast-t7 : tie.Need-cast-t7
-cast-t7 c = search needs
-
-returns-2 : tie.Need-returns-2
-returns-2 c = sym (one _ (omega (arith, c .before .before .if1 .left)) (c .if2 .taken))
-
 cast-decode-more : tie.Need-cast-decode-more
 cast-decode-more c = omega (arith, c .before .shared-slice-known2 .given 0)
 
 decode-more-requires : tie.Need-decode-more-requires
 decode-more-requires c κs = omega (arith, c .before .shared-slice-known2 .given 0)
 
+returns-2 : tie.Need-returns-2
+returns-2 c = c .decode-more .ensures ∙ sym (on _ (omega (arith, c .before .before .before .if1 .left)) (c .before .if2 .taken))
+
+cast-t8 : tie.Need-cast-t8
+cast-t8 c = search needs
+
 returns-3 : tie.Need-returns-3
-returns-3 c = c .decode-more .ensures ∙ sym (on _ (omega (arith, c .before .before .before .if1 .left)) (c .before .if2 .left))
+returns-3 c = sym (one _ (omega (arith, c .before .before .if1 .left)) (c .if2 .left))
 
 pub decode-varint-spec : {M : Type 1} → statement M
 decode-varint-spec =
@@ -55,8 +55,8 @@ decode-varint-spec =
     refused-requires
     returns
     shared-slice-read-first
-    cast-t7
-    returns-2
     cast-decode-more
     decode-more-requires
+    returns-2
+    cast-t8
     returns-3)

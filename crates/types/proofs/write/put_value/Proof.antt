@@ -16,7 +16,7 @@ same-length : tie.Need-same-length
 same-length c = search needs
 
 returns : tie.Need-returns
-returns c = c .before .before .put-plain .ensures (c .before .before .before .before .before .before .before .args .buffer .now)
+returns c = c .before .before .put-plain .ensures (c .before .before .before .before .before .before .before .before .args .buffer .now)
 
 put-integer-requires : tie.Need-put-integer-requires
 put-integer-requires c κs = search needs
@@ -28,9 +28,9 @@ returns-2 : tie.Need-returns-2
 returns-2 c = c .before .before .put-integer .ensures (c .before .before .before .before .before .before .before .before .args .buffer .now)
 
 returns-3 : tie.Need-returns-3
-returns-3 c = let a = c .before .before .before .before .before .before .args in
+returns-3 c = let a = c .before .before .before .before .before .args in
     let v = a .value in
-    puts-refusal (length (a .out .now)) 14 (a .out .now) (form-flags (a .buffer .now) (v .kind) (v .a) (v .b) (v .flags) (c .before .before .if2 .left) (c .if3 .taken))
+    puts-refusal (length (a .out .now)) 14 (a .out .now) (form-flags (a .buffer .now) (v .kind) (v .a) (v .b) (v .flags) (c .before .before .if1 .left) (c .if3 .taken))
 
 put-address-requires : tie.Need-put-address-requires
 put-address-requires c κs = let e = c .before .if4 .taken in (row 6 e (shape-is .6), (omega arith, omega arith, c .before .before .if3 .left))
@@ -60,7 +60,7 @@ returns-6 : tie.Need-returns-6
 returns-6 c = search needs
 
 returns-7 : tie.Need-returns-7
-returns-7 c = let a = c .before .before .before .before .before .before .before .before .before .args in
+returns-7 c = let a = c .before .before .before .before .before .before .before .before .args in
     let v = a .value in
     puts-refusal (length (a .out .now)) 14 (a .out .now) (form-reserved (a .buffer .now) (v .kind) (v .a) (v .b) (v .flags) (c .if6 .left))
 
