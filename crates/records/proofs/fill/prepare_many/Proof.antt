@@ -1,5 +1,5 @@
--- `records::fill::prepare_many` meets its contract: a frame that is not accepted comes with no pairs; one that is has its messages filled in, and its pairs
--- come from where its payload starts.
+-- `records::fill::prepare_many` meets its contract: a frame that is not accepted comes with no pairs; of one that is, what its payload holds comes from where
+-- that starts, and the messages before the first pair are filled in.
 -- Assumes nothing.
 use borrow.Author.Needs.{needs}
 use mathlib.Core.Path.{_≡_, sym, ap, subst, _∙_}
@@ -13,7 +13,7 @@ use Rattle.parser.specs.Promise.{frameSaid, frameTells}
 use Rattle.walker.specs.declared.Place.{Place}
 use Rattle.records.specs.declared.Found.{Found}
 use Rattle.records.specs.Inner.{Prepared}
-use Rattle.records.proofs.Preparing.{nothing-prepared, rooms, lies, fit, messages-filled, list-left}
+use Rattle.records.proofs.Preparing.{nothing-prepared, rooms, lies, found-prepared, from-first}
 use Rattle.records.proofs.fill.prepare_many.Statement.{statement}
 use Rattle.records.proofs.fill.prepare_many.Tie as tie
 
@@ -63,11 +63,11 @@ slice-aggregate-kv-of c = sym (length-take-le _ _ (within (c .before)))
 kv-of-requires : tie.Need-kv-of-requires
 kv-of-requires c κs = search needs
 
-fill-messages-requires : tie.Need-fill-messages-requires
-fill-messages-requires c κs =
-    let k = c .before .before .before .before .before in
-    let a = start k .args in
-    fit (a .input .now) (a .limit) (a .room) (a .messages .now) (head k) (messages k) (pairs k) (used k) (said k) .0
+before-messages-requires : tie.Need-before-messages-requires
+before-messages-requires c κs = search needs
+
+to-argument-requires : tie.Need-to-argument-requires
+to-argument-requires c κs = search needs
 
 same-length : tie.Need-same-length
 same-length c = search needs
@@ -75,18 +75,13 @@ same-length c = search needs
 returns-2 : tie.Need-returns-2
 returns-2 c =
     let w = c .before .before in
-    let i = w .before .before in
-    let k = i .before .before .before .before in
+    let n = w .before .before in
+    let k = n .before .before .before in
     let a = start k .args in
-    messages-filled (a .input .now) (a .limit) (a .room) (a .messages .now) (head k) (messages k) (pairs k) (used k) (said k) (i .if1 .taken) _
-    (ap (λ (x : Place). x .at) (i .before .before .kv-of .ensures)) _ (w .fill-messages .ensures)
-
-returns-3 : tie.Need-returns-3
-returns-3 c =
-    let k = c .before .before .before .before in
-    let a = start k .args in
-    list-left (a .input .now) (a .limit) (a .room) (a .messages .now) (head k) (messages k) (pairs k) (used k) (said k) (c .if1 .left) _
-    (ap (λ (x : Place). x .at) (c .before .before .kv-of .ensures))
+    found-prepared (a .input .now) (a .limit) (a .room) (a .messages .now) (head k) (messages k) (pairs k) (used k) (said k) _ _ _
+    (w .to-argument .ensures _ _
+    (from-first (a .input .now) (a .limit) (a .room) (a .messages .now) (head k) (messages k) (pairs k) (used k) (said k) (start k .fits .room .fits) _ _
+    (ap (λ (x : Place). x .at) (n .before .kv-of .ensures)) (n .before-messages .ensures)))
 
 pub prepare-many-spec : {M : Type 1} → statement M
 prepare-many-spec =
@@ -98,7 +93,7 @@ prepare-many-spec =
     returns
     slice-aggregate-kv-of
     kv-of-requires
-    fill-messages-requires
+    before-messages-requires
+    to-argument-requires
     same-length
-    returns-2
-    returns-3)
+    returns-2)

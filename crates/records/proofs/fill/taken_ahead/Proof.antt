@@ -8,7 +8,7 @@ use Rattle.records.proofs.fill.taken_ahead.Statement.{statement}
 use Rattle.records.proofs.fill.taken_ahead.Tie as tie
 
 returns : tie.Need-returns
-returns c p ps f = let a = c .before .args in absurd (omega (arith, few-next (a .few) (a .from .at) p ps f .0, c .if1 .taken))
+returns c p ps f = let a = c .before .args in absurd (omega (arith, few-next (a .few) (a .x .at) p ps f .0, c .if1 .taken))
 
 nth-requires : tie.Need-nth-requires
 nth-requires c κs = search needs
@@ -19,7 +19,7 @@ add-t8 c = search needs
 returns-2 : tie.Need-returns-2
 returns-2 c p ps f =
     let a = c .before .before .args in
-    let n = few-next (a .few) (a .from .at) p ps f in
+    let n = few-next (a .few) (a .x .at) p ps f in
     (c .nth .ensures ∙ n .1, n .2)
 
 pub taken-ahead-spec : {M : Type 1} → statement M
