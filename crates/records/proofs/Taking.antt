@@ -17,13 +17,12 @@ use Rattle.parser.specs.Inner.{Run}
 use Rattle.records.specs.declared.Source.{Source}
 use Rattle.records.specs.declared.Far.{Far}
 use Rattle.records.specs.declared.Given.{Given}
-use Rattle.records.specs.Inner.{afterPair, FromMessages, FromBytes, four, InFew, Comes}
+use Rattle.records.specs.Inner.{afterPair, FromMessages, FromBytes, four, InFew, ByValue, ComesBehind, Comes}
 
 -- ---- from the bytes
 
 -- the first of the pairs that come, and the others
 pub record FirstOf (s : List ℕ) (total : ℕ) (x : Far) (table goal : List ℕ) (p : Pair) (ps : List Pair) : Type 0 where
-  pub some : 0 < x .left
   pub end : ℕ
   pub from : pairFrom (x .at) s ≡ done p end
   pub others : FromMessages s total (afterPair x end) table goal ps
@@ -44,7 +43,6 @@ first-of {s = s} {total = total} {x = x} {table = table} {goal = goal} {p = p} {
         let same : q ≡ p = cc in
         let rest : ps ≡ qs ++ f .rest = cc in
         record {
-          some = h;
           end = run .0;
           from = run .1 ∙ ap (λ (r : Pair). done r (run .0)) same;
           others =
@@ -92,7 +90,7 @@ few-past few (suc (suc (suc (suc n)))) a b c d = refl
 pub comes-none : (s : List ℕ) (source : Source) (x : Far) (table goal : List ℕ) → Comes s source x table goal [] → table ≡ goal
 comes-none s source x table goal c =
     bool-cases (source .own)
-    (λ own. let f : InFew (source .few) (x .at) [] × (table ≡ goal) = rw own at c in f .1)
+    (λ own. let f : ByValue source x table goal [] = rw own at c in f .1)
     (λ own. let b : FromBytes s (source .total) x table goal [] = rw own at c in go b (b .from .qs) (b .from .is) (b .from .many))
   where
     go : (b : FromBytes s (source .total) x table goal []) (qs : List Pair) → [] ≡ qs ++ b .from .rest → length qs ≡ x .left → table ≡ goal
@@ -100,23 +98,32 @@ comes-none s source x table goal c =
     go b (q ∷ qs) is many = absurd (omega (arith, ap length is))
 
 -- The first of the pairs that come was taken, and the others come behind it.
-module _ (s : List ℕ) (source : Source) (x : Far) (table goal : List ℕ) (p : Pair) (ps : List Pair) (r : Given) where
-  pub taken-few : Comes s source x table goal (p ∷ ps) → source .own ≡ true
+module _ (s : List ℕ) (source : Source) (x : Far) (table goal : List ℕ) (p : Pair) (ps : List Pair) (r : Given) (c : Comes s source x table goal (p ∷ ps)) where
+  pub taken-few : source .own ≡ true
       → ((q : Pair) (qs : List Pair) → InFew (source .few) (x .at) (q ∷ qs) → (r .pair ≡ q) × InFew (source .few) (r .next .at) qs)
-      → (r .pair ≡ p) × Comes s source (r .next) table goal ps
-  taken-few c own t =
-      let f : InFew (source .few) (x .at) (p ∷ ps) × (table ≡ goal) = rw own at c in
+      → (r .pair ≡ p) × ComesBehind s source (r .next) table goal ps
+  taken-few own t =
+      let f : ByValue source x table goal (p ∷ ps) = rw own at c in
       let o = t p ps (f .0) in
       (o .0, rw own (o .1, f .1))
 
-  pub taken-bytes : Comes s source x table goal (p ∷ ps) → source .own ≡ false
-      → ((q : Pair) (end : ℕ) → 0 < x .left → pairFrom (x .at) s ≡ done q end → r ≡ record { pair = q; next = afterPair x end })
-      → (y : Far) (new : List ℕ) → ((qs : List Pair) (g : List ℕ) → FromMessages s (source .total) (r .next) table g qs → FromBytes s (source .total) y new g qs)
-      → (r .pair ≡ p) × Comes s source y new goal ps
-  taken-bytes c own t y new to =
+  pub taken-bytes : source .own ≡ false
+      → ((q : Pair) (end : ℕ) → pairFrom (x .at) s ≡ done q end → r ≡ record { pair = q; next = afterPair x end })
+      → (r .pair ≡ p) × ComesBehind s source (r .next) table goal ps
+  taken-bytes own t =
       let b : FromBytes s (source .total) x table goal (p ∷ ps) = rw own at c in
       let n = first-of b in
-      let e = t p (n .end) (n .some) (n .from) in (
+      let e = t p (n .end) (n .from) in (
         ap (λ (g : Given). g .pair) e,
-        rw own (to ps goal (subst (λ (g : Given). FromMessages s (source .total) (g .next) table goal ps) (sym e) (n .others))),
+        rw own (subst (λ (g : Given). FromMessages s (source .total) (g .next) table goal ps) (sym e) (n .others)),
       )
+
+-- Behind it, the messages before the next are filled in where pairs come from the bytes.
+module _ (s : List ℕ) (source : Source) (x : Far) (table goal : List ℕ) (ps : List Pair) (c : ComesBehind s source x table goal ps) where
+  pub next-few : source .own ≡ true → Comes s source x table goal ps
+  next-few own = let f : ByValue source x table goal ps = rw own at c in rw own f
+
+  pub next-bytes : source .own ≡ false → (y : Far) (new : List ℕ)
+      → ((qs : List Pair) (g : List ℕ) → FromMessages s (source .total) x table g qs → FromBytes s (source .total) y new g qs)
+      → Comes s source y new goal ps
+  next-bytes own y new to = let f : FromMessages s (source .total) x table goal ps = rw own at c in rw own (to ps goal f)

@@ -75,8 +75,15 @@ pub record InFew (few : Few) (n : ℕ) (ps : List Pair) : Type 0 where
   pub are : ps ≡ take (length ps) (drop n (four few))
 
 -- Pairs that are there by value come with all messages in the table.
+abbrev pub ByValue : Source → Far → List ℕ → List ℕ → List Pair → Type 0
+ByValue source x table goal ps = InFew (source .few) (x .at) ps × (table ≡ goal)
+
+-- what comes from there on, right behind a pair; and what comes where the messages before the next pair are filled in
+abbrev pub ComesBehind : List ℕ → Source → Far → List ℕ → List ℕ → List Pair → Type 0
+ComesBehind s source x table goal ps = cond (source .own) (ByValue source x table goal ps) (FromMessages s (source .total) x table goal ps)
+
 abbrev pub Comes : List ℕ → Source → Far → List ℕ → List ℕ → List Pair → Type 0
-Comes s source x table goal ps = cond (source .own) (InFew (source .few) (x .at) ps × (table ≡ goal)) (FromBytes s (source .total) x table goal ps)
+Comes s source x table goal ps = cond (source .own) (ByValue source x table goal ps) (FromBytes s (source .total) x table goal ps)
 
 -- An answer with no pairs: none of those that are there by value.
 abbrev pub noneFound : FrameRead → Found

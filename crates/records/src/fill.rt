@@ -19,7 +19,7 @@ use walker::Place;
 use walker::Step;
 ghost use mathlib.Core.Path.{_≡_};
 ghost use mathlib.Core.List.{List, _∷_};
-ghost use Prim.Native.Nat.{ℕ, _≤_, _<_};
+ghost use Prim.Native.Nat.{ℕ, _-_, _≤_};
 ghost use lib.ListN.{length, drop, getD};
 ghost use Rattle.answer.specs.Answer.{done, written, leaves};
 ghost use Rattle.types.specs.Value.{string};
@@ -28,7 +28,7 @@ ghost use Rattle.frame.specs.declared.Pair.{Pair as PairRecord};
 ghost use Rattle.frame.specs.Records.{messageWidth, messageNumbers};
 ghost use Rattle.parser.specs.Pair.{pairFrom};
 ghost use Rattle.parser.specs.Promise.{noPair};
-ghost use Rattle.records.specs.Inner.{afterPair, FromMessages, FromBytes, four, InFew, Comes, noneFound, Prepared};
+ghost use Rattle.records.specs.Inner.{afterPair, FromMessages, FromBytes, four, InFew, ComesBehind, Comes, noneFound, Prepared};
 
 // A pair that is not there, and four of these.
 const NO_PAIR: Pair = Pair {
@@ -62,13 +62,23 @@ fn name_at(input: &[u8], at: usize) -> Text
     types::read_string(&input[at..])
 }
 
-// The pair that stands there, and how far it is behind it.
+// One less, where there is one.
+fn one_less(n: usize) -> usize
+    ensures { λ r. ⌜ r ≡ n - 1 ⌝ }
+{
+    if n == 0 {
+        return 0;
+    }
+    n - 1
+}
+
+// The pair that stands there, and how far it is behind it. How many are left is counted here, so the walker is told that one is.
 fn taken(input: &[u8], x: Far) -> Given
-    ensures { λ r. ⌜ ((p : PairRecord) (end : ℕ) → 0 < x .left → pairFrom (x .at) (now (input .entry)) ≡ done p end → r ≡ record { pair = p; next = afterPair x end }) ⌝ }
+    ensures { λ r. ⌜ ((p : PairRecord) (end : ℕ) → pairFrom (x .at) (now (input .entry)) ≡ done p end → r ≡ record { pair = p; next = afterPair x end }) ⌝ }
 {
     let place = Place {
         at: x.at,
-        left: x.left,
+        left: 1,
         kv: false,
     };
     let Step::Found { pair, next } = walker::step_from(input, place) else {
@@ -81,7 +91,7 @@ fn taken(input: &[u8], x: Far) -> Given
         pair,
         next: Far {
             at: next.at,
-            left: next.left,
+            left: one_less(x.left),
             messages: x.messages,
             pairs: x.pairs,
         },
@@ -185,18 +195,25 @@ fn taken_ahead(few: Few, x: Far) -> Given
     }
 }
 
-// The next pair, and how far it is behind it. Messages that stand there are filled in.
-pub(crate) fn take_next(input: &[u8], source: Source, x: Far, messages: &mut [u64]) -> Given
-    ensures { λ r. ⌜ ((p : PairRecord) (ps : List PairRecord) (goal : List ℕ) → Comes (now (input .entry)) source x (now (messages .entry)) goal (p ∷ ps) → (r .pair ≡ p) × Comes (now (input .entry)) source (r .next) (now (messages .exit)) goal ps) ⌝ }
+// The next pair, and how far it is behind it.
+pub(crate) fn take_next(input: &[u8], source: Source, x: Far) -> Given
+    ensures { λ r. ⌜ ((p : PairRecord) (ps : List PairRecord) (table goal : List ℕ) → Comes (now (input .entry)) source x table goal (p ∷ ps) → (r .pair ≡ p) × ComesBehind (now (input .entry)) source (r .next) table goal ps) ⌝ }
 {
     if source.own {
         let few = source.few;
         return taken_ahead(few, x);
     }
-    let given = taken(input, x);
-    let pair = given.pair;
-    let next = to_argument(input, source.total, given.next, messages);
-    Given { pair, next }
+    taken(input, x)
+}
+
+// Behind a pair: fills in the messages that stand before the next one.
+pub(crate) fn to_next(input: &[u8], source: Source, x: Far, messages: &mut [u64]) -> Far
+    ensures { λ r. ⌜ ((ps : List PairRecord) (goal : List ℕ) → ComesBehind (now (input .entry)) source x (now (messages .entry)) goal ps → Comes (now (input .entry)) source r (now (messages .exit)) goal ps) ⌝ }
+{
+    if source.own {
+        return x;
+    }
+    to_argument(input, source.total, x, messages)
 }
 
 // An answer that comes with no pairs.

@@ -3,6 +3,7 @@ use crate::Far;
 use crate::Source;
 use crate::fill::prepare;
 use crate::fill::take_next;
+use crate::fill::to_next;
 use frame::Pair;
 use parser::FrameRead;
 ghost use mathlib.Core.Path.{_≡_};
@@ -28,9 +29,9 @@ fn fill_records(
     let mut x = start;
     let mut i = 0;
     while i < count {
-        let t = take_next(input, source, x, messages);
+        let t = take_next(input, source, x);
         pairs[i] = t.pair;
-        x = t.next;
+        x = to_next(input, source, t.next, messages);
         i = i + 1;
     }
 }

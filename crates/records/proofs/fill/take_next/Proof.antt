@@ -9,26 +9,18 @@ taken-ahead-requires : tie.Need-taken-ahead-requires
 taken-ahead-requires c κs = search needs
 
 returns : tie.Need-returns
-returns c p ps goal f =
+returns c p ps table goal f =
     let i = c .before .before in
-    let a = i .before .before .before .args in
-    taken-few (a .input .now) (a .source) (a .x) (a .messages .now) goal p ps (c .taken-ahead .result) f (i .if1 .taken) (c .taken-ahead .ensures)
+    let a = i .before .before .args in
+    taken-few (a .input .now) (a .source) (a .x) table goal p ps (c .taken-ahead .result) f (i .if1 .taken) (c .taken-ahead .ensures)
 
 taken-requires : tie.Need-taken-requires
 taken-requires c κs = search needs
 
-to-argument-requires : tie.Need-to-argument-requires
-to-argument-requires c κs = search needs
-
-same-length : tie.Need-same-length
-same-length c = search needs
-
 returns-2 : tie.Need-returns-2
-returns-2 c p ps goal f =
-    let w = c .before .before in
-    let t = w .before .before .before in
-    let a = t .before .before .before .before .args in
-    taken-bytes (a .input .now) (a .source) (a .x) (a .messages .now) goal p ps (t .taken .result) f (t .before .if1 .left) (t .taken .ensures) _ _ (w .to-argument .ensures)
+returns-2 c p ps table goal f =
+    let a = c .before .before .before .args in
+    taken-bytes (a .input .now) (a .source) (a .x) table goal p ps (c .taken .result) f (c .before .if1 .left) (c .taken .ensures)
 
 pub take-next-spec : {M : Type 1} → statement M
-take-next-spec = tie.close (tie.spec taken-ahead-requires returns taken-requires to-argument-requires same-length returns-2)
+take-next-spec = tie.close (tie.spec taken-ahead-requires returns taken-requires returns-2)
