@@ -17,7 +17,7 @@ use Rattle.parser.specs.Inner.{Run}
 use Rattle.records.specs.declared.Source.{Source}
 use Rattle.records.specs.declared.Far.{Far}
 use Rattle.records.specs.declared.Given.{Given}
-use Rattle.records.specs.Inner.{afterPair, FromMessages, FromBytes, four, InFew, ByValue, ComesBehind, Comes}
+use Rattle.records.specs.Inner.{afterPair, FromMessages, FromBytes, four, InFew, ByValue, Comes}
 
 -- ---- from the bytes
 
@@ -86,44 +86,40 @@ few-past few (suc (suc (suc (suc n)))) a b c d = refl
 
 -- ---- both
 
--- Where no pairs are left to come, the table is what it is to be.
-pub comes-none : (s : List ℕ) (source : Source) (x : Far) (table goal : List ℕ) → Comes s source x table goal [] → table ≡ goal
-comes-none s source x table goal c =
-    bool-cases (source .own)
-    (λ own. let f : ByValue source x table goal [] = rw own at c in f .1)
-    (λ own. let b : FromBytes s (source .total) x table goal [] = rw own at c in go b (b .from .qs) (b .from .is) (b .from .many))
+-- Where no pairs are left to come, the table is what it is to be: by value as it is, and else once the messages that are left are filled in.
+pub none-few : (s : List ℕ) (source : Source) (x : Far) (table goal : List ℕ) → Comes s source x table goal [] → source .own ≡ true → table ≡ goal
+none-few s source x table goal c own = let f : ByValue source x table goal [] = rw own at c in f .1
+
+pub none-bytes : (s : List ℕ) (source : Source) (x : Far) (table goal : List ℕ) → Comes s source x table goal [] → source .own ≡ false
+    → (y : Far) (new : List ℕ) → ((qs : List Pair) (g : List ℕ) → FromMessages s (source .total) x table g qs → FromBytes s (source .total) y new g qs) → new ≡ goal
+none-bytes s source x table goal c own y new to =
+    let f : FromMessages s (source .total) x table goal [] = rw own at c in
+    let b = to [] goal f in
+    go b (b .from .qs) (b .from .is) (b .from .many)
   where
-    go : (b : FromBytes s (source .total) x table goal []) (qs : List Pair) → [] ≡ qs ++ b .from .rest → length qs ≡ x .left → table ≡ goal
+    go : (b : FromBytes s (source .total) y new goal []) (qs : List Pair) → [] ≡ qs ++ b .from .rest → length qs ≡ y .left → new ≡ goal
     go b [] is many = b .ends (sym many) .1
     go b (q ∷ qs) is many = absurd (omega (arith, ap length is))
 
 -- The first of the pairs that come was taken, and the others come behind it.
 module _ (s : List ℕ) (source : Source) (x : Far) (table goal : List ℕ) (p : Pair) (ps : List Pair) (r : Given) (c : Comes s source x table goal (p ∷ ps)) where
   pub taken-few : source .own ≡ true
-      → ((q : Pair) (qs : List Pair) → InFew (source .few) (x .at) (q ∷ qs) → (r .pair ≡ q) × InFew (source .few) (r .next .at) qs)
-      → (r .pair ≡ p) × ComesBehind s source (r .next) table goal ps
+      → ((q : Pair) (qs : List Pair) → InFew (source .few) (x .at) (q ∷ qs) → (r .some ≡ true) × (r .pair ≡ q) × InFew (source .few) (r .next .at) qs)
+      → (r .some ≡ true) × (r .pair ≡ p) × Comes s source (r .next) table goal ps
   taken-few own t =
       let f : ByValue source x table goal (p ∷ ps) = rw own at c in
       let o = t p ps (f .0) in
-      (o .0, rw own (o .1, f .1))
+      (o .0, o .1, rw own (o .2, f .1))
 
   pub taken-bytes : source .own ≡ false
-      → ((q : Pair) (end : ℕ) → pairFrom (x .at) s ≡ done q end → r ≡ record { pair = q; next = afterPair x end })
-      → (r .pair ≡ p) × ComesBehind s source (r .next) table goal ps
-  taken-bytes own t =
-      let b : FromBytes s (source .total) x table goal (p ∷ ps) = rw own at c in
-      let n = first-of b in
+      → (y : Far) (new : List ℕ) → ((qs : List Pair) (g : List ℕ) → FromMessages s (source .total) x table g qs → FromBytes s (source .total) y new g qs)
+      → ((q : Pair) (end : ℕ) → pairFrom (y .at) s ≡ done q end → r ≡ record { some = true; pair = q; next = afterPair y end })
+      → (r .some ≡ true) × (r .pair ≡ p) × Comes s source (r .next) new goal ps
+  taken-bytes own y new to t =
+      let f : FromMessages s (source .total) x table goal (p ∷ ps) = rw own at c in
+      let n = first-of (to (p ∷ ps) goal f) in
       let e = t p (n .end) (n .from) in (
+        ap (λ (g : Given). g .some) e,
         ap (λ (g : Given). g .pair) e,
-        rw own (subst (λ (g : Given). FromMessages s (source .total) (g .next) table goal ps) (sym e) (n .others)),
+        rw own (subst (λ (g : Given). FromMessages s (source .total) (g .next) new goal ps) (sym e) (n .others)),
       )
-
--- Behind it, the messages before the next are filled in where pairs come from the bytes.
-module _ (s : List ℕ) (source : Source) (x : Far) (table goal : List ℕ) (ps : List Pair) (c : ComesBehind s source x table goal ps) where
-  pub next-few : source .own ≡ true → Comes s source x table goal ps
-  next-few own = let f : ByValue source x table goal ps = rw own at c in rw own f
-
-  pub next-bytes : source .own ≡ false → (y : Far) (new : List ℕ)
-      → ((qs : List Pair) (g : List ℕ) → FromMessages s (source .total) x table g qs → FromBytes s (source .total) y new g qs)
-      → Comes s source y new goal ps
-  next-bytes own y new to = let f : FromMessages s (source .total) x table goal ps = rw own at c in rw own (to ps goal f)

@@ -19,6 +19,7 @@ use Rattle.parser.specs.declared.FrameRead.{FrameRead}
 use Rattle.parser.specs.Promise.{noPair, frameSaid, frameTells, contentsRead}
 use Rattle.records.specs.declared.Source.{Source}
 use Rattle.records.specs.declared.Far.{Far}
+use Rattle.records.specs.declared.Given.{Given}
 use Rattle.records.specs.declared.Found.{Found}
 use Rattle.records.specs.Promise.{pairsLeft}
 
@@ -61,7 +62,7 @@ pub record FromMessages (s : List ℕ) (total : ℕ) (x : Far) (table goal : Lis
   pub fits : x .pairs + length rest < 2 ^ 64
   pub goes : goal ≡ writtenAt (x .messages * messageWidth) (joined messageNumbers messages) table
 
--- And where no pair comes before the next message, all is done.
+-- The same where the messages before the next pair are filled in: where no pair comes before the next message, all is done.
 pub record FromBytes (s : List ℕ) (total : ℕ) (x : Far) (table goal : List ℕ) (ps : List Pair) : Type 0 where
   pub from : FromMessages s total x table goal ps
   pub ends : x .left ≡ 0 → (ps ≡ []) × (table ≡ goal)
@@ -78,12 +79,15 @@ pub record InFew (few : Few) (n : ℕ) (ps : List Pair) : Type 0 where
 abbrev pub ByValue : Source → Far → List ℕ → List ℕ → List Pair → Type 0
 ByValue source x table goal ps = InFew (source .few) (x .at) ps × (table ≡ goal)
 
--- what comes from there on, right behind a pair; and what comes where the messages before the next pair are filled in
-abbrev pub ComesBehind : List ℕ → Source → Far → List ℕ → List ℕ → List Pair → Type 0
-ComesBehind s source x table goal ps = cond (source .own) (ByValue source x table goal ps) (FromMessages s (source .total) x table goal ps)
-
+-- what comes from there on
 abbrev pub Comes : List ℕ → Source → Far → List ℕ → List ℕ → List Pair → Type 0
-Comes s source x table goal ps = cond (source .own) (ByValue source x table goal ps) (FromBytes s (source .total) x table goal ps)
+Comes s source x table goal ps = cond (source .own) (ByValue source x table goal ps) (FromMessages s (source .total) x table goal ps)
+
+-- What taking the next pair gives, where i of so many were taken: the first of those that come, and behind it come the others. Nothing is done once all were.
+pub record TakesNext (s : List ℕ) (source : Source) (x : Far) (i count : ℕ) (r : Given) (old new : List ℕ) : Type 0 where
+  pub within : r .some ≡ true → i < count
+  pub stays : count ≤ i → new ≡ old
+  pub gives : (p : Pair) (ps : List Pair) (goal : List ℕ) → i < count → Comes s source x old goal (p ∷ ps) → (r .some ≡ true) × (r .pair ≡ p) × Comes s source (r .next) new goal ps
 
 -- An answer with no pairs: none of those that are there by value.
 abbrev pub noneFound : FrameRead → Found

@@ -18,7 +18,8 @@ use types::Value;
 use walker::Place;
 use walker::Step;
 ghost use mathlib.Core.Path.{_≡_};
-ghost use mathlib.Core.List.{List, _∷_};
+ghost use mathlib.Core.Bool.{true, false};
+ghost use mathlib.Core.List.{List, [], _∷_};
 ghost use Prim.Native.Nat.{ℕ, _-_, _≤_};
 ghost use lib.ListN.{length, drop, getD};
 ghost use Rattle.answer.specs.Answer.{done, written, leaves};
@@ -28,7 +29,7 @@ ghost use Rattle.frame.specs.declared.Pair.{Pair as PairRecord};
 ghost use Rattle.frame.specs.Records.{messageWidth, messageNumbers};
 ghost use Rattle.parser.specs.Pair.{pairFrom};
 ghost use Rattle.parser.specs.Promise.{noPair};
-ghost use Rattle.records.specs.Inner.{afterPair, FromMessages, FromBytes, four, InFew, ComesBehind, Comes, noneFound, Prepared};
+ghost use Rattle.records.specs.Inner.{afterPair, FromMessages, FromBytes, four, InFew, Comes, TakesNext, noneFound, Prepared};
 
 // A pair that is not there, and four of these.
 const NO_PAIR: Pair = Pair {
@@ -72,9 +73,20 @@ fn one_less(n: usize) -> usize
     n - 1
 }
 
+// No pair.
+fn none(x: Far) -> Given
+    ensures { λ r. ⌜ r ≡ record { some = false; pair = noPair; next = x } ⌝ }
+{
+    Given {
+        some: false,
+        pair: NO_PAIR,
+        next: x,
+    }
+}
+
 // The pair that stands there, and how far it is behind it. How many are left is counted here, so the walker is told that one is.
 fn taken(input: &[u8], x: Far) -> Given
-    ensures { λ r. ⌜ ((p : PairRecord) (end : ℕ) → pairFrom (x .at) (now (input .entry)) ≡ done p end → r ≡ record { pair = p; next = afterPair x end }) ⌝ }
+    ensures { λ r. ⌜ ((p : PairRecord) (end : ℕ) → pairFrom (x .at) (now (input .entry)) ≡ done p end → r ≡ record { some = true; pair = p; next = afterPair x end }) ⌝ }
 {
     let place = Place {
         at: x.at,
@@ -82,12 +94,10 @@ fn taken(input: &[u8], x: Far) -> Given
         kv: false,
     };
     let Step::Found { pair, next } = walker::step_from(input, place) else {
-        return Given {
-            pair: NO_PAIR,
-            next: x,
-        };
+        return none(x);
     };
     Given {
+        some: true,
         pair,
         next: Far {
             at: next.at,
@@ -175,16 +185,14 @@ fn nth(few: Few, n: usize) -> Pair
 
 // The next of them, and the number of the one behind it.
 fn taken_ahead(few: Few, x: Far) -> Given
-    ensures { λ r. ⌜ ((p : PairRecord) (ps : List PairRecord) → InFew few (x .at) (p ∷ ps) → (r .pair ≡ p) × InFew few (r .next .at) ps) ⌝ }
+    ensures { λ r. ⌜ ((p : PairRecord) (ps : List PairRecord) → InFew few (x .at) (p ∷ ps) → (r .some ≡ true) × (r .pair ≡ p) × InFew few (r .next .at) ps) ⌝ }
 {
     let n = x.at;
     if 4 <= n {
-        return Given {
-            pair: NO_PAIR,
-            next: x,
-        };
+        return none(x);
     }
     Given {
+        some: true,
         pair: nth(few, n),
         next: Far {
             at: n + 1,
@@ -195,25 +203,36 @@ fn taken_ahead(few: Few, x: Far) -> Given
     }
 }
 
-// The next pair, and how far it is behind it.
-pub(crate) fn take_next(input: &[u8], source: Source, x: Far) -> Given
-    ensures { λ r. ⌜ ((p : PairRecord) (ps : List PairRecord) (table goal : List ℕ) → Comes (now (input .entry)) source x table goal (p ∷ ps) → (r .pair ≡ p) × ComesBehind (now (input .entry)) source (r .next) table goal ps) ⌝ }
+// The next pair, where i of so many were taken, and how far it is behind it. Messages that stand before it are filled in.
+pub(crate) fn take_next(
+    input: &[u8],
+    source: Source,
+    x: Far,
+    i: usize,
+    count: usize,
+    messages: &mut [u64],
+) -> Given
+    ensures { λ r. ⌜ TakesNext (now (input .entry)) source x i count r (now (messages .entry)) (now (messages .exit)) ⌝ }
 {
+    if count <= i {
+        return none(x);
+    }
     if source.own {
         let few = source.few;
         return taken_ahead(few, x);
     }
-    taken(input, x)
+    let y = to_argument(input, source.total, x, messages);
+    taken(input, y)
 }
 
-// Behind a pair: fills in the messages that stand before the next one.
-pub(crate) fn to_next(input: &[u8], source: Source, x: Far, messages: &mut [u64]) -> Far
-    ensures { λ r. ⌜ ((ps : List PairRecord) (goal : List ℕ) → ComesBehind (now (input .entry)) source x (now (messages .entry)) goal ps → Comes (now (input .entry)) source r (now (messages .exit)) goal ps) ⌝ }
+// Behind the last pair: fills in the messages that are left.
+pub(crate) fn finish(input: &[u8], source: Source, x: Far, messages: &mut [u64])
+    ensures { λ _. ⌜ ((goal : List ℕ) → Comes (now (input .entry)) source x (now (messages .entry)) goal [] → now (messages .exit) ≡ goal) ⌝ }
 {
     if source.own {
-        return x;
+        return;
     }
-    to_argument(input, source.total, x, messages)
+    let _ = to_argument(input, source.total, x, messages);
 }
 
 // An answer that comes with no pairs.
@@ -247,7 +266,7 @@ fn before_messages(kind: u64, pairs: usize) -> usize
     pairs
 }
 
-// Looks at the frame; where it is accepted, finds where its pairs stand, and fills in the messages before the first.
+// Looks at the frame; where it is accepted, finds where its payload starts.
 fn prepare_many(input: &[u8], limit: u32, room: usize, messages: &mut [u64]) -> Found
     ensures { λ r. ⌜ Prepared (now (input .entry)) limit room r (now (messages .entry)) (now (messages .exit)) ⌝ }
 {
@@ -266,13 +285,12 @@ fn prepare_many(input: &[u8], limit: u32, room: usize, messages: &mut [u64]) -> 
         return nothing(answer);
     };
     let place = walker::kv_of(&input[..used]);
-    let from = Far {
+    let start = Far {
         at: place.at,
         left: before_messages(metadata.kind, pair_count),
         messages: 0,
         pairs: 0,
     };
-    let start = to_argument(input, message_count, from, messages);
     Found {
         answer,
         count: pair_count,

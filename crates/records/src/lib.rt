@@ -25,8 +25,9 @@ pub(crate) struct Far {
     pub pairs: usize,
 }
 
-// A pair that was taken, and how far it is behind it.
+// Whether a pair was taken; the pair, and how far it is behind it.
 pub(crate) struct Given {
+    pub some: bool,
     pub pair: Pair,
     pub next: Far,
 }

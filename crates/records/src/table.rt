@@ -1,9 +1,9 @@
 // The calls that hold the table of pair records. Each is short, as its proof is a walk over its compiled form, by hand; the work is `fill`'s.
 use crate::Far;
 use crate::Source;
+use crate::fill::finish;
 use crate::fill::prepare;
 use crate::fill::take_next;
-use crate::fill::to_next;
 use frame::Pair;
 use parser::FrameRead;
 ghost use mathlib.Core.Path.{_≡_};
@@ -28,12 +28,16 @@ fn fill_records(
 {
     let mut x = start;
     let mut i = 0;
-    while i < count {
-        let t = take_next(input, source, x);
+    loop {
+        let t = take_next(input, source, x, i, count, messages);
+        if t.some {} else {
+            break;
+        }
         pairs[i] = t.pair;
-        x = to_next(input, source, t.next, messages);
+        x = t.next;
         i = i + 1;
     }
+    finish(input, source, x, messages);
 }
 
 // Reads the frame at the front of `input`, as `read_frame` does, into a table of pair records.

@@ -1,5 +1,5 @@
 -- `records::fill::prepare_many` meets its contract: a frame that is not accepted comes with no pairs; of one that is, what its payload holds comes from where
--- that starts, and the messages before the first pair are filled in.
+-- that starts.
 -- Assumes nothing.
 use borrow.Author.Needs.{needs}
 use mathlib.Core.Path.{_≡_, sym, ap, subst, _∙_}
@@ -66,22 +66,13 @@ kv-of-requires c κs = search needs
 before-messages-requires : tie.Need-before-messages-requires
 before-messages-requires c κs = search needs
 
-to-argument-requires : tie.Need-to-argument-requires
-to-argument-requires c κs = search needs
-
-same-length : tie.Need-same-length
-same-length c = search needs
-
 returns-2 : tie.Need-returns-2
 returns-2 c =
-    let w = c .before .before in
-    let n = w .before .before in
-    let k = n .before .before .before in
+    let k = c .before .before .before in
     let a = start k .args in
     found-prepared (a .input .now) (a .limit) (a .room) (a .messages .now) (head k) (messages k) (pairs k) (used k) (said k) _ _ _
-    (w .to-argument .ensures _ _
     (from-first (a .input .now) (a .limit) (a .room) (a .messages .now) (head k) (messages k) (pairs k) (used k) (said k) (start k .fits .room .fits) _ _
-    (ap (λ (x : Place). x .at) (n .before .kv-of .ensures)) (n .before-messages .ensures)))
+    (ap (λ (x : Place). x .at) (c .before .kv-of .ensures)) (c .before-messages .ensures))
 
 pub prepare-many-spec : {M : Type 1} → statement M
 prepare-many-spec =
@@ -94,6 +85,4 @@ prepare-many-spec =
     slice-aggregate-kv-of
     kv-of-requires
     before-messages-requires
-    to-argument-requires
-    same-length
     returns-2)

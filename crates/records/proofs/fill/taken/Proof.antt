@@ -1,8 +1,8 @@
 -- `records::fill::taken` meets its contract: where a pair stands, the step of a walker that has one to come finds it.
 -- Assumes nothing.
 use borrow.Author.Needs.{needs}
-use mathlib.Core.Path.{_≡_, refl, sym, ap, _∙_}
-use mathlib.Core.Bool.{false}
+use mathlib.Core.Path.{_≡_, refl, sym, ap, ap₂, _∙_}
+use mathlib.Core.Bool.{true, false}
 use mathlib.Core.Logic.{⊎-elim}
 use Prim.Native.Nat.{ℕ}
 use native.Mathlib.Omega.{arith}
@@ -35,10 +35,14 @@ found t p end f =
     let a = t .before .before .args in
     t .step-from .ensures ∙ step-is (a .input .now) (record { at = a .x .at; left = 1; kv = false }) refl (done p end) f
 
+none-requires : tie.Need-none-requires
+none-requires c κs = search needs
+
 returns : tie.Need-returns
 returns c p end f =
-    let tag = ap (λ (r : Step). tagOf (declared enum) r) (found (c .before) p end f) in
-    ⊎-elim (λ n. absurd (omega (arith, tag, n))) (λ n. absurd (omega (arith, tag, n))) (c .match .keys2)
+    let k = c .before in
+    let tag = ap (λ (r : Step). tagOf (declared enum) r) (found (k .before) p end f) in
+    ⊎-elim (λ n. absurd (omega (arith, tag, n))) (λ n. absurd (omega (arith, tag, n))) (k .match .keys2)
 
 one-less-requires : tie.Need-one-less-requires
 one-less-requires c κs = search needs
@@ -53,10 +57,8 @@ returns-2 c p end f =
     let g : v.Found pair place ≡ v.Found p (behind end) = sym (k .pair .given .1) ∙ found t p end f in
     let same : pair ≡ p = cc in
     let goes : place ≡ behind end = cc in
-    let at : place .at ≡ end = ap (λ (y : Place). y .at) goes in
-    ap (λ (q : Pair). record { pair = q; next = record { at = place .at; left = c .one-less .result; messages = x .messages; pairs = x .pairs } }) same
-    ∙ ap (λ (n : ℕ). record { pair = p; next = record { at = n; left = c .one-less .result; messages = x .messages; pairs = x .pairs } }) at
-    ∙ ap (λ (n : ℕ). record { pair = p; next = record { at = end; left = n; messages = x .messages; pairs = x .pairs } }) (c .one-less .ensures)
+    let given : Pair → ℕ → ℕ → Given = λ q at left. record { some = true; pair = q; next = record { at = at; left = left; messages = x .messages; pairs = x .pairs } } in
+    ap (λ (q : Pair). given q (place .at) (c .one-less .result)) same ∙ ap₂ (given p) (ap (λ (y : Place). y .at) goes) (c .one-less .ensures)
 
 pub taken-spec : {M : Type 1} → statement M
-taken-spec = tie.close (tie.spec step-from-requires enum-known-pair returns one-less-requires returns-2)
+taken-spec = tie.close (tie.spec step-from-requires enum-known-pair none-requires returns one-less-requires returns-2)
