@@ -86,7 +86,7 @@ Comes s source x table goal ps = cond (source .own) (ByValue source x table goal
 -- What taking the next pair gives, where i of so many were taken: the first of those that come, and behind it come the others. Nothing is done once all were.
 pub record TakesNext (s : List ℕ) (source : Source) (x : Far) (i count : ℕ) (r : Given) (old new : List ℕ) : Type 0 where
   pub within : r .some ≡ true → i < count
-  pub stays : count ≤ i → new ≡ old
+  pub stays : count ≤ i → (r .next ≡ x) × (new ≡ old)
   pub gives : (p : Pair) (ps : List Pair) (goal : List ℕ) → i < count → Comes s source x old goal (p ∷ ps) → (r .some ≡ true) × (r .pair ≡ p) × Comes s source (r .next) new goal ps
 
 -- An answer with no pairs: none of those that are there by value.

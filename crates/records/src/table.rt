@@ -30,11 +30,11 @@ fn fill_records(
     let mut i = 0;
     loop {
         let t = take_next(input, source, x, i, count, messages);
+        x = t.next;
         if t.some {} else {
             break;
         }
         pairs[i] = t.pair;
-        x = t.next;
         i = i + 1;
     }
     finish(input, source, x, messages);

@@ -17,7 +17,7 @@ returns : tie.Need-returns
 returns c =
     record {
       within = λ e. true-false e (ap (λ (g : Given). g .some) (c .none .ensures));
-      stays = λ h. refl;
+      stays = λ h. (ap (λ (g : Given). g .next) (c .none .ensures), refl);
       gives = λ p ps goal h f. absurd (omega (arith, h, c .before .if1 .taken));
     }
 

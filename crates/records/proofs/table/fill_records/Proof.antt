@@ -132,14 +132,14 @@ tail = seq (cond (copy (place 12 [])) skipᴹ (exit 1))
     (seq (assign (place 13 []) (op2 (mul unsigned) (copy (place 8 [])) (int w64 wide)))
     (seq (assign (place 14 []) (op2 offset (copy (place 6 (field 0 ∷ []))) (copy (place 13 []))))
     (seq (assign (place 14 (deref Q′.mir ∷ [])) (rvOpd (copy (place 9 (field 1 ∷ [])))))
-    (seq (assign (place 7 []) (rvOpd (copy (place 9 (field 2 ∷ [])))))
-    (assign (place 8 []) (op2 (add unsigned) (copy (place 8 [])) (int w64 1)))))))
+    (assign (place 8 []) (op2 (add unsigned) (copy (place 8 [])) (int w64 1))))))
 
 abbrev turn : Code
 turn = seq (assign (place 10 []) (addrOf (place 5 (field 0 ∷ deref word ∷ []))))
     (seq (assign (place 11 []) (aggregate (copy (place 10 []) ∷ copy (place 5 (field 1 ∷ [])) ∷ [])))
     (seq (call #take-next (copy (place 1 []) ∷ copy (place 2 []) ∷ copy (place 7 []) ∷ copy (place 8 []) ∷ copy (place 4 []) ∷ copy (place 11 []) ∷ []) (place 9 []))
-    (seq (assign (place 12 []) (rvOpd (copy (place 9 (field 0 ∷ []))))) tail)))
+    (seq (assign (place 7 []) (rvOpd (copy (place 9 (field 2 ∷ [])))))
+    (seq (assign (place 12 []) (rvOpd (copy (place 9 (field 0 ∷ []))))) tail))))
 
 abbrev rest : Code
 rest = seq (assign (place 16 []) (addrOf (place 5 (field 0 ∷ deref word ∷ []))))
@@ -304,16 +304,16 @@ module _ {M : Type 1} (𝓤 : URA M) (H : Heap 𝓤) (A : Atoms 𝓤) (W : Given
         ∷ ‵ (fdies tyUnit l₀) ∷ ‵ (fdies bytes l₁) ∷ ‵ (fdies S′.mir l₂) ∷ ‵ (fdies F′.mir l₃) ∷ ‵ (fdies word l₄) ∷ ‵ (fdies words l₅) ∷ ‵ (fdies records l₆) ∷ ‵ (fdies F′.mir l₇) ∷ ‵ (fdies word l₈) ∷ ‵ (fdies K′.mir l₉) ∷ ‵ (fdies (tyRef erased mut word) l₁₀) ∷ ‵ (fdies lent l₁₁) ∷ ‵ (fdies tyBool l₁₂) ∷ ‵ (fdies word l₁₃) ∷ ‵ (fdies tyPtr l₁₄) ∷ ‵ (fdies tyUnit l₁₅) ∷ ‵ (fdies (tyRef erased mut word) l₁₆) ∷ ‵ (fdies lent l₁₇) ∷ []
 
     -- the records, the locals that a turn changes, what the call gave and the test, and the messages
-    abbrev With : Stage → Item 𝓤 → Item 𝓤 → List ℕ → List (Item 𝓤)
-    With z taken test table = ‵ (row Q.the-row fullShare (z .zs ++ drop (z .i) ys) b o) ∷ ‵ (fat fullShare F′.mir l₇ 0 (F′.lowered (z .x))) ∷ ‵ (fat fullShare word l₈ 0 (vint w64 (z .i)))
+    abbrev With : Stage → Far → Item 𝓤 → Item 𝓤 → List ℕ → List (Item 𝓤)
+    With z x taken test table = ‵ (row Q.the-row fullShare (z .zs ++ drop (z .i) ys) b o) ∷ ‵ (fat fullShare F′.mir l₇ 0 (F′.lowered x)) ∷ ‵ (fat fullShare word l₈ 0 (vint w64 (z .i)))
         ∷ taken ∷ ‵ (froom (tyRef erased mut word) l₁₀ 0) ∷ ‵ (froom lent l₁₁ 0) ∷ test ∷ ‵ (froom word l₁₃ 0) ∷ ‵ (froom tyPtr l₁₄ 0) ∷ ‵ (Ownₘ table) ∷ ‵ (flft κ₁ q₁) ∷ Frame
 
     -- before a turn, and behind its call
     abbrev At : Stage → List (Item 𝓤)
-    At z = With z (‵ (froom K′.mir l₉ 0)) (‵ (froom tyBool l₁₂ 0)) (z .table)
+    At z = With z (z .x) (‵ (froom K′.mir l₉ 0)) (‵ (froom tyBool l₁₂ 0)) (z .table)
 
     abbrev Behind : Stage → Gives → List ℕ → List (Item 𝓤)
-    Behind z k table = With z (‵ (fat fullShare K′.mir l₉ 0 (K′.lowered k))) (‵ (fat fullShare tyBool l₁₂ 0 (vbool (k .some)))) table
+    Behind z k table = With z (k .next) (‵ (fat fullShare K′.mir l₉ 0 (K′.lowered k))) (‵ (fat fullShare tyBool l₁₂ 0 (vbool (k .some)))) table
 
     record Facts (t : ℕ) (z : Stage) : Type 0 where
       left : z .i + t ≡ n
@@ -378,7 +378,6 @@ module _ {M : Type 1} (𝓤 : URA M) (H : Heap 𝓤) (A : Atoms 𝓤) (W : Given
         move ! (1 ∷ []) $ let-go ! $ owned ! Q.the-row (Is Q.the-row) (LL.makes Q.the-type Q′.the-plain 𝓤 H A) (k .pair) _ pair-is $ move ! (1 ∷ 0 ∷ []) $
         elem-put ! Q.the-row fullShare (z .zs ++ drop (z .i) ys) (z .i) (k .pair) (Q′.lowered (k .pair) ∷ []) b o within $
         -- [the records; _7; _8; _9; _10; _11; _12; _13; _14; …]
-        assigns ! (of-opd ! (load ! (from ! (fld ! refl (stop !))) (look-in ! 3 (sub ! 2 refl (whole !))))) (from ! (stop !)) (store ! 1 refl (LL.lawful F.the-type F′.the-laws 𝓤 H A W .typed (k .next) _ next-is .0)) $
         assigns-last ! (bin ! (load ! (from ! (stop !)) (look ! 2 refl)) (lit ! tt) (record { fits = next-fits })) (from ! (stop !)) (store ! 2 refl (tt, record { fits = next-fits })) $
         forget ! 3 refl $ forget ! 6 refl $ forget ! 7 refl $ forget ! 8 refl $
         rewrite ! 0 (λ (rs : List Pair). ‵ (row Q.the-row fullShare rs b o)) (sets (z .zs) ys (z .i) (k .pair) (f .many) (omega (arith, f .left, fits))) refl $
@@ -396,21 +395,21 @@ module _ {M : Type 1} (𝓤 : URA M) (H : Heap 𝓤) (A : Atoms 𝓤) (W : Given
             omega (arith, most, f .left, fits)
 
     -- the turn in which there was none, and the rest of the body: the messages go to `finish`, and the borrow is closed at what is stored
-    ends : (X : SProp 𝓤) (t : ℕ) (z : Stage) (k : Gives) (new : List ℕ) → Facts t z → length new ≡ length (z .table) → k .some ≡ false → TakesNext (now s) source (z .x) (z .i) n k (z .table) new
+    ends : (X : SProp 𝓤) (t : ℕ) (z : Stage) (k : Gives) (new : List ℕ) → Facts t z → Is F.the-row (k .next) (F′.lowered (k .next) ∷ []) → length new ≡ length (z .table) → k .some ≡ false → TakesNext (now s) source (z .x) (z .i) n k (z .table) new
         → ent 𝓤 (⋆ 𝓤 H A (Behind z k new)) (Wp 𝓤 H C Λ En tail (afterTurn 𝓤 H X Left))
     unfolding afterTurn
-    ends X t z k new f l none e =
+    ends X t z k new f next-is l none e =
         qed W (Behind z k new) ∵ exec ! C Λ En tail (anyQ (afterTurn 𝓤 H X Left)) $
         rewrite ! 6 (λ (v : Bool). ‵ (fat fullShare tyBool l₁₂ 0 (vbool v))) none refl $
         leaves-loop ! (load ! (from ! (stop !)) (look ! 6 refl)) $ exec ! C Λ En rest (atRet En Post) $
         assigns ! (addr ! (from ! (fld ! refl (hop ! (look-in ! 15 (sub ! 0 refl (whole !))) (stop !))))) (from ! (stop !)) (init ! 19 refl (tt, tt)) $
         assigns ! (agg ! (and-then ! (load ! (from ! (stop !)) (look ! 19 refl)) (and-then ! (load ! (from ! (fld ! refl (stop !))) (look-in ! 15 (sub ! 1 refl (whole !)))) (no-more !)))) (from ! (stop !)) (init ! 20 refl (tt, (tt, (record { fits = rooms .0 }, tt)))) $
-        nothing ! $ move ! (11 ∷ 0 ∷ []) $ join ! $ move ! (24 ∷ 0 ∷ []) $ join ! $ move ! (0 ∷ 10 ∷ 24 ∷ []) $ use3 W (raw (Finish 𝓤 H A mem run .pre (to₂ (z .x) new)) ⊛ ‵ Own₀) (goes₂ (z .x) new (f .is)) $ split ! $
+        nothing ! $ move ! (11 ∷ 0 ∷ []) $ join ! $ move ! (24 ∷ 0 ∷ []) $ join ! $ move ! (0 ∷ 10 ∷ 24 ∷ []) $ use3 W (raw (Finish 𝓤 H A mem run .pre (to₂ (k .next) new)) ⊛ ‵ Own₀) (goes₂ (k .next) new next-is) $ split ! $
         -- [what is asked; what the slice owns; the records; _7; _8; _9; _10; _11; _12; _13; _14; _1; _2; …; _6; _0; _15; _16; _17; …]
-        calls-at ! (fmOf 𝓤 H (W .laws) 𝓣) (Finish 𝓤 H A mem run) known₂ (to₂ (z .x) new) (and-then ! (load ! (from ! (stop !)) (look ! 11 refl)) (and-then ! (load ! (from ! (stop !)) (look ! 12 refl)) (and-then ! (load ! (from ! (stop !)) (look ! 3 refl)) (and-then ! (load ! (from ! (stop !)) (look ! 20 refl)) (no-more !))))) (λ w.
-        use1 W (later (some (λ (u : Unit {0}). (Tok₂ ⊛ ‵ (unit .own u (w ∷ []))) ⊛ raw (ensured 𝓤 H A fin.ended (fin.clauses 𝓤 H A mem run) (κ₀, (κ₁, tt)) (Args₂ (z .x) new) tt u)))) (id⊢ 𝓤 _) $ await ! tt $ pick ! (λ u.
-        split ! $ move ! (1 ∷ []) $ use1 W (some (λ (ks : Lasts₂). ‵ (lasts fin.ended (κ₀, (κ₁, tt)) (Args₂ (z .x) new) ks) ⊛ raw (fact 𝓤 (Finishes (now s) source (z .x) new (ks .1 .1 .1 .0))))) (id⊢ 𝓤 _) $ pick ! (λ ks.
-        split ! $ move ! (1 ∷ []) $ heard ! (Finishes (now s) source (z .x) new (ks .1 .1 .1 .0)) (λ e′. fsplit ! $ let-go ! $ fsplit ! $ let-go ! $ fsplit ! $ let-go ! $ fsplit ! $ fsplit ! $ move ! (1 ∷ []) $ feqL ! (λ l′.
+        calls-at ! (fmOf 𝓤 H (W .laws) 𝓣) (Finish 𝓤 H A mem run) known₂ (to₂ (k .next) new) (and-then ! (load ! (from ! (stop !)) (look ! 11 refl)) (and-then ! (load ! (from ! (stop !)) (look ! 12 refl)) (and-then ! (load ! (from ! (stop !)) (look ! 3 refl)) (and-then ! (load ! (from ! (stop !)) (look ! 20 refl)) (no-more !))))) (λ w.
+        use1 W (later (some (λ (u : Unit {0}). (Tok₂ ⊛ ‵ (unit .own u (w ∷ []))) ⊛ raw (ensured 𝓤 H A fin.ended (fin.clauses 𝓤 H A mem run) (κ₀, (κ₁, tt)) (Args₂ (k .next) new) tt u)))) (id⊢ 𝓤 _) $ await ! tt $ pick ! (λ u.
+        split ! $ move ! (1 ∷ []) $ use1 W (some (λ (ks : Lasts₂). ‵ (lasts fin.ended (κ₀, (κ₁, tt)) (Args₂ (k .next) new) ks) ⊛ raw (fact 𝓤 (Finishes (now s) source (k .next) new (ks .1 .1 .1 .0))))) (id⊢ 𝓤 _) $ pick ! (λ ks.
+        split ! $ move ! (1 ∷ []) $ heard ! (Finishes (now s) source (k .next) new (ks .1 .1 .1 .0)) (λ e′. fsplit ! $ let-go ! $ fsplit ! $ let-go ! $ fsplit ! $ let-go ! $ fsplit ! $ fsplit ! $ move ! (1 ∷ []) $ feqL ! (λ l′.
         -- [the messages' last list; true; the tokens and the result; what the slice owns; the records; _7; …]
         move ! (2 ∷ []) $ split ! $ move ! (1 ∷ []) $ peeks ! unit (Is unit) (shows 𝓤 H A unit) u (w ∷ []) (λ is.
         land ! (from ! (stop !)) (init ! 21 refl (nothing-lawful 𝓤 H A W .typed u _ is .0)) $ let-go ! $
@@ -427,13 +426,16 @@ module _ {M : Type 1} (𝓤 : URA M) (H : Heap 𝓤) (A : Atoms 𝓤) (W : Given
         whole-long : length (z .zs ++ drop (z .i) ys) ≡ length ys
         whole-long = long (z .zs) ys (z .i) (f .many) (omega (arith, f .left, fits))
 
-        filled : (last : List ℕ) → Finishes (now s) source (z .x) new last → Ended last (z .zs ++ drop (z .i) ys)
+        filled : (last : List ℕ) → Finishes (now s) source (k .next) new last → Ended last (z .zs ++ drop (z .i) ys)
         filled last e′ ps goal h c = let q = f .ahead ps goal h c in by-list ps goal h (q .0) (q .1) (q .2)
           where
+            same : (goal : List ℕ) → (k .next ≡ z .x) × (new ≡ z .table) → Comes (now s) source (z .x) (z .table) goal [] → Comes (now s) source (k .next) new goal []
+            same goal q c = rw (q .0, q .1) c
+
             by-list : (ps : List Pair) (goal : List ℕ) → length ps ≡ n → (qs : List Pair) → ps ≡ z .zs ++ qs → Comes (now s) source (z .x) (z .table) goal qs → (last ≡ goal) × (z .zs ++ drop (z .i) ys ≡ ps ++ drop n ys)
             by-list ps goal h [] are c =
                 let all : z .i ≡ n = omega (arith, ap length are, length-append (z .zs) [], h, f .many) in (
-                  e′ goal (subst (λ (table : List ℕ). Comes (now s) source (z .x) table goal []) (sym (e .stays (omega (arith, all)))) c),
+                  e′ goal (same goal (e .stays (omega (arith, all))) c),
                   ap₂ (λ (rs : List Pair) (j : ℕ). rs ++ drop j ys) (sym (are ∙ append-none (z .zs))) all,
                 )
             by-list ps goal h (p ∷ qs) are c =
@@ -451,7 +453,7 @@ module _ {M : Type 1} (𝓤 : URA M) (H : Heap 𝓤) (A : Atoms 𝓤) (W : Given
 
         by-some : (v : Bool) → k .some ≡ v → ent 𝓤 (⋆ 𝓤 H A (Behind z k new)) (Wp 𝓤 H C Λ En tail (afterTurn 𝓤 H (Below t) Left))
         by-some true there = by-left t f there
-        by-some false none = ends (Below t) t z k new f l none e
+        by-some false none = ends (Below t) t z k new f next-is l none e
 
     turn-at : (t : ℕ) (z : Stage) → Facts t z → ent 𝓤 (⋆ 𝓤 H A (At z)) (Wp 𝓤 H C Λ En turn (afterTurn 𝓤 H (Below t) Left))
     unfolding afterTurn
@@ -478,6 +480,7 @@ module _ {M : Type 1} (𝓤 : URA M) (H : Heap 𝓤) (A : Atoms 𝓤) (W : Given
         split ! $ move ! (1 ∷ []) $ split ! $ lft-end ! tt $ move ! (0 ∷ 6 ∷ 3 ∷ []) $
         use3 W (later (‵ (Ownₘ (ks .1 .1 .1 .1 .1 .0)) ⊛ ‵ (flft κ₁ q₁))) (comes-back u64 κ₁ (ν ∷ []) q₁ γ′ b′ o′ 𝓤 H A W (named 1) (named 1) (length table₀) (z .table) (f .long-as) δ (ks .1 .1 .1 .1 .1 .0) rooms l) $ await ! tt $ split ! $
         -- [what the messages own; the second token; true; the first token; true; what the slice owns; the records; _7; _8; _9; …; _14; _1; …]
+        assigns ! (of-opd ! (load ! (from ! (fld ! refl (stop !))) (look-in ! 9 (sub ! 2 refl (whole !))))) (from ! (stop !)) (store ! 7 refl (LL.lawful F.the-type F′.the-laws 𝓤 H A W .typed (k .next) _ (parts k w is .1) .0)) $
         assigns ! (of-opd ! (load ! (from ! (fld ! refl (stop !))) (look-in ! 9 (sub ! 0 refl (whole !))))) (from ! (stop !)) (init ! 12 refl (tt, tt)) $
         forget ! 10 refl $ forget ! 11 refl $
         keep ! (6 ∷ 7 ∷ 8 ∷ 9 ∷ 10 ∷ 11 ∷ 12 ∷ 13 ∷ 14 ∷ 0 ∷ 1 ∷ 15 ∷ 16 ∷ 17 ∷ 18 ∷ 19 ∷ 20 ∷ 21 ∷ 22 ∷ 23 ∷ 24 ∷ 25 ∷ 26 ∷ 27 ∷ 3 ∷ 5 ∷ 28 ∷ 29 ∷ 30 ∷ 31 ∷ 32 ∷ 33 ∷ 34 ∷ 35 ∷ 36 ∷ 37 ∷ 38 ∷ 39 ∷ 40 ∷ 41 ∷ 42 ∷ 43 ∷ 44 ∷ 45 ∷ []) $ by ! (behind t z k (ks .1 .1 .1 .1 .1 .0) f (parts k w is .0) (parts k w is .1) l e)))))))))
