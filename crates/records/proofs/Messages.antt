@@ -1,7 +1,7 @@
 -- Laws about filling in messages that lie one behind the other, each with its arguments.
 use mathlib.Core.Path.{_≡_, refl, sym, ap, ap₂, subst, _∙_}
 use mathlib.Core.List.{List, [], _∷_, _++_, append-nil, append-assoc}
-use Prim.Native.Nat.{ℕ, suc, _+_, _-_, _*_, _^_, _≤_, _<_}
+use Prim.Native.Nat.{ℕ, suc, _+_, _-_, _*_, _≤_, _<_}
 use native.Mathlib.Omega.{arith}
 use lib.ListN.{length, take, drop, getD, length-append, take-append-drop}
 use lib.Seq.{length-take-le, drop-append-add, drop-drop, take-at}
@@ -59,19 +59,19 @@ module _ (n : ℕ) (table : List ℕ) (h : n ≤ length table) where
 -- ---- the message that comes next
 
 -- where no pair comes before it
-none-left : {s : List ℕ} {total : ℕ} {x : Far} {table goal : List ℕ} {ps : List Pair} (f : FromMessages s total x table goal ps) → x .left ≡ 0 → (ps ≡ f .rest) × (x .at ≡ f .next)
+none-left : {s : List ℕ} {total first : ℕ} {x : Far} {table goal : List ℕ} {ps : List Pair} (f : FromMessages s total first x table goal ps) → x .left ≡ 0 → (ps ≡ f .rest) × (x .at ≡ f .next)
 none-left {s = s} {x = x} {ps = ps} f z = go (f .qs) (f .is) (f .many) (f .run)
   where
     go : (qs : List Pair) → ps ≡ qs ++ f .rest → length qs ≡ x .left → Run s (x .at) qs (f .next) → (ps ≡ f .rest) × (x .at ≡ f .next)
     go [] is many run = (is, run)
     go (q ∷ qs) is many run = absurd (omega (arith, many, z))
 
-module _ {s : List ℕ} {total : ℕ} {x : Far} {table goal : List ℕ} {ps : List Pair} (f : FromMessages s total x table goal ps) (z : x .left ≡ 0) where
+module _ {s : List ℕ} {total first : ℕ} {x : Far} {table goal : List ℕ} {ps : List Pair} (f : FromMessages s total first x table goal ps) (z : x .left ≡ 0) where
   -- there is none, and so nothing is left to come
   pub all-done : total ≤ x .messages → (ps ≡ []) × (table ≡ goal)
   all-done h = go (f .messages) (f .all) (f .goes) (f .laid)
     where
-      go : (ms : List Message) → x .messages + length ms ≡ total → goal ≡ writtenAt (x .messages * messageWidth) (joined messageNumbers ms) table → Laid s (f .next) (x .pairs) ms (f .rest) (f .end)
+      go : (ms : List Message) → x .messages + length ms ≡ total → goal ≡ writtenAt (x .messages * messageWidth) (joined messageNumbers ms) table → Laid s (f .next) (first + x .left) ms (f .rest) (f .end)
           → (ps ≡ []) × (table ≡ goal)
       go (m ∷ ms) all goes l = absurd (omega (arith, all, h))
       go [] all goes l = (
@@ -87,14 +87,17 @@ module _ {s : List ℕ} {total : ℕ} {x : Far} {table goal : List ℕ} {ps : Li
     pub next : ℕ
     pub is : f .messages ≡ message ∷ later
     pub are : f .rest ≡ its ++ others
-    pub from : message .first ≡ x .pairs
+    pub from : message .first ≡ first
     pub there : MessageThere s (x .at) message its next
-    pub laid : Laid s next (x .pairs + message .count) later others (f .end)
+    pub laid : Laid s next (first + message .count) later others (f .end)
 
   pub due : x .messages < total → Due
   due h = go (f .messages) refl (f .laid)
     where
-      go : (ms : List Message) → f .messages ≡ ms → Laid s (f .next) (x .pairs) ms (f .rest) (f .end) → Due
+      none : first + x .left ≡ first
+      none = omega (arith, z)
+
+      go : (ms : List Message) → f .messages ≡ ms → Laid s (f .next) (first + x .left) ms (f .rest) (f .end) → Due
       go [] e l = absurd (omega (arith, h, f .all, ap length e))
       go (m ∷ later) e l =
           record {
@@ -105,17 +108,14 @@ module _ {s : List ℕ} {total : ℕ} {x : Far} {table goal : List ℕ} {ps : Li
             next = l .2;
             is = e;
             are = l .3;
-            from = l .4;
+            from = l .4 ∙ none;
             there = subst (λ (k : ℕ). MessageThere s k m (l .0) (l .2)) (sym (none-left f z .1)) (l .5);
-            laid = l .6;
+            laid = subst (λ (k : ℕ). Laid s (l .2) (k + m .count) later (l .1) (f .end)) none (l .6);
           }
 
-  -- there is room for it, and the pairs up to behind it are counted in 64 bits
+  -- there is room for it
   pub due-room : Due → x .messages * messageWidth + messageWidth ≤ length table
   due-room d = omega (arith, f .room, f .all, ap length (d .is))
-
-  pub due-fits : (d : Due) → x .pairs + d .message .count < 2 ^ 64
-  due-fits d = omega (arith, f .fits, ap length (d .are), length-append (d .its) (d .others), d .there .many)
 
   -- its four numbers, by what is read at the place
   module _ (d : Due) (start len place : ℕ) (name : stringFrom (x .at) s ≡ done (span start len) place) where
@@ -125,7 +125,7 @@ module _ {s : List ℕ} {total : ℕ} {x : Far} {table goal : List ℕ} {ps : Li
     pub due-byte : getD s place 0 ≡ d .message .count
     due-byte = ap (λ (n : ℕ). getD s n 0) due-place ∙ d .there .count
 
-    due-numbers : messageNumbers (record { start = start; len = len; first = x .pairs; count = getD s place 0 }) ≡ messageNumbers (d .message)
+    due-numbers : messageNumbers (record { start = start; len = len; first = first; count = getD s place 0 }) ≡ messageNumbers (d .message)
     due-numbers =
         let n = string-same name (d .there .name) in
         ap₂ (λ (k : ℕ) (l : List ℕ). k ∷ l) (n .0)
@@ -134,9 +134,9 @@ module _ {s : List ℕ} {total : ℕ} {x : Far} {table goal : List ℕ} {ps : Li
 
     -- It is filled in, and its arguments come next.
     pub due-on : (tail : List ℕ)
-        → tail ≡ leaves (written (messageNumbers (record { start = start; len = len; first = x .pairs; count = getD s place 0 }))) (take (length table - x .messages * 4) (drop (x .messages * 4) table))
+        → tail ≡ leaves (written (messageNumbers (record { start = start; len = len; first = first; count = getD s place 0 }))) (take (length table - x .messages * 4) (drop (x .messages * 4) table))
         → 4 ≤ length (take (length table - x .messages * 4) (drop (x .messages * 4) table))
-        → FromMessages s total (record { at = place + 1; left = getD s place 0; messages = x .messages + 1; pairs = x .pairs + getD s place 0 }) (putMid (x .messages * 4) (length table - x .messages * 4) table tail) goal ps
+        → FromMessages s total first (record { at = place + 1; left = getD s place 0; messages = x .messages + 1 }) (putMid (x .messages * 4) (length table - x .messages * 4) table tail) goal ps
     due-on tail t there =
         record {
           qs = d .its;
@@ -147,10 +147,9 @@ module _ {s : List ℕ} {total : ℕ} {x : Far} {table goal : List ℕ} {ps : Li
           run = subst (λ (k : ℕ). Run s (k + 1) (d .its) (d .next)) (sym due-place) (d .there .run);
           messages = d .later;
           end = f .end;
-          laid = subst (λ (k : ℕ). Laid s (d .next) (x .pairs + k) (d .later) (d .others) (f .end)) (sym due-byte) (d .laid);
+          laid = subst (λ (k : ℕ). Laid s (d .next) (first + k) (d .later) (d .others) (f .end)) (sym due-byte) (d .laid);
           all = omega (arith, f .all, ap length (d .is));
           room = omega (arith, f .room, put-length (x .messages * 4) table tail there t);
-          fits = omega (arith, f .fits, ap length (d .are), length-append (d .its) (d .others), d .there .many, due-byte);
           goes =
               f .goes
               ∙ ap (λ (ms : List Message). writtenAt (x .messages * 4) (joined messageNumbers ms) table) (d .is)

@@ -3,7 +3,7 @@ use mathlib.Core.Path.{_≡_, refl, sym, ap, subst, _∙_}
 use mathlib.Core.Bool.{true}
 use mathlib.Core.Logic.{_⊎_, ⊎-elim}
 use mathlib.Core.List.{List, [], _∷_, _++_, append-nil}
-use Prim.Native.Nat.{ℕ, _+_, _*_, _^_, _/_, _≤_, _<_}
+use Prim.Native.Nat.{ℕ, _+_, _*_, _/_, _≤_, _<_}
 use native.Mathlib.Omega.{arith}
 use lib.Dec.{eqb}
 use lib.ListN.{length, take, drop}
@@ -35,7 +35,7 @@ use Rattle.records.specs.declared.Source.{Source}
 use Rattle.records.specs.declared.Far.{Far}
 use Rattle.records.specs.declared.Found.{Found}
 use Rattle.records.specs.Promise.{pairsLeft}
-use Rattle.records.specs.Inner.{FromMessages, four, InFew, Comes, noneFound, Prepared}
+use Rattle.records.specs.Inner.{Laid, FromMessages, four, InFew, Comes, noneFound, Prepared}
 use Rattle.records.proofs.Laying.{Lies, accepted-lies}
 
 -- ---- there is room for what is accepted
@@ -94,7 +94,7 @@ module _ (input : List ℕ) (limit room : ℕ) (old : List ℕ) where
     filled = leaves (written (joined messageNumbers (found .0 .messages))) old
 
     -- and where the pairs come from
-    pub found-prepared : (new : List ℕ) (source : Source) (x : Far) → Comes input source x new filled (found .0 .pairs)
+    pub found-prepared : (new : List ℕ) (source : Source) (x : Far) → Comes input source x 0 new filled (found .0 .pairs)
         → Prepared input limit room (record { answer = f.Done m i j used; count = j; source = source; start = x }) old new
     found-prepared new source x comes =
         record {
@@ -107,11 +107,11 @@ module _ (input : List ℕ) (limit room : ℕ) (old : List ℕ) where
         }
 
     -- A KV list has all its pairs before the first of no messages, and a list of messages has none before the first.
-    module _ (fits : room < 2 ^ 64) (at left : ℕ) (e : at ≡ kvOf (take used input) .at) (t : (m .kind ≡ 3 → left ≡ 0) × ((m .kind ≡ 3 → ⊥) → left ≡ j)) where
+    module _ (at left : ℕ) (e : at ≡ kvOf (take used input) .at) (t : (m .kind ≡ 3 → left ≡ 0) × ((m .kind ≡ 3 → ⊥) → left ≡ j)) where
       abbrev first : Far
-      first = record { at = at; left = left; messages = 0; pairs = 0 }
+      first = record { at = at; left = left; messages = 0 }
 
-      list-first : (m .kind ≡ 3 → ⊥) → FromMessages input i first old filled (found .0 .pairs)
+      list-first : (m .kind ≡ 3 → ⊥) → FromMessages input i 0 first old filled (found .0 .pairs)
       list-first ne =
           let l = lies .list ne in
           record {
@@ -126,11 +126,10 @@ module _ (input : List ℕ) (limit room : ℕ) (old : List ℕ) where
             laid = (refl, refl);
             all = omega (arith, many-messages, ap length (l .2));
             room = fit .0;
-            fits = omega arith;
             goes = ap (λ (ms : List Message). leaves (written (joined messageNumbers ms)) old) (sym (l .2));
           }
 
-      messages-first : m .kind ≡ 3 → FromMessages input i first old filled (found .0 .pairs)
+      messages-first : m .kind ≡ 3 → FromMessages input i 0 first old filled (found .0 .pairs)
       messages-first is3 =
           let l = lies .messages is3 in
           record {
@@ -142,14 +141,13 @@ module _ (input : List ℕ) (limit room : ℕ) (old : List ℕ) where
             run = refl;
             messages = found .0 .messages;
             end = l .0;
-            laid = rw e (l .1);
+            laid = subst (λ (k : ℕ). Laid input at k (found .0 .messages) (found .0 .pairs) (l .0)) {x = 0} {y = 0 + left} (omega (arith, t .0 is3)) (rw e (l .1));
             all = omega (arith, many-messages);
             room = fit .0;
-            fits = omega (arith, many-pairs, fit .1, fits);
             goes = refl;
           }
 
-      pub from-first : FromMessages input i first old filled (found .0 .pairs)
+      pub from-first : FromMessages input i 0 first old filled (found .0 .pairs)
       from-first =
           bool-cases (eqb (m .kind) 3)
           (λ b. messages-first (eqb-true (m .kind) 3 b))
@@ -189,7 +187,7 @@ module _ (input : List ℕ) (limit room : ℕ) (old new : List ℕ) (h : 4 ≤ r
       (λ place e. full place (read .says ∙ ap frameTells e))
 
   pub few-prepared : (m : Metadata) (i j used : ℕ) → r .answer ≡ f.Done m i j used
-      → Prepared input limit room (record { answer = f.Done m i j used; count = j; source = record { own = true; few = r .few; total = 0 }; start = record { at = 0; left = 0; messages = 0; pairs = 0 } }) old new
+      → Prepared input limit room (record { answer = f.Done m i j used; count = j; source = record { own = true; few = r .few; total = 0 }; start = record { at = 0; left = 0; messages = 0 } }) old new
   few-prepared m i j used e =
       let four-says : answered (done (m, (i, j)) used) ≡ frameTells (frameRead limit (roomForFew old) input) = ap frameSaid (sym e) ∙ read .says in
       let same = same-answer (λ place q. not-both refl (answered-same (ap frameSaid (sym e) ∙ q))) in

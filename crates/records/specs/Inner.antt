@@ -2,7 +2,7 @@
 use mathlib.Core.Path.{_≡_}
 use mathlib.Core.Bool.{cond, true}
 use mathlib.Core.List.{List, [], _∷_, _++_}
-use Prim.Native.Nat.{ℕ, _+_, _-_, _*_, _^_, _≤_, _<_, _/_}
+use Prim.Native.Nat.{ℕ, _+_, _-_, _*_, _≤_, _<_, _/_}
 use lib.ListN.{length, take, drop, getD}
 use Rattle.answer.specs.Answer.{Answer, done, next, written, leaves}
 use Rattle.answer.specs.Table.{joined}
@@ -39,15 +39,15 @@ Laid s at before (m ∷ ms) ps end =
 
 -- how far it is behind a pair that ends there
 abbrev pub afterPair : Far → ℕ → Far
-afterPair x end = record { at = end; left = x .left - 1; messages = x .messages; pairs = x .pairs }
+afterPair x end = record { at = end; left = x .left - 1; messages = x .messages }
 
 -- a table whose first n numbers stay, with these written behind them
 abbrev pub writtenAt : ℕ → List ℕ → List ℕ → List ℕ
 writtenAt n numbers table = leaves (written (take n table ++ numbers)) table
 
--- From there on these pairs come: first those that are left, and then messages with the others for arguments. Once these messages are in the table,
+-- From there on these pairs come, behind so many: first those that are left, and then messages with the others for arguments. Once these messages are in the table,
 -- behind those that are, it is the goal.
-pub record FromMessages (s : List ℕ) (total : ℕ) (x : Far) (table goal : List ℕ) (ps : List Pair) : Type 0 where
+pub record FromMessages (s : List ℕ) (total first : ℕ) (x : Far) (table goal : List ℕ) (ps : List Pair) : Type 0 where
   pub qs : List Pair
   pub rest : List Pair
   pub is : ps ≡ qs ++ rest
@@ -56,15 +56,14 @@ pub record FromMessages (s : List ℕ) (total : ℕ) (x : Far) (table goal : Lis
   pub run : Run s (x .at) qs next
   pub messages : List Message
   pub end : ℕ
-  pub laid : Laid s next (x .pairs) messages rest end
+  pub laid : Laid s next (first + x .left) messages rest end
   pub all : x .messages + length messages ≡ total
   pub room : total * messageWidth ≤ length table
-  pub fits : x .pairs + length rest < 2 ^ 64
   pub goes : goal ≡ writtenAt (x .messages * messageWidth) (joined messageNumbers messages) table
 
 -- The same where the messages before the next pair are filled in: where no pair comes before the next message, all is done.
-pub record FromBytes (s : List ℕ) (total : ℕ) (x : Far) (table goal : List ℕ) (ps : List Pair) : Type 0 where
-  pub from : FromMessages s total x table goal ps
+pub record FromBytes (s : List ℕ) (total first : ℕ) (x : Far) (table goal : List ℕ) (ps : List Pair) : Type 0 where
+  pub from : FromMessages s total first x table goal ps
   pub ends : x .left ≡ 0 → (ps ≡ []) × (table ≡ goal)
 
 -- The pairs that are there by value, and that these come from one of them on.
@@ -79,15 +78,15 @@ pub record InFew (few : Few) (n : ℕ) (ps : List Pair) : Type 0 where
 abbrev pub ByValue : Source → Far → List ℕ → List ℕ → List Pair → Type 0
 ByValue source x table goal ps = InFew (source .few) (x .at) ps × (table ≡ goal)
 
--- what comes from there on
-abbrev pub Comes : List ℕ → Source → Far → List ℕ → List ℕ → List Pair → Type 0
-Comes s source x table goal ps = cond (source .own) (ByValue source x table goal ps) (FromMessages s (source .total) x table goal ps)
+-- what comes from there on, where so many were taken
+abbrev pub Comes : List ℕ → Source → Far → ℕ → List ℕ → List ℕ → List Pair → Type 0
+Comes s source x i table goal ps = cond (source .own) (ByValue source x table goal ps) (FromMessages s (source .total) i x table goal ps)
 
 -- What taking the next pair gives, where i of so many were taken: the first of those that come, and behind it come the others. Nothing is done once all were.
 pub record TakesNext (s : List ℕ) (source : Source) (x : Far) (i count : ℕ) (r : Given) (old new : List ℕ) : Type 0 where
   pub within : r .some ≡ true → i < count
   pub stays : count ≤ i → (r .next ≡ x) × (new ≡ old)
-  pub gives : (p : Pair) (ps : List Pair) (goal : List ℕ) → i < count → Comes s source x old goal (p ∷ ps) → (r .some ≡ true) × (r .pair ≡ p) × Comes s source (r .next) new goal ps
+  pub gives : (p : Pair) (ps : List Pair) (goal : List ℕ) → i < count → Comes s source x i old goal (p ∷ ps) → (r .some ≡ true) × (r .pair ≡ p) × Comes s source (r .next) (i + 1) new goal ps
 
 -- An answer with no pairs: none of those that are there by value.
 abbrev pub noneFound : FrameRead → Found
@@ -96,7 +95,7 @@ noneFound answer =
       answer = answer;
       count = 0;
       source = record { own = true; few = record { first = noPair; second = noPair; third = noPair; fourth = noPair }; total = 0 };
-      start = record { at = 0; left = 0; messages = 0; pairs = 0 };
+      start = record { at = 0; left = 0; messages = 0 };
     }
 
 -- What a frame comes to but for its pairs, with room for so many. The table of messages is as it is to be once these are taken.
@@ -106,6 +105,6 @@ pub record Prepared (input : List ℕ) (limit room : ℕ) (r : Found) (oldMessag
   pub many : length ps ≡ r .count
   pub within : r .count ≤ room
   pub comes :
-      Comes input (r .source) (r .start) newMessages
+      Comes input (r .source) (r .start) 0 newMessages
       (leaves (next (contentsRead (frameRead limit (record { messages = length oldMessages / messageWidth; pairs = room }) input)) (λ c used. written (joined messageNumbers (c .messages)))) oldMessages) ps
   pub left : (old : List Pair) → length old ≡ room → ps ++ drop (r .count) old ≡ pairsLeft (contentsRead (frameRead limit (record { messages = length oldMessages / messageWidth; pairs = room }) input)) old

@@ -103,7 +103,6 @@ fn taken(input: &[u8], x: Far) -> Given
             at: next.at,
             left: one_less(x.left),
             messages: x.messages,
-            pairs: x.pairs,
         },
     }
 }
@@ -119,9 +118,9 @@ fn put_message(message: Message, table: &mut [u64])
     table[3] = message.count;
 }
 
-// Where no pair comes before the next message, fills in messages up to one that has arguments, or the last.
-fn to_argument(input: &[u8], total: usize, from: Far, messages: &mut [u64]) -> Far
-    ensures { λ r. ⌜ ((ps : List PairRecord) (goal : List ℕ) → FromMessages (now (input .entry)) total from (now (messages .entry)) goal ps → FromBytes (now (input .entry)) total r (now (messages .exit)) goal ps) ⌝ }
+// Where no pair comes before the next message, fills in messages up to one that has arguments, or the last. So many pairs stand before these.
+fn to_argument(input: &[u8], total: usize, first: usize, from: Far, messages: &mut [u64]) -> Far
+    ensures { λ r. ⌜ ((ps : List PairRecord) (goal : List ℕ) → FromMessages (now (input .entry)) total first from (now (messages .entry)) goal ps → FromBytes (now (input .entry)) total first r (now (messages .exit)) goal ps) ⌝ }
 {
     let mut x = from;
     while x.left == 0 {
@@ -141,15 +140,12 @@ fn to_argument(input: &[u8], total: usize, from: Far, messages: &mut [u64]) -> F
             return x;
         }
         let count = input[end] as usize;
-        if usize::MAX - x.pairs < count {
-            return x;
-        }
         let to = i * MESSAGE_WIDTH;
         put_message(
             Message {
                 start: (at + start) as u64,
                 len: len as u64,
-                first: x.pairs as u64,
+                first: first as u64,
                 count: count as u64,
             },
             &mut messages[to..],
@@ -158,7 +154,6 @@ fn to_argument(input: &[u8], total: usize, from: Far, messages: &mut [u64]) -> F
             at: end + 1,
             left: count,
             messages: i + 1,
-            pairs: x.pairs + count,
         };
     }
     x
@@ -198,7 +193,6 @@ fn taken_ahead(few: Few, x: Far) -> Given
             at: n + 1,
             left: 0,
             messages: 0,
-            pairs: 0,
         },
     }
 }
@@ -221,18 +215,18 @@ pub(crate) fn take_next(
         let few = source.few;
         return taken_ahead(few, x);
     }
-    let y = to_argument(input, source.total, x, messages);
+    let y = to_argument(input, source.total, i, x, messages);
     taken(input, y)
 }
 
-// Behind the last pair: fills in the messages that are left.
-pub(crate) fn finish(input: &[u8], source: Source, x: Far, messages: &mut [u64])
-    ensures { λ _. ⌜ ((goal : List ℕ) → Comes (now (input .entry)) source x (now (messages .entry)) goal [] → now (messages .exit) ≡ goal) ⌝ }
+// Behind the last pair, of so many: fills in the messages that are left.
+pub(crate) fn finish(input: &[u8], source: Source, x: Far, i: usize, messages: &mut [u64])
+    ensures { λ _. ⌜ ((goal : List ℕ) → Comes (now (input .entry)) source x i (now (messages .entry)) goal [] → now (messages .exit) ≡ goal) ⌝ }
 {
     if source.own {
         return;
     }
-    let _ = to_argument(input, source.total, x, messages);
+    let _ = to_argument(input, source.total, i, x, messages);
 }
 
 // An answer that comes with no pairs.
@@ -251,7 +245,6 @@ fn nothing(answer: FrameRead) -> Found
             at: 0,
             left: 0,
             messages: 0,
-            pairs: 0,
         },
     }
 }
@@ -289,7 +282,6 @@ fn prepare_many(input: &[u8], limit: u32, room: usize, messages: &mut [u64]) -> 
         at: place.at,
         left: before_messages(metadata.kind, pair_count),
         messages: 0,
-        pairs: 0,
     };
     Found {
         answer,
@@ -332,7 +324,6 @@ pub(crate) fn prepare(input: &[u8], limit: u32, room: usize, messages: &mut [u64
                     at: 0,
                     left: 0,
                     messages: 0,
-                    pairs: 0,
                 },
             };
         },

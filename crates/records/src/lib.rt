@@ -16,13 +16,12 @@ pub(crate) struct Source {
     pub total: usize,
 }
 
-// How far it is: the place of the next pair, or its number among those that are there by value; how many pairs come before the next message; how many
-// messages are filled in; and how many pairs these have.
+// How far it is: the place of the next pair, or its number among those that are there by value; how many pairs come before the next message; and how many
+// messages are filled in.
 pub(crate) struct Far {
     pub at: usize,
     pub left: usize,
     pub messages: usize,
-    pub pairs: usize,
 }
 
 // Whether a pair was taken; the pair, and how far it is behind it.

@@ -24,7 +24,7 @@ fn fill_records(
     pairs: &mut [Pair],
 )
     requires { ⌜ count ≤ length (now pairs) ⌝ }
-    ensures { λ _. ⌜ ((ps : List PairRecord) (goal : List ℕ) → length ps ≡ count → Comes (now (input .entry)) source start (now (messages .entry)) goal ps → (now (messages .exit) ≡ goal) × (now (pairs .exit) ≡ ps ++ drop count (now (pairs .entry)))) ⌝ }
+    ensures { λ _. ⌜ ((ps : List PairRecord) (goal : List ℕ) → length ps ≡ count → Comes (now (input .entry)) source start 0 (now (messages .entry)) goal ps → (now (messages .exit) ≡ goal) × (now (pairs .exit) ≡ ps ++ drop count (now (pairs .entry)))) ⌝ }
 {
     let mut x = start;
     let mut i = 0;
@@ -37,7 +37,7 @@ fn fill_records(
         pairs[i] = t.pair;
         i = i + 1;
     }
-    finish(input, source, x, messages);
+    finish(input, source, x, i, messages);
 }
 
 // Reads the frame at the front of `input`, as `read_frame` does, into a table of pair records.

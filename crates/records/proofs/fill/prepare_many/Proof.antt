@@ -71,7 +71,7 @@ returns-2 c =
     let k = c .before .before .before in
     let a = start k .args in
     found-prepared (a .input .now) (a .limit) (a .room) (a .messages .now) (head k) (messages k) (pairs k) (used k) (said k) _ _ _
-    (from-first (a .input .now) (a .limit) (a .room) (a .messages .now) (head k) (messages k) (pairs k) (used k) (said k) (start k .fits .room .fits) _ _
+    (from-first (a .input .now) (a .limit) (a .room) (a .messages .now) (head k) (messages k) (pairs k) (used k) (said k) _ _
     (ap (λ (x : Place). x .at) (c .before .kv-of .ensures)) (c .before-messages .ensures))
 
 pub prepare-many-spec : {M : Type 1} → statement M

@@ -31,7 +31,7 @@ returns-2 c =
     record {
       within = λ e. i .before .if1 .left;
       stays = λ h. absurd (omega (arith, h, i .before .if1 .left));
-      gives = λ p ps goal h f. taken-few (a .input .now) (a .source) (a .x) (a .messages .now) goal p ps (c .taken-ahead .result) f (i .if2 .taken) (c .taken-ahead .ensures);
+      gives = λ p ps goal h f. taken-few (a .input .now) (a .source) (a .x) (a .i) (a .messages .now) goal p ps (c .taken-ahead .result) f (i .if2 .taken) (c .taken-ahead .ensures);
     }
 
 to-argument-requires : tie.Need-to-argument-requires
@@ -51,7 +51,7 @@ returns-3 c =
     record {
       within = λ e. i .before .if1 .left;
       stays = λ h. absurd (omega (arith, h, i .before .if1 .left));
-      gives = λ p ps goal h f. taken-bytes (a .input .now) (a .source) (a .x) (a .messages .now) goal p ps (c .taken .result) f (i .if2 .left) _ _ (w .to-argument .ensures) (c .taken .ensures);
+      gives = λ p ps goal h f. taken-bytes (a .input .now) (a .source) (a .x) (a .i) (a .messages .now) goal p ps (c .taken .result) f (i .if2 .left) _ _ (w .to-argument .ensures) (c .taken .ensures);
     }
 
 pub take-next-spec : {M : Type 1} → statement M

@@ -57,7 +57,7 @@ returns-2 c p end f =
     let g : v.Found pair place ≡ v.Found p (behind end) = sym (k .pair .given .1) ∙ found t p end f in
     let same : pair ≡ p = cc in
     let goes : place ≡ behind end = cc in
-    let given : Pair → ℕ → ℕ → Given = λ q at left. record { some = true; pair = q; next = record { at = at; left = left; messages = x .messages; pairs = x .pairs } } in
+    let given : Pair → ℕ → ℕ → Given = λ q at left. record { some = true; pair = q; next = record { at = at; left = left; messages = x .messages } } in
     ap (λ (q : Pair). given q (place .at) (c .one-less .result)) same ∙ ap₂ (given p) (ap (λ (y : Place). y .at) goes) (c .one-less .ensures)
 
 pub taken-spec : {M : Type 1} → statement M

@@ -16,16 +16,16 @@ use Rattle.parser.proofs.Walk.{string-next}
 use Rattle.parser.proofs.Filling.{tail-room}
 use Rattle.records.specs.declared.Far.{Far}
 use Rattle.records.specs.Inner.{FromMessages}
-use Rattle.records.proofs.Messages.{put-length, all-done, Due, due, due-room, due-fits, due-place, due-byte, due-on}
+use Rattle.records.proofs.Messages.{put-length, all-done, Due, due, due-room, due-place, due-on}
 use Rattle.records.proofs.fill.to_argument.Statement.{statement}
 use Rattle.records.proofs.fill.to_argument.Tie as tie
 
 abbrev Inv-loop : tie.InvT-loop
-Inv-loop input total messages₀ x₀ messages x =
-    (length messages ≡ length messages₀) × ((ps : List Pair) (goal : List ℕ) → FromMessages input total x₀ messages₀ goal ps → FromMessages input total x messages goal ps)
+Inv-loop input total first messages₀ x₀ messages x =
+    (length messages ≡ length messages₀) × ((ps : List Pair) (goal : List ℕ) → FromMessages input total first x₀ messages₀ goal ps → FromMessages input total first x messages goal ps)
 
 abbrev μ-loop : tie.MeasureT-loop
-μ-loop input total messages₀ x₀ messages x = total - x .messages
+μ-loop input total first messages₀ x₀ messages x = total - x .messages
 
 loop-holds : tie.Need-loop-holds Inv-loop μ-loop
 loop-holds c = (refl, λ ps goal f. f)
@@ -40,9 +40,9 @@ bytes l = start l .args .input .now
 
 -- what came from where the loop began comes from where it is
 abbrev Came : (l : tie.At-loop Inv-loop μ-loop) → List Pair → List ℕ → Type 0
-Came l ps goal = FromMessages (bytes l) (start l .args .total) (start l .args .from) (start l .args .messages .now) goal ps
+Came l ps goal = FromMessages (bytes l) (start l .args .total) (start l .args .first) (start l .args .from) (start l .args .messages .now) goal ps
 
-here : (l : tie.At-loop Inv-loop μ-loop) (ps : List Pair) (goal : List ℕ) → Came l ps goal → FromMessages (bytes l) (start l .args .total) (l .loop .x) (l .loop .messages) goal ps
+here : (l : tie.At-loop Inv-loop μ-loop) (ps : List Pair) (goal : List ℕ) → Came l ps goal → FromMessages (bytes l) (start l .args .total) (start l .args .first) (l .loop .x) (l .loop .messages) goal ps
 here l ps goal f = l .loop .inv .1 ps goal f
 
 abbrev turn : tie.Else2 Inv-loop μ-loop → tie.At-loop Inv-loop μ-loop
@@ -137,24 +137,10 @@ shared-slice-read-count c = search needs
 cast-count : tie.Need-cast-count Inv-loop μ-loop
 cast-count c = omega (arith, c .shared-slice-known2 .given (count-at (c .before .before)))
 
-sub-if5 : tie.Need-sub-if5 Inv-loop μ-loop
-sub-if5 c = search needs
-
-same-length-5 : tie.Need-same-length-5 Inv-loop μ-loop
-same-length-5 c = turn (two (named (c .before .before .before .before))) .loop .inv .0
-
-returns-5 : tie.Need-returns-5 Inv-loop μ-loop
-returns-5 c ps goal f =
-    let k = c .before .before .before .before in
-    let e = two (named k) in
-    let g = here (turn e) ps goal f in
-    let d = next e ps goal f in
-    absurd (omega (arith, due-fits g (e .before .if1 .taken) d, due-byte g (e .before .if1 .taken) d _ _ _ (name k), c .if5 .taken))
-
 -- ---- it is filled in
 
-abbrev back : tie.Else5 Inv-loop μ-loop → tie.After-known-told Inv-loop μ-loop
-back e = e .before .before .before .before
+abbrev back : tie.After-shared-slice-known2 Inv-loop μ-loop → tie.After-known-told Inv-loop μ-loop
+back e = e .before .before
 
 room : (t : tie.After-name-at Inv-loop μ-loop) → let l = turn (two t) in l .loop .x .messages * 4 + 4 ≤ length (l .loop .messages)
 room t = omega (arith, t .before .if3 .left)
@@ -165,8 +151,8 @@ long t = turn (two t) .loop .inv .0
 mul-to : tie.Need-mul-to Inv-loop μ-loop
 mul-to c = let t = named (back c) in omega (arith, room t, long t, start (turn (two t)) .good)
 
-add-t15 : tie.Need-add-t15 Inv-loop μ-loop
-add-t15 c = let k = back c in omega (arith, inside k, start (turn (two (named k))) .good)
+add-t17 : tie.Need-add-t17 Inv-loop μ-loop
+add-t17 c = let k = back c in omega (arith, inside k, start (turn (two (named k))) .good)
 
 mul-put-message : tie.Need-mul-put-message Inv-loop μ-loop
 mul-put-message c = let t = named (back c) in omega (arith, room t, long t, start (turn (two t)) .good)
@@ -190,33 +176,30 @@ put-message-requires c κs = tail-there (named (back (c .before)))
 abbrev put : tie.After-slice-known2 Inv-loop μ-loop → tie.After-known-told Inv-loop μ-loop
 put s = back (s .before .before .before .before)
 
-add-t15-2 : tie.Need-add-t15-2 Inv-loop μ-loop
-add-t15-2 c = let k = put c in omega (arith, inside k, start (turn (two (named k))) .good)
+add-t17-2 : tie.Need-add-t17-2 Inv-loop μ-loop
+add-t17-2 c = let k = put c in omega (arith, inside k, start (turn (two (named k))) .good)
 
-add-t27 : tie.Need-add-t27 Inv-loop μ-loop
-add-t27 c = let t = named (put c) in omega (arith, room t, long t, start (turn (two t)) .good)
-
-add-t16 : tie.Need-add-t16 Inv-loop μ-loop
-add-t16 c = omega (arith, c .before .before .before .before .before .if5 .left)
+add-t28 : tie.Need-add-t28 Inv-loop μ-loop
+add-t28 c = let t = named (put c) in omega (arith, room t, long t, start (turn (two t)) .good)
 
 loop-less : tie.Need-loop-less Inv-loop μ-loop
-loop-less c = omega (arith, two (named (put (c .before))) .if2 .left)
+loop-less c = omega (arith, two (named (put c)) .if2 .left)
 
 loop-again : tie.Need-loop-again Inv-loop μ-loop
 loop-again c =
-    let k = put (c .before) in
+    let k = put c in
     let e = two (named k) in
-    let w = c .before .before .before in (
+    let w = c .before .before in (
       put-length (turn e .loop .x .messages * 4) (turn e .loop .messages) (w .put-message .last .1 .0) (tail-there (named k)) (w .put-message .ensures) ∙ turn e .loop .inv .0,
       λ ps goal f. due-on (here (turn e) ps goal f) (e .before .if1 .taken) (next e ps goal f) _ _ _ (name k) _ (w .put-message .ensures) (tail-there (named k)),
     )
 
-same-length-6 : tie.Need-same-length-6 Inv-loop μ-loop
-same-length-6 c = c .before .before .loop .inv .0
+same-length-5 : tie.Need-same-length-5 Inv-loop μ-loop
+same-length-5 c = c .before .before .loop .inv .0
 
 -- A pair comes before the next message.
-returns-6 : tie.Need-returns-6 Inv-loop μ-loop
-returns-6 c ps goal f = record { from = here (c .before .before) ps goal f; ends = λ z. absurd (c .if1 .left z) }
+returns-5 : tie.Need-returns-5 Inv-loop μ-loop
+returns-5 c ps goal f = record { from = here (c .before .before) ps goal f; ends = λ z. absurd (c .if1 .left z) }
 
 pub to-argument-spec : {M : Type 1} → statement M
 to-argument-spec =
@@ -239,20 +222,16 @@ to-argument-spec =
     returns-4
     shared-slice-read-count
     cast-count
-    sub-if5
-    same-length-5
-    returns-5
     mul-to
-    add-t15
+    add-t17
     mul-put-message
     sub-put-message
     part-put-message-start
     part-put-message-end
     put-message-requires
-    add-t15-2
-    add-t27
-    add-t16
+    add-t17-2
+    add-t28
     loop-less
     loop-again
-    same-length-6
-    returns-6)
+    same-length-5
+    returns-5)

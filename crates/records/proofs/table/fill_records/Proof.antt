@@ -144,7 +144,7 @@ turn = seq (assign (place 10 []) (addrOf (place 5 (field 0 ∷ deref word ∷ []
 abbrev rest : Code
 rest = seq (assign (place 16 []) (addrOf (place 5 (field 0 ∷ deref word ∷ []))))
     (seq (assign (place 17 []) (aggregate (copy (place 16 []) ∷ copy (place 5 (field 1 ∷ [])) ∷ [])))
-    (seq (call #finish (copy (place 1 []) ∷ copy (place 2 []) ∷ copy (place 7 []) ∷ copy (place 17 []) ∷ []) (place 15 []))
+    (seq (call #finish (copy (place 1 []) ∷ copy (place 2 []) ∷ copy (place 7 []) ∷ copy (place 8 []) ∷ copy (place 17 []) ∷ []) (place 15 []))
     (seq (assign (place 0 []) (rvOpd opdUnit)) return)))
 
 -- the function, with each type spelled out, and that it is the one that is compiled
@@ -172,8 +172,8 @@ module _ {M : Type 1} (𝓤 : URA M) (H : Heap 𝓤) (A : Atoms 𝓤) (mem : Mem
   Finish = tripleOf 𝓤 H A fin.signature (fin.spec 𝓤 H A mem run)
 
 -- what `finish` says of the messages' table before and after it
-abbrev Finishes : List ℕ → Source → Far → List ℕ → List ℕ → Type 0
-Finishes s source x table new = (goal : List ℕ) → Comes s source x table goal [] → new ≡ goal
+abbrev Finishes : List ℕ → Source → Far → ℕ → List ℕ → List ℕ → Type 0
+Finishes s source x i table new = (goal : List ℕ) → Comes s source x i table goal [] → new ≡ goal
 
 -- how far the loop is
 record Stage : Type 0 where
@@ -223,7 +223,7 @@ module _ {M : Type 1} (𝓤 : URA M) (H : Heap 𝓤) (A : Atoms 𝓤) (W : Given
   Ownₘ l = MutSlice (named 1) κ₁ u64 .own (m γ′ l) (vm ∷ [])
 
   abbrev Ended : List ℕ → List Pair → Type 0
-  Ended new ws = (ps : List Pair) (goal : List ℕ) → length ps ≡ n → Comes (now s) source x₀ table₀ goal ps → (new ≡ goal) × (ws ≡ ps ++ drop n ys)
+  Ended new ws = (ps : List Pair) (goal : List ℕ) → length ps ≡ n → Comes (now s) source x₀ 0 table₀ goal ps → (new ≡ goal) × (ws ≡ ps ++ drop n ys)
 
   -- the tokens behind the last call
   abbrev Tok₂ : Item 𝓤
@@ -266,17 +266,17 @@ module _ {M : Type 1} (𝓤 : URA M) (H : Heap 𝓤) (A : Atoms 𝓤) (W : Given
       -- [what is owned; what s owns; the tokens]
       move ! (2 ∷ 0 ∷ []) $ join ! $ nothing ! $ move ! (1 ∷ 0 ∷ []) $ join ! $ frame ! $ done !
 
-  abbrev Args₂ : Far → List ℕ → RefT (List ℕ) × (Source × (Far × (RefT (List ℕ) × Unit {0})))
-  Args₂ x l = (s, (source, (x, (m γ′ l, tt))))
+  abbrev Args₂ : Far → ℕ → List ℕ → RefT (List ℕ) × (Source × (Far × (ℕ × (RefT (List ℕ) × Unit {0}))))
+  Args₂ x i l = (s, (source, (x, (i, (m γ′ l, tt)))))
 
-  abbrev to₂ : Far → List ℕ → Finish 𝓤 H A mem run .Ghost
-  to₂ x l = (((κ₀, (κ₁, tt)), (q₀, (q₁, tt)), tt, Args₂ x l, (vs ∷ [], (S′.lowered source ∷ [], (F′.lowered x ∷ [], (vm ∷ [], tt))))), tt)
+  abbrev to₂ : Far → ℕ → List ℕ → Finish 𝓤 H A mem run .Ghost
+  to₂ x i l = (((κ₀, (κ₁, tt)), (q₀, (q₁, tt)), tt, Args₂ x i l, (vs ∷ [], (S′.lowered source ∷ [], (F′.lowered x ∷ [], (vint w64 i ∷ [], (vm ∷ [], tt)))))), tt)
 
-  goes₂ : (x : Far) (l : List ℕ) → Is F.the-row x (F′.lowered x ∷ []) → ent 𝓤 (⋆ 𝓤 H A (Tok₂ ∷ ‵ (Ownₘ l) ∷ ‵ Own₀ ∷ [])) (sep 𝓤 (Finish 𝓤 H A mem run .pre (to₂ x l)) (sem 𝓤 H A Own₀))
-  goes₂ x l is =
+  goes₂ : (x : Far) (i : ℕ) (l : List ℕ) → Is F.the-row x (F′.lowered x ∷ []) → i < 2 ^ 64 → ent 𝓤 (⋆ 𝓤 H A (Tok₂ ∷ ‵ (Ownₘ l) ∷ ‵ Own₀ ∷ [])) (sep 𝓤 (Finish 𝓤 H A mem run .pre (to₂ x i l)) (sem 𝓤 H A Own₀))
+  goes₂ x i l is i-fits =
       qed W (Tok₂ ∷ ‵ (Ownₘ l) ∷ ‵ Own₀ ∷ []) ∵ move ! (2 ∷ []) $ use1 W (‵ Own₀ ⊛ ‵ Own₀) (shr-slice-copy 𝓤 H A W (named 0) κ₀ u8 .twice s (vs ∷ [])) $ split ! $
       -- [what s owns, twice; the tokens; what the messages own]
-      nothing ! $ move ! (4 ∷ 0 ∷ []) $ fjoin ! $ owned ! F.the-row (Is F.the-row) (LL.makes F.the-type F′.the-plain 𝓤 H A) x _ is $ fjoin ! $
+      nothing ! $ move ! (4 ∷ 0 ∷ []) $ fjoin ! $ owned ! usize (Is usize) (uint-makes 𝓤 H A W w64) i _ (refl, i-fits) $ fjoin ! $ owned ! F.the-row (Is F.the-row) (LL.makes F.the-type F′.the-plain 𝓤 H A) x _ is $ fjoin ! $
       owned ! S.the-row (Is S.the-row) (LL.makes S.the-type S′.the-plain 𝓤 H A) source _ source-is $ fjoin ! $ move ! (1 ∷ 0 ∷ []) $ fjoin ! $
       -- [what is owned; what s owns; the tokens]
       move ! (2 ∷ 0 ∷ []) $ join ! $ nothing ! $ move ! (1 ∷ 0 ∷ []) $ join ! $ frame ! $ done !
@@ -285,7 +285,7 @@ module _ {M : Type 1} (𝓤 : URA M) (H : Heap 𝓤) (A : Atoms 𝓤) (W : Given
   Lasts₁ = Unit {0} × (Unit {0} × (Unit {0} × (Unit {0} × (Unit {0} × (List ℕ × Unit {0})))))
 
   abbrev Lasts₂ : Type 0
-  Lasts₂ = Unit {0} × (Unit {0} × (Unit {0} × (List ℕ × Unit {0})))
+  Lasts₂ = Unit {0} × (Unit {0} × (Unit {0} × (Unit {0} × (List ℕ × Unit {0}))))
 
   module _ (𝓣 : Tables 𝓤 H) (known₁ : Triple 𝓤 (𝓣 .C #take-next) (TakeNext 𝓤 H A mem run)) (known₂ : Triple 𝓤 (𝓣 .C #finish) (Finish 𝓤 H A mem run)) (g : Room Q.the-row (length ys)) (fits : n ≤ length ys) (l₀ l₁ l₂ l₃ l₄ l₅ l₆ l₇ l₈ l₉ l₁₀ l₁₁ l₁₂ l₁₃ l₁₄ l₁₅ l₁₆ l₁₇ : ℕ) where
     abbrev C : Calls 𝓤 H
@@ -320,7 +320,7 @@ module _ {M : Type 1} (𝓤 : URA M) (H : Heap 𝓤) (A : Atoms 𝓤) (W : Given
       many : length (z .zs) ≡ z .i
       is : Is F.the-row (z .x) (F′.lowered (z .x) ∷ [])
       long-as : length (z .table) ≡ length table₀
-      ahead : (ps : List Pair) (goal : List ℕ) → length ps ≡ n → Comes (now s) source x₀ table₀ goal ps → (qs : List Pair) × (ps ≡ z .zs ++ qs) × Comes (now s) source (z .x) (z .table) goal qs
+      ahead : (ps : List Pair) (goal : List ℕ) → length ps ≡ n → Comes (now s) source x₀ 0 table₀ goal ps → (qs : List Pair) × (ps ≡ z .zs ++ qs) × Comes (now s) source (z .x) (z .i) (z .table) goal qs
 
     abbrev Inv : ℕ → SProp 𝓤
     Inv t = ex 𝓤 (λ (z : Stage). guard 𝓤 (Facts t z) (⋆ 𝓤 H A (At z)))
@@ -350,8 +350,8 @@ module _ {M : Type 1} (𝓤 : URA M) (H : Heap 𝓤) (A : Atoms 𝓤) (W : Given
           ahead = λ ps goal h c. let q = f .ahead ps goal h c in by-list ps goal h (q .0) (q .1) (q .2);
         }
       where
-        by-list : (ps : List Pair) (goal : List ℕ) → length ps ≡ n → (qs : List Pair) → ps ≡ z .zs ++ qs → Comes (now s) source (z .x) (z .table) goal qs
-            → (rs : List Pair) × (ps ≡ (z .zs ++ (k .pair ∷ [])) ++ rs) × Comes (now s) source (k .next) new goal rs
+        by-list : (ps : List Pair) (goal : List ℕ) → length ps ≡ n → (qs : List Pair) → ps ≡ z .zs ++ qs → Comes (now s) source (z .x) (z .i) (z .table) goal qs
+            → (rs : List Pair) × (ps ≡ (z .zs ++ (k .pair ∷ [])) ++ rs) × Comes (now s) source (k .next) (z .i + 1) new goal rs
         by-list ps goal h [] e′ c = absurd (omega (arith, ap length e′, length-append (z .zs) [], h, f .left, f .many))
         by-list ps goal h (p ∷ qs) e′ c =
             let w = e .gives p qs goal (e .within t′) c in
@@ -404,12 +404,12 @@ module _ {M : Type 1} (𝓤 : URA M) (H : Heap 𝓤) (A : Atoms 𝓤) (W : Given
         leaves-loop ! (load ! (from ! (stop !)) (look ! 6 refl)) $ exec ! C Λ En rest (atRet En Post) $
         assigns ! (addr ! (from ! (fld ! refl (hop ! (look-in ! 15 (sub ! 0 refl (whole !))) (stop !))))) (from ! (stop !)) (init ! 19 refl (tt, tt)) $
         assigns ! (agg ! (and-then ! (load ! (from ! (stop !)) (look ! 19 refl)) (and-then ! (load ! (from ! (fld ! refl (stop !))) (look-in ! 15 (sub ! 1 refl (whole !)))) (no-more !)))) (from ! (stop !)) (init ! 20 refl (tt, (tt, (record { fits = rooms .0 }, tt)))) $
-        nothing ! $ move ! (11 ∷ 0 ∷ []) $ join ! $ move ! (24 ∷ 0 ∷ []) $ join ! $ move ! (0 ∷ 10 ∷ 24 ∷ []) $ use3 W (raw (Finish 𝓤 H A mem run .pre (to₂ (k .next) new)) ⊛ ‵ Own₀) (goes₂ (k .next) new next-is) $ split ! $
+        nothing ! $ move ! (11 ∷ 0 ∷ []) $ join ! $ move ! (24 ∷ 0 ∷ []) $ join ! $ move ! (0 ∷ 10 ∷ 24 ∷ []) $ use3 W (raw (Finish 𝓤 H A mem run .pre (to₂ (k .next) (z .i) new)) ⊛ ‵ Own₀) (goes₂ (k .next) (z .i) new next-is (omega (arith, f .left, n-fits))) $ split ! $
         -- [what is asked; what the slice owns; the records; _7; _8; _9; _10; _11; _12; _13; _14; _1; _2; …; _6; _0; _15; _16; _17; …]
-        calls-at ! (fmOf 𝓤 H (W .laws) 𝓣) (Finish 𝓤 H A mem run) known₂ (to₂ (k .next) new) (and-then ! (load ! (from ! (stop !)) (look ! 11 refl)) (and-then ! (load ! (from ! (stop !)) (look ! 12 refl)) (and-then ! (load ! (from ! (stop !)) (look ! 3 refl)) (and-then ! (load ! (from ! (stop !)) (look ! 20 refl)) (no-more !))))) (λ w.
-        use1 W (later (some (λ (u : Unit {0}). (Tok₂ ⊛ ‵ (unit .own u (w ∷ []))) ⊛ raw (ensured 𝓤 H A fin.ended (fin.clauses 𝓤 H A mem run) (κ₀, (κ₁, tt)) (Args₂ (k .next) new) tt u)))) (id⊢ 𝓤 _) $ await ! tt $ pick ! (λ u.
-        split ! $ move ! (1 ∷ []) $ use1 W (some (λ (ks : Lasts₂). ‵ (lasts fin.ended (κ₀, (κ₁, tt)) (Args₂ (k .next) new) ks) ⊛ raw (fact 𝓤 (Finishes (now s) source (k .next) new (ks .1 .1 .1 .0))))) (id⊢ 𝓤 _) $ pick ! (λ ks.
-        split ! $ move ! (1 ∷ []) $ heard ! (Finishes (now s) source (k .next) new (ks .1 .1 .1 .0)) (λ e′. fsplit ! $ let-go ! $ fsplit ! $ let-go ! $ fsplit ! $ let-go ! $ fsplit ! $ fsplit ! $ move ! (1 ∷ []) $ feqL ! (λ l′.
+        calls-at ! (fmOf 𝓤 H (W .laws) 𝓣) (Finish 𝓤 H A mem run) known₂ (to₂ (k .next) (z .i) new) (and-then ! (load ! (from ! (stop !)) (look ! 11 refl)) (and-then ! (load ! (from ! (stop !)) (look ! 12 refl)) (and-then ! (load ! (from ! (stop !)) (look ! 3 refl)) (and-then ! (load ! (from ! (stop !)) (look ! 4 refl)) (and-then ! (load ! (from ! (stop !)) (look ! 20 refl)) (no-more !)))))) (λ w.
+        use1 W (later (some (λ (u : Unit {0}). (Tok₂ ⊛ ‵ (unit .own u (w ∷ []))) ⊛ raw (ensured 𝓤 H A fin.ended (fin.clauses 𝓤 H A mem run) (κ₀, (κ₁, tt)) (Args₂ (k .next) (z .i) new) tt u)))) (id⊢ 𝓤 _) $ await ! tt $ pick ! (λ u.
+        split ! $ move ! (1 ∷ []) $ use1 W (some (λ (ks : Lasts₂). ‵ (lasts fin.ended (κ₀, (κ₁, tt)) (Args₂ (k .next) (z .i) new) ks) ⊛ raw (fact 𝓤 (Finishes (now s) source (k .next) (z .i) new (ks .1 .1 .1 .1 .0))))) (id⊢ 𝓤 _) $ pick ! (λ ks.
+        split ! $ move ! (1 ∷ []) $ heard ! (Finishes (now s) source (k .next) (z .i) new (ks .1 .1 .1 .1 .0)) (λ e′. fsplit ! $ let-go ! $ fsplit ! $ let-go ! $ fsplit ! $ let-go ! $ fsplit ! $ let-go ! $ fsplit ! $ fsplit ! $ move ! (1 ∷ []) $ feqL ! (λ l′.
         -- [the messages' last list; true; the tokens and the result; what the slice owns; the records; _7; …]
         move ! (2 ∷ []) $ split ! $ move ! (1 ∷ []) $ peeks ! unit (Is unit) (shows 𝓤 H A unit) u (w ∷ []) (λ is.
         land ! (from ! (stop !)) (init ! 21 refl (nothing-lawful 𝓤 H A W .typed u _ is .0)) $ let-go ! $
@@ -421,18 +421,18 @@ module _ {M : Type 1} (𝓤 : URA M) (H : Heap 𝓤) (A : Atoms 𝓤) (W : Given
         move ! (21 ∷ 25 ∷ []) $ free1 ! $ move ! (15 ∷ 24 ∷ []) $ free1 ! $ move ! (15 ∷ 23 ∷ []) $ free1 ! $ move ! (15 ∷ 22 ∷ []) $ free1 ! $ move ! (15 ∷ 21 ∷ []) $ free1 ! $ move ! (15 ∷ 20 ∷ []) $ free1 ! $
         move ! (15 ∷ 19 ∷ []) $ free1 ! $ move ! (7 ∷ 18 ∷ []) $ free1 ! $ move ! (7 ∷ 17 ∷ []) $ free1 ! $ move ! (7 ∷ 16 ∷ []) $ free1 ! $ move ! (7 ∷ 15 ∷ []) $ free1 ! $ move ! (7 ∷ 14 ∷ []) $ free1 ! $
         move ! (7 ∷ 13 ∷ []) $ free1 ! $ move ! (7 ∷ 12 ∷ []) $ free1 ! $ move ! (7 ∷ 11 ∷ []) $ free1 ! $ move ! (7 ∷ 10 ∷ []) $ free1 ! $ move ! (7 ∷ 9 ∷ []) $ free1 ! $ move ! (7 ∷ 8 ∷ []) $ free1 ! $ free0 ! $
-        keep ! (0 ∷ 1 ∷ 2 ∷ 3 ∷ 4 ∷ 6 ∷ []) $ by ! (exits (ks .1 .1 .1 .0) (z .zs ++ drop (z .i) ys) (l′ ∙ l ∙ f .long-as) whole-long (filled (ks .1 .1 .1 .0) e′) g)))))))
+        keep ! (0 ∷ 1 ∷ 2 ∷ 3 ∷ 4 ∷ 6 ∷ []) $ by ! (exits (ks .1 .1 .1 .1 .0) (z .zs ++ drop (z .i) ys) (l′ ∙ l ∙ f .long-as) whole-long (filled (ks .1 .1 .1 .1 .0) e′) g)))))))
       where
         whole-long : length (z .zs ++ drop (z .i) ys) ≡ length ys
         whole-long = long (z .zs) ys (z .i) (f .many) (omega (arith, f .left, fits))
 
-        filled : (last : List ℕ) → Finishes (now s) source (k .next) new last → Ended last (z .zs ++ drop (z .i) ys)
+        filled : (last : List ℕ) → Finishes (now s) source (k .next) (z .i) new last → Ended last (z .zs ++ drop (z .i) ys)
         filled last e′ ps goal h c = let q = f .ahead ps goal h c in by-list ps goal h (q .0) (q .1) (q .2)
           where
-            same : (goal : List ℕ) → (k .next ≡ z .x) × (new ≡ z .table) → Comes (now s) source (z .x) (z .table) goal [] → Comes (now s) source (k .next) new goal []
+            same : (goal : List ℕ) → (k .next ≡ z .x) × (new ≡ z .table) → Comes (now s) source (z .x) (z .i) (z .table) goal [] → Comes (now s) source (k .next) (z .i) new goal []
             same goal q c = rw (q .0, q .1) c
 
-            by-list : (ps : List Pair) (goal : List ℕ) → length ps ≡ n → (qs : List Pair) → ps ≡ z .zs ++ qs → Comes (now s) source (z .x) (z .table) goal qs → (last ≡ goal) × (z .zs ++ drop (z .i) ys ≡ ps ++ drop n ys)
+            by-list : (ps : List Pair) (goal : List ℕ) → length ps ≡ n → (qs : List Pair) → ps ≡ z .zs ++ qs → Comes (now s) source (z .x) (z .i) (z .table) goal qs → (last ≡ goal) × (z .zs ++ drop (z .i) ys ≡ ps ++ drop n ys)
             by-list ps goal h [] are c =
                 let all : z .i ≡ n = omega (arith, ap length are, length-append (z .zs) [], h, f .many) in (
                   e′ goal (same goal (e .stays (omega (arith, all))) c),

@@ -178,7 +178,7 @@ module _ {M : Type 1} (𝓤 : URA M) (H : Heap 𝓤) (A : Atoms 𝓤) (W : Given
   Prepares f ms = Prepared (now s) n (length (now r)) f table ms
 
   abbrev Filled : Found → List ℕ → List ℕ → List Pair → Type 0
-  Filled f ms new ws = (ps : List Pair) (goal : List ℕ) → length ps ≡ f .count → Comes (now s) (f .source) (f .start) ms goal ps → (new ≡ goal) × (ws ≡ ps ++ drop (f .count) (now r))
+  Filled f ms new ws = (ps : List Pair) (goal : List ℕ) → length ps ≡ f .count → Comes (now s) (f .source) (f .start) 0 ms goal ps → (new ≡ goal) × (ws ≡ ps ++ drop (f .count) (now r))
 
   kept : (f : Found) (ms new : List ℕ) (ws : List Pair) → Prepares f ms → Filled f ms new ws → ReadFrameRecords (now s) n (f .answer) table new (now r) ws
   kept f ms new ws e e′ = let o = e′ (e .ps) _ (e .many) (e .comes) in record { says = e .says; fills = record { messages = o .0; pairs = o .1 ∙ e .left (now r) refl } }
