@@ -1,14 +1,14 @@
 -- Laws about taking pairs one after the other, by value or where they stand.
 use mathlib.Core.Path.{_≡_, refl, sym, ap, subst, _∙_}
-use mathlib.Core.Bool.{true, false, cond}
+use mathlib.Core.Bool.{true, false}
 use mathlib.Core.Logic.{⊎-elim}
 use mathlib.Core.List.{List, [], _∷_, _++_}
-use Prim.Native.Nat.{ℕ, zero, suc, _+_, _-_, _≤_, _<_}
+use Prim.Native.Nat.{ℕ, zero, suc, _+_, _-_, _<_}
 use native.Mathlib.Omega.{arith}
 use lib.ListN.{length, take, drop, getD}
 use lib.Seq.{drop-cons}
 use Rattle.answer.specs.Answer.{done}
-use Rattle.answer.proofs.Cases.{lt-or-le, bool-cases}
+use Rattle.answer.proofs.Cases.{lt-or-le}
 use Rattle.frame.specs.declared.Pair.{Pair}
 use Rattle.parser.specs.Pair.{pairFrom}
 use Rattle.parser.specs.declared.Few.{Few}

@@ -3,9 +3,9 @@
 use borrow.Author.Needs.{needs}
 use mathlib.Core.Path.{_≡_, refl, sym, ap, _∙_}
 use mathlib.Core.List.{List}
-use Prim.Native.Nat.{ℕ, _+_, _-_, _*_, _≤_, _<_}
+use Prim.Native.Nat.{ℕ, _+_, _-_, _*_, _≤_}
 use native.Mathlib.Omega.{arith}
-use lib.ListN.{length, take, drop, getD}
+use lib.ListN.{length, take, drop}
 use Rattle.answer.specs.Answer.{Answer, done, behind}
 use Rattle.answer.proofs.Cases.{not-both}
 use Rattle.types.specs.Value.{Span, span}
@@ -14,7 +14,6 @@ use Rattle.frame.specs.declared.Pair.{Pair}
 use Rattle.parser.specs.Payload.{movedSpan, stringFrom}
 use Rattle.parser.proofs.Walk.{string-next}
 use Rattle.parser.proofs.Filling.{tail-room}
-use Rattle.records.specs.declared.Far.{Far}
 use Rattle.records.specs.Inner.{FromMessages}
 use Rattle.records.proofs.Messages.{put-length, all-done, Due, due, due-room, due-place, due-on}
 use Rattle.records.proofs.fill.to_argument.Statement.{statement}
