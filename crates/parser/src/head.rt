@@ -5,7 +5,7 @@ use crate::MetadataRead;
 use crate::PayloadRead;
 use crate::Rooms;
 use crate::fill::into_tables;
-use crate::look::look;
+use crate::look::look_either;
 use answer::ABORTED;
 use answer::AGENTS;
 use answer::OVERSIZE;
@@ -239,7 +239,7 @@ fn look_rest(f: &[u8], metadata: Metadata, start: usize, rooms: Rooms) -> FrameR
     ensures { λ r. ⌜ frameSaid r ≡ frameTells (answered (wholeFrame rooms (now (f .entry)))) ⌝ }
 {
     let kv = metadata.kind != frame::NOTIFY;
-    match look(&f[start..], kv, rooms) {
+    match look_either(&f[start..], kv, rooms) {
         PayloadRead::Refused(r) => {
             return FrameRead::Refused(Refusal {
                 number: r.number,

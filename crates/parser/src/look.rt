@@ -204,3 +204,13 @@ pub(crate) fn look(payload: &[u8], kv: bool, rooms: Rooms) -> PayloadRead
         used: state.at,
     }
 }
+
+// The same for either kind of payload. Each has its own copy of the pass, so that it does not ask at each record which kind it is.
+pub(crate) fn look_either(payload: &[u8], kv: bool, rooms: Rooms) -> PayloadRead
+    ensures { λ r. ⌜ payloadSaid r ≡ payloadTells (payloadOf kv rooms (now (payload .entry))) ⌝ }
+{
+    if kv {
+        return look(payload, true, rooms);
+    }
+    look(payload, false, rooms)
+}

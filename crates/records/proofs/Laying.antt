@@ -28,7 +28,7 @@ use Rattle.parser.proofs.Frames.{metadata-start}
 use Rattle.parser.proofs.Walk.{string-next, pair-says, message-says, item-pair, item-message}
 use Rattle.walker.specs.declared.Place.{Place}
 use Rattle.walker.specs.Walk.{kvOf}
-use Rattle.records.specs.Inner.{MessageThere, Laid, FromList, FromMessages}
+use Rattle.records.specs.Inner.{MessageThere, Laid}
 use Rattle.walker.proofs.Walking.{from-moved, run-moved, ended-same, kv-run, kv-start, frame-holds, payload-all, take-short}
 
 -- ---- with other bytes behind
@@ -261,7 +261,7 @@ module _ (rooms : Rooms) (s : List ℕ) where
 -- Where its payload starts, what it holds lies in the bytes.
 pub record Lies (s : List ℕ) (m : Metadata) (c : Contents) (used : ℕ) : Type 0 where
   pub within : used ≤ length s
-  pub list : (m .kind ≡ 3 → ⊥) → FromList s (kvOf (take used s) .at) (c .pairs) × ([] ≡ c .messages)
+  pub list : (m .kind ≡ 3 → ⊥) → (end : ℕ) × Run s (kvOf (take used s) .at) (c .pairs) end × ([] ≡ c .messages)
   pub messages : m .kind ≡ 3 → (end : ℕ) × Laid s (kvOf (take used s) .at) 0 (c .messages) (c .pairs) end
 
 take-drop : (n : ℕ) (xs : List ℕ) → take n xs ++ drop n xs ≡ xs
@@ -284,7 +284,8 @@ accepted-lies limit rooms s m c used e =
       list = λ ne.
           let is : payload true rooms (drop n f) ≡ done (h .held) (h .end) = ap (λ (b : Bool). payload (not b) rooms (drop n f)) (sym (ne-eqb (m .kind) 3 ne)) ∙ h .is in
           let run = run-moved f n 0 (h .held .pairs) (h .end) (kv-run rooms (drop n f) (h .held) (h .end) is) in (
-            record { end = n + h .end; run = rw at (rw (take-drop used s) at (run-kept f (drop used s) n (c .pairs) (n + h .end) (rw (from, pairs) at run))) },
+            n + h .end,
+            rw at (rw (take-drop used s) at (run-kept f (drop used s) n (c .pairs) (n + h .end) (rw (from, pairs) at run))),
             ap (map (movedMessage n)) (kv-none rooms (drop n f) (h .held) (h .end) is) ∙ messages,
           );
       messages = λ is3.

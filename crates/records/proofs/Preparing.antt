@@ -1,18 +1,17 @@
 -- Laws about what reading a frame comes to but for its pairs: with no pairs where it is not accepted, and with those that lie in it where it is.
 use mathlib.Core.Path.{_≡_, refl, sym, ap, subst, _∙_}
-use mathlib.Core.Bool.{Bool, true, false, _||_, not}
+use mathlib.Core.Bool.{true}
 use mathlib.Core.Logic.{_⊎_, ⊎-elim}
-use mathlib.Core.List.{List, [], _∷_, _++_, map}
-use Prim.Native.Nat.{ℕ, zero, suc, _+_, _*_, _/_, _≤_, _<_}
+use mathlib.Core.List.{List, [], _∷_, _++_, append-nil}
+use Prim.Native.Nat.{ℕ, _+_, _*_, _/_, _≤_}
 use native.Mathlib.Omega.{arith}
-use lib.Dec.{ltb, eqb}
-use lib.ListN.{length, take, drop, getD, length-append, length-map}
-use borrow.Author.Tests.{lt-ltb, le-ltb, eqb-true, eqb-false}
+use lib.Dec.{eqb}
+use lib.ListN.{length, take, drop}
+use borrow.Author.Tests.{eqb-true, eqb-false}
 use denote.Enum.Declared.{tagOf, declared}
 use Rattle.answer.specs.Answer.{Answer, done, refused, next, written, leaves}
 use Rattle.answer.specs.Table.{joined}
-use Rattle.answer.proofs.Cases.{lt-or-le, bool-cases, true-false, answer-cases, not-both}
-use Rattle.answer.proofs.Records.{joined-none}
+use Rattle.answer.proofs.Cases.{bool-cases, not-both}
 use Rattle.frame.specs.Head.{fourNumber}
 use Rattle.frame.specs.declared.Pair.{Pair}
 use Rattle.frame.specs.declared.Message.{Message}
@@ -31,12 +30,12 @@ use Rattle.parser.proofs.Kept.{Larger, by-cut, answered-same, whole-kept}
 use Rattle.parser.proofs.Fitting.{Fit, Fits, frame-fits}
 use Rattle.parser.proofs.Entries.{said-done}
 use Rattle.parser.proofs.FrameRead.{enum}
-use Rattle.walker.specs.declared.Place.{Place}
 use Rattle.walker.specs.Walk.{kvOf}
-use Rattle.records.specs.declared.Ahead.{Ahead}
+use Rattle.records.specs.declared.Source.{Source}
+use Rattle.records.specs.declared.Far.{Far}
 use Rattle.records.specs.declared.Found.{Found}
 use Rattle.records.specs.Promise.{pairsLeft}
-use Rattle.records.specs.Inner.{Laid, four, InFew, noneAhead, Comes, Prepared}
+use Rattle.records.specs.Inner.{Laid, FromMessages, four, InFew, Comes, noneFound, Prepared}
 use Rattle.records.proofs.Laying.{Lies, accepted-lies}
 
 -- ---- there is room for what is accepted
@@ -59,18 +58,16 @@ module _ (input : List ℕ) (limit room : ℕ) (old : List ℕ) where
   abbrev pub rooms : Rooms
   rooms = record { messages = length old / messageWidth; pairs = room }
 
-  pub nothing-prepared : (a : FrameRead) → frameSaid a ≡ frameTells (frameRead limit rooms input)
-      → (tagOf (declared enum) a ≡ 1) ⊎ (tagOf (declared enum) a ≡ 2)
-      → Prepared input limit room (record { answer = a; count = 0; from = record { ahead = noneAhead; place = record { at = 0; left = 0; kv = false } } }) old old
+  pub nothing-prepared : (a : FrameRead) → frameSaid a ≡ frameTells (frameRead limit rooms input) → (tagOf (declared enum) a ≡ 1) ⊎ (tagOf (declared enum) a ≡ 2)
+      → Prepared input limit room (noneFound a) old old
   nothing-prepared a e t =
       let n = said-nothing (frameRead limit rooms input) a e t in
       record {
         says = e;
-        messages = rw (n .2) refl;
         ps = [];
         many = refl;
         within = omega arith;
-        comes = record { qs = []; rest = []; is = refl; many = refl; next = 0; run = refl; before = 0; messages = []; end = 0; laid = (refl, refl) };
+        comes = (record { within = omega arith; are = refl }, rw (n .2) refl);
         left = λ table l. rw (n .2) refl;
       }
 
@@ -92,63 +89,69 @@ module _ (input : List ℕ) (limit room : ℕ) (old : List ℕ) where
     pub fit : (i * 4 ≤ length old) × (j ≤ room)
     fit = let q = frame-fit limit rooms input m (found .0) used (found .1) in (omega (arith, q .0, many-messages), omega (arith, q .1, many-pairs))
 
-    -- what is left in the table of messages, and where the pairs come from
-    pub found-prepared : (new : List ℕ) → new ≡ leaves (written (joined messageNumbers (found .0 .messages))) old → (ahead : Ahead) (x : Place) → Comes input ahead x (found .0 .pairs)
-        → Prepared input limit room (record { answer = f.Done m i j used; count = j; from = record { ahead = ahead; place = x } }) old new
-    found-prepared new e ahead x comes =
+    -- what the table of messages is to be
+    abbrev pub filled : List ℕ
+    filled = leaves (written (joined messageNumbers (found .0 .messages))) old
+
+    -- and where the pairs come from
+    pub found-prepared : (new : List ℕ) (source : Source) (x : Far) → Comes input source x 0 new filled (found .0 .pairs)
+        → Prepared input limit room (record { answer = f.Done m i j used; count = j; source = source; start = x }) old new
+    found-prepared new source x comes =
         record {
           says = says;
-          messages = rw (found .1) e;
           ps = found .0 .pairs;
           many = many-pairs;
           within = fit .1;
-          comes = comes;
+          comes = rw (found .1) comes;
           left = λ table l. rw (found .1) (ap (λ (k : ℕ). found .0 .pairs ++ drop k table) (sym many-pairs));
         }
 
-    pub from-messages : (is3 : m .kind ≡ 3) → Comes input noneAhead (record { at = kvOf (take used input) .at; left = 0; kv = false }) (found .0 .pairs)
-    from-messages is3 =
-        let l = lies .messages is3 in
-        record {
-          qs = [];
-          rest = found .0 .pairs;
-          is = refl;
-          many = refl;
-          next = kvOf (take used input) .at;
-          run = refl;
-          before = 0;
-          messages = found .0 .messages;
-          end = l .0;
-          laid = l .1;
-        }
+    -- A KV list has all its pairs before the first of no messages, and a list of messages has none before the first.
+    module _ (at left : ℕ) (e : at ≡ kvOf (take used input) .at) (t : (m .kind ≡ 3 → left ≡ 0) × ((m .kind ≡ 3 → ⊥) → left ≡ j)) where
+      abbrev first : Far
+      first = record { at = at; left = left; messages = 0 }
 
-    -- a KV list has no messages
-    pub list-prepared : (m .kind ≡ 3 → ⊥) → Prepared input limit room (record { answer = f.Done m i j used; count = j; from = record { ahead = noneAhead; place = record { at = kvOf (take used input) .at; left = 0; kv = true } } }) old old
-    list-prepared ne =
-        let l = lies .list ne in
-        found-prepared old
-        (ap (λ (numbers : List ℕ). leaves (written numbers) old) (sym (joined-none messageNumbers)) ∙ ap (λ (ms : List Message). leaves (written (joined messageNumbers ms)) old) (l .1))
-        noneAhead _ (l .0)
+      list-first : (m .kind ≡ 3 → ⊥) → FromMessages input i 0 first old filled (found .0 .pairs)
+      list-first ne =
+          let l = lies .list ne in
+          record {
+            qs = found .0 .pairs;
+            rest = [];
+            is = sym (append-nil (found .0 .pairs));
+            many = many-pairs ∙ sym (t .1 ne);
+            next = l .0;
+            run = rw e (l .1);
+            messages = [];
+            end = l .0;
+            laid = (refl, refl);
+            all = omega (arith, many-messages, ap length (l .2));
+            room = fit .0;
+            goes = ap (λ (ms : List Message). leaves (written (joined messageNumbers ms)) old) (sym (l .2));
+          }
 
-    -- by the test of the type
-    pub messages-filled : not (not (eqb (m .kind) 3)) ≡ true → (at : ℕ) → at ≡ kvOf (take used input) .at
-        → (new : List ℕ)
-        → ((ms : List Message) (ps : List Pair) (end : ℕ) → length ms ≡ i → length ps ≡ j → Laid input at 0 ms ps end → new ≡ leaves (written (joined messageNumbers ms)) old)
-        → Prepared input limit room (record { answer = f.Done m i j used; count = j; from = record { ahead = noneAhead; place = record { at = at; left = 0; kv = not (eqb (m .kind) 3) } } }) old new
-    messages-filled t at e new filled =
-        let is : eqb (m .kind) 3 ≡ true = bool-cases (eqb (m .kind) 3) (λ b. b) (λ b. true-false (rw b at t) refl) in
-        let three = eqb-true (m .kind) 3 is in
-        let l = lies .messages three in
-        rw (is, e)
-        (found-prepared new
-        (filled (found .0 .messages) (found .0 .pairs) (l .0) many-messages many-pairs (subst (λ (k : ℕ). Laid input k 0 (found .0 .messages) (found .0 .pairs) (l .0)) (sym e) (l .1)))
-        noneAhead _ (from-messages three))
+      messages-first : m .kind ≡ 3 → FromMessages input i 0 first old filled (found .0 .pairs)
+      messages-first is3 =
+          let l = lies .messages is3 in
+          record {
+            qs = [];
+            rest = found .0 .pairs;
+            is = refl;
+            many = sym (t .0 is3);
+            next = at;
+            run = refl;
+            messages = found .0 .messages;
+            end = l .0;
+            laid = subst (λ (k : ℕ). Laid input at k (found .0 .messages) (found .0 .pairs) (l .0)) {x = 0} {y = 0 + left} (omega (arith, t .0 is3)) (rw e (l .1));
+            all = omega (arith, many-messages);
+            room = fit .0;
+            goes = refl;
+          }
 
-    pub list-left : not (not (eqb (m .kind) 3)) ≡ false → (at : ℕ) → at ≡ kvOf (take used input) .at
-        → Prepared input limit room (record { answer = f.Done m i j used; count = j; from = record { ahead = noneAhead; place = record { at = at; left = 0; kv = not (eqb (m .kind) 3) } } }) old old
-    list-left t at e =
-        let is : eqb (m .kind) 3 ≡ false = bool-cases (eqb (m .kind) 3) (λ b. true-false refl (rw b at t)) (λ b. b) in
-        rw (is, e) (list-prepared (eqb-false (m .kind) 3 is))
+      pub from-first : FromMessages input i 0 first old filled (found .0 .pairs)
+      from-first =
+          bool-cases (eqb (m .kind) 3)
+          (λ b. messages-first (eqb-true (m .kind) 3 b))
+          (λ b. list-first (eqb-false (m .kind) 3 b))
 
 -- ---- a few pairs, by value
 
@@ -184,7 +187,7 @@ module _ (input : List ℕ) (limit room : ℕ) (old new : List ℕ) (h : 4 ≤ r
       (λ place e. full place (read .says ∙ ap frameTells e))
 
   pub few-prepared : (m : Metadata) (i j used : ℕ) → r .answer ≡ f.Done m i j used
-      → Prepared input limit room (record { answer = f.Done m i j used; count = j; from = record { ahead = record { own = true; few = r .few }; place = record { at = 0; left = 0; kv = false } } }) old new
+      → Prepared input limit room (record { answer = f.Done m i j used; count = j; source = record { own = true; few = r .few; total = 0 }; start = record { at = 0; left = 0; messages = 0 } }) old new
   few-prepared m i j used e =
       let four-says : answered (done (m, (i, j)) used) ≡ frameTells (frameRead limit (roomForFew old) input) = ap frameSaid (sym e) ∙ read .says in
       let same = same-answer (λ place q. not-both refl (answered-same (ap frameSaid (sym e) ∙ q))) in
@@ -193,10 +196,10 @@ module _ (input : List ℕ) (limit room : ℕ) (old new : List ℕ) (h : 4 ≤ r
       let is : frameRead limit (roomForFew old) input ≡ answered (done (m, c) used) = sym same ∙ found input limit room old m i j used says .1 in
       let few : r .few ≡ fewOf (c .pairs) = read .few ∙ ap (λ (x : Reading (Metadata × Contents)). fewOf (pairsRead (contentsRead x))) is in
       let fits = frame-fit limit (roomForFew old) input m c used is in
-      found-prepared input limit room old m i j used says new
-      (read .messages ∙ ap (λ (x : Reading (Metadata × Contents)). leaves (next (contentsRead x) (λ (d : Contents) (n : ℕ). written (joined messageNumbers (d .messages)))) old) is)
-      (record { own = true; few = r .few }) _
-      (subst (λ (x : Few). InFew x 0 (c .pairs)) (sym few) (few-all (c .pairs) (fits .1)))
+      found-prepared input limit room old m i j used says new _ _ (
+        subst (λ (x : Few). InFew x 0 (c .pairs)) (sym few) (few-all (c .pairs) (fits .1)),
+        read .messages ∙ ap (λ (x : Reading (Metadata × Contents)). leaves (next (contentsRead x) (λ (d : Contents) (n : ℕ). written (joined messageNumbers (d .messages)))) old) is,
+      )
 
   module _ (t : (tagOf (declared enum) (r .answer) ≡ 1) ⊎ (tagOf (declared enum) (r .answer) ≡ 2)) where
     -- nothing was filled in
@@ -205,12 +208,12 @@ module _ (input : List ℕ) (limit room : ℕ) (old new : List ℕ) (h : 4 ≤ r
         let n = said-nothing (frameRead limit (roomForFew old) input) (r .answer) (read .says) t in
         read .messages ∙ ap (λ (a : Answer Contents). leaves (next a (λ (c : Contents) (used : ℕ). written (joined messageNumbers (c .messages)))) old) (n .2)
 
-    pub few-nothing : ((place : ℕ) → frameSaid (r .answer) ≡ answered (refused 10 place) → ⊥) → (x : Found)
-        → x ≡ record { answer = r .answer; count = 0; from = record { ahead = noneAhead; place = record { at = 0; left = 0; kv = false } } } → Prepared input limit room x old new
+    pub few-nothing : ((place : ℕ) → frameSaid (r .answer) ≡ answered (refused 10 place) → ⊥) → (x : Found) → x ≡ noneFound (r .answer)
+        → Prepared input limit room x old new
     few-nothing full x e =
         let same = same-answer full in
         subst (λ (y : Found). Prepared input limit room y old new) (sym e)
-        (subst (λ (l : List ℕ). Prepared input limit room (record { answer = r .answer; count = 0; from = record { ahead = noneAhead; place = record { at = 0; left = 0; kv = false } } }) old l) (sym few-stays)
+        (subst (λ (l : List ℕ). Prepared input limit room (noneFound (r .answer)) old l) (sym few-stays)
         (nothing-prepared input limit room old (r .answer) (read .says ∙ ap frameTells (sym same)) t))
 
     -- and so what is prepared then is what is prepared from the start

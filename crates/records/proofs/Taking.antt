@@ -1,58 +1,45 @@
--- Laws about taking pairs where they stand, one after the other.
+-- Laws about taking pairs one after the other, by value or where they stand.
 use mathlib.Core.Path.{_≡_, refl, sym, ap, subst, _∙_}
-use mathlib.Core.Bool.{true, false, cond}
+use mathlib.Core.Bool.{true, false}
+use mathlib.Core.Logic.{⊎-elim}
 use mathlib.Core.List.{List, [], _∷_, _++_}
-use Prim.Native.Nat.{ℕ, zero, suc, _+_, _-_, _≤_, _<_}
+use Prim.Native.Nat.{ℕ, zero, suc, _+_, _-_, _<_}
 use native.Mathlib.Omega.{arith}
-use lib.Dec.{ltb}
 use lib.ListN.{length, take, drop, getD}
 use lib.Seq.{drop-cons}
-use borrow.Author.Tests.{lt-ltb}
 use Rattle.answer.specs.Answer.{done}
-use Rattle.types.specs.Value.{span}
+use Rattle.answer.proofs.Cases.{lt-or-le}
 use Rattle.frame.specs.declared.Pair.{Pair}
-use Rattle.frame.specs.declared.Message.{Message}
 use Rattle.parser.specs.Pair.{pairFrom}
-use Rattle.parser.specs.Payload.{stringFrom}
 use Rattle.parser.specs.declared.Few.{Few}
 use Rattle.parser.specs.Promise.{noPair}
 use Rattle.parser.specs.Inner.{Run}
-use Rattle.parser.proofs.Pairs.{done-same}
-use Rattle.parser.proofs.Runs.{from-next}
-use Rattle.walker.specs.declared.Place.{Place}
-use Rattle.walker.specs.Walk.{comes, afterPlace}
-use Rattle.records.specs.declared.Ahead.{Ahead}
-use Rattle.records.specs.declared.Taken.{Taken}
-use Rattle.records.specs.Inner.{Laid, FromList, FromMessages, four, InFew, Comes}
+use Rattle.records.specs.declared.Source.{Source}
+use Rattle.records.specs.declared.Far.{Far}
+use Rattle.records.specs.declared.Given.{Given}
+use Rattle.records.specs.Inner.{Laid, afterPair, FromMessages, FromBytes, four, InFew, ByValue, Comes}
 
--- the first of the pairs of a KV list, and the others
-pub record ListNext (s : List ℕ) (at : ℕ) (p : Pair) (ps : List Pair) : Type 0 where
+-- ---- from the bytes
+
+-- the first of the pairs that come, and the others
+pub record FirstOf (s : List ℕ) (total first : ℕ) (x : Far) (table goal : List ℕ) (p : Pair) (ps : List Pair) : Type 0 where
   pub end : ℕ
-  pub from : pairFrom at s ≡ done p end
-  pub others : FromList s end ps
+  pub from : pairFrom (x .at) s ≡ done p end
+  pub others : FromMessages s total (first + 1) (afterPair x end) table goal ps
 
-pub list-next : (s : List ℕ) (at : ℕ) (p : Pair) (ps : List Pair) → FromList s at (p ∷ ps) → ListNext s at p ps
-list-next s at p ps f = record { end = f .run .0; from = f .run .1; others = record { end = f .end; run = f .run .2 } }
-
--- A pair comes where one stands.
-pub list-comes : (s : List ℕ) (x : Place) (p : Pair) (end : ℕ) → x .kv ≡ true → pairFrom (x .at) s ≡ done p end → comes s x ≡ true
-list-comes s x p end kv f = rw kv (lt-ltb (x .at) (length s) (omega (arith, from-next s (x .at) p end f)))
-
-pub argument-comes : (s : List ℕ) (x : Place) → x .kv ≡ false → 0 < x .left → comes s x ≡ true
-argument-comes s x kv h = rw kv (lt-ltb 0 (x .left) h)
-
--- the first argument, and the others
-pub record ArgumentNext (s : List ℕ) (at left : ℕ) (p : Pair) (ps : List Pair) : Type 0 where
-  pub end : ℕ
-  pub from : pairFrom at s ≡ done p end
-  pub others : FromMessages s end (left - 1) ps
-
-pub argument-next : (s : List ℕ) (at left : ℕ) (p : Pair) (ps : List Pair) → FromMessages s at left (p ∷ ps) → 0 < left → ArgumentNext s at left p ps
-argument-next s at left p ps f h = go (f .qs) (f .is) (f .many) (f .run)
+pub first-of : {s : List ℕ} {total first : ℕ} {x : Far} {table goal : List ℕ} {p : Pair} {ps : List Pair} → FromBytes s total first x table goal (p ∷ ps) → FirstOf s total first x table goal p ps
+first-of {s = s} {total = total} {first = first} {x = x} {table = table} {goal = goal} {p = p} {ps = ps} b =
+    ⊎-elim
+    (λ h. go h (b .from .qs) (b .from .is) (b .from .many) (b .from .run))
+    (λ h. absurd (omega (arith, ap length (b .ends (omega (arith, h)) .0))))
+    (lt-or-le 0 (x .left))
   where
-    go : (qs : List Pair) → p ∷ ps ≡ qs ++ f .rest → length qs ≡ left → Run s at qs (f .next) → ArgumentNext s at left p ps
-    go [] is many run = absurd (omega (arith, many, h))
-    go (q ∷ qs) is many run =
+    f : FromMessages s total first x table goal (p ∷ ps)
+    f = b .from
+
+    go : 0 < x .left → (qs : List Pair) → p ∷ ps ≡ qs ++ f .rest → length qs ≡ x .left → Run s (x .at) qs (f .next) → FirstOf s total first x table goal p ps
+    go h [] is many run = absurd (omega (arith, many, h))
+    go h (q ∷ qs) is many run =
         let same : q ≡ p = cc in
         let rest : ps ≡ qs ++ f .rest = cc in
         record {
@@ -66,105 +53,16 @@ argument-next s at left p ps f h = go (f .qs) (f .is) (f .many) (f .run)
                 many = omega (arith, many);
                 next = f .next;
                 run = run .2;
-                before = f .before;
                 messages = f .messages;
                 end = f .end;
-                laid = f .laid;
+                laid = subst (λ (k : ℕ). Laid s (f .next) k (f .messages) (f .rest) (f .end)) {x = first + x .left} {y = first + 1 + (x .left - 1)} (omega (arith, h)) (f .laid);
+                all = f .all;
+                room = f .room;
+                goes = f .goes;
               };
         }
 
--- where no argument of a message is left, the next message
-pub record MessageNext (s : List ℕ) (at : ℕ) (ps : List Pair) : Type 0 where
-  pub start : ℕ
-  pub len : ℕ
-  pub place : ℕ
-  pub name : stringFrom at s ≡ done (span start len) place
-  pub byte : place < length s
-  pub others : FromMessages s (place + 1) (getD s place 0) ps
-
-pub message-next : (s : List ℕ) (at : ℕ) (p : Pair) (ps : List Pair) → FromMessages s at 0 (p ∷ ps) → MessageNext s at (p ∷ ps)
-message-next s at p ps f = go (f .qs) (f .is) (f .many) (f .run) (f .messages) (f .laid)
-  where
-    go : (qs : List Pair) → p ∷ ps ≡ qs ++ f .rest → length qs ≡ 0 → Run s at qs (f .next) → (ms : List Message) → Laid s (f .next) (f .before) ms (f .rest) (f .end)
-        → MessageNext s at (p ∷ ps)
-    go (q ∷ qs) is many run ms l = absurd (omega (arith, many))
-    go [] is many run [] l =
-        let none : p ∷ ps ≡ [] = is ∙ l .0 in
-        absurd (omega (arith, ap length none))
-    go [] is many run (m ∷ ms) l =
-        let t = l .5 in
-        record {
-          start = m .start;
-          len = m .len;
-          place = t .place;
-          name = ap (λ (k : ℕ). stringFrom k s) run ∙ t .name;
-          byte = t .byte;
-          others =
-              record {
-                qs = l .0;
-                rest = l .1;
-                is = is ∙ l .3;
-                many = t .many ∙ sym (t .count);
-                next = l .2;
-                run = t .run;
-                before = f .before + m .count;
-                messages = ms;
-                end = f .end;
-                laid = l .6;
-              };
-        }
-
--- ---- the next pair
-
--- what is taken at a place where a pair stands and is to come
-abbrev pub Takes : List ℕ → Place → Taken → Type 0
-Takes s x r = (p : Pair) (end : ℕ) → comes s x ≡ true → pairFrom (x .at) s ≡ done p end → r ≡ record { pair = p; next = afterPlace x end }
-
--- from the bytes, where none come by value
-abbrev FromBytes : List ℕ → Place → List Pair → Type 0
-FromBytes s x ps = cond (x .kv) (FromList s (x .at) ps) (FromMessages s (x .at) (x .left) ps)
-
-bytes-come : (s : List ℕ) (ahead : Ahead) (x : Place) (ps : List Pair) → ahead .own ≡ false → FromBytes s x ps → Comes s ahead x ps
-bytes-come s ahead x ps own f = rw own f
-
-come-bytes : (s : List ℕ) (ahead : Ahead) (x : Place) (ps : List Pair) → ahead .own ≡ false → Comes s ahead x ps → FromBytes s x ps
-come-bytes s ahead x ps own f = rw own at f
-
-list-on : (s : List ℕ) (x : Place) (ps : List Pair) → x .kv ≡ true → FromBytes s x ps → FromList s (x .at) ps
-list-on s x ps kv f = rw kv at f
-
-messages-on : (s : List ℕ) (x : Place) (ps : List Pair) → x .kv ≡ false → FromBytes s x ps → FromMessages s (x .at) (x .left) ps
-messages-on s x ps kv f = rw kv at f
-
-list-back : (s : List ℕ) (x : Place) (end : ℕ) (ps : List Pair) → x .kv ≡ true → FromList s end ps → FromBytes s (afterPlace x end) ps
-list-back s x end ps kv f = rw kv f
-
-messages-back : (s : List ℕ) (x : Place) (end : ℕ) (ps : List Pair) → x .kv ≡ false → FromMessages s end (x .left - 1) ps → FromBytes s (afterPlace x end) ps
-messages-back s x end ps kv f = rw kv f
-
--- The first of the pairs that come was taken, and the others come behind it.
-module _ (s : List ℕ) (ahead : Ahead) (x : Place) (p : Pair) (ps : List Pair) (r : Taken) where
-  pub taken-few : Comes s ahead x (p ∷ ps) → ahead .own ≡ true
-      → ((q : Pair) (qs : List Pair) → InFew (ahead .few) (x .at) (q ∷ qs) → (r .pair ≡ q) × InFew (ahead .few) (r .next .at) qs)
-      → (r .pair ≡ p) × Comes s ahead (r .next) ps
-  taken-few f own t = let o = t p ps (rw own at f) in (o .0, rw own (o .1))
-
-  pub taken-list : Comes s ahead x (p ∷ ps) → ahead .own ≡ false → x .kv ≡ true → Takes s x r → (r .pair ≡ p) × Comes s ahead (r .next) ps
-  taken-list f own kv t =
-      let n = list-next s (x .at) p ps (list-on s x (p ∷ ps) kv (come-bytes s ahead x (p ∷ ps) own f)) in
-      let e = t p (n .end) (list-comes s x p (n .end) kv (n .from)) (n .from) in
-      let on = list-back s x (n .end) ps kv (n .others) in
-      (ap (λ (y : Taken). y .pair) e, bytes-come s ahead (r .next) ps own (subst (λ (y : Place). FromBytes s y ps) (sym (ap (λ (y : Taken). y .next) e)) on))
-
-  pub taken-argument : Comes s ahead x (p ∷ ps) → ahead .own ≡ false → x .kv ≡ false
-      → (y : Place) → (FromMessages s (x .at) (x .left) (p ∷ ps) → FromMessages s (y .at) (y .left) (p ∷ ps) × (0 < y .left) × (y .kv ≡ false))
-      → Takes s y r → (r .pair ≡ p) × Comes s ahead (r .next) ps
-  taken-argument f own kv y to t =
-      let g = to (messages-on s x (p ∷ ps) kv (come-bytes s ahead x (p ∷ ps) own f)) in
-      let n = argument-next s (y .at) (y .left) p ps (g .0) (g .1) in
-      let e = t p (n .end) (argument-comes s y (g .2) (g .1)) (n .from) in
-      let on = messages-back s y (n .end) ps (g .2) (n .others) in
-      (ap (λ (z : Taken). z .pair) e, bytes-come s ahead (r .next) ps own (subst (λ (z : Place). FromBytes s z ps) (sym (ap (λ (z : Taken). z .next) e)) on))
+-- ---- by value
 
 -- the next of a few
 pub few-next : (few : Few) (n : ℕ) (p : Pair) (ps : List Pair) → InFew few n (p ∷ ps) → (n < 4) × (getD (four few) n noPair ≡ p) × InFew few (n + 1) ps
@@ -185,48 +83,42 @@ few-past few (suc (suc zero)) a b c d = absurd (c refl)
 few-past few (suc (suc (suc zero))) a b c d = absurd (d refl)
 few-past few (suc (suc (suc (suc n)))) a b c d = refl
 
--- ---- pairs that are passed over
+-- ---- both
 
--- how far that is: what is left stands from the place on, up to the end
-pub record Skipping (s : List ℕ) (x : Place) (end : ℕ) : Type 0 where
-  pub kv : x .kv ≡ false
-  pub qs : List Pair
-  pub many : length qs ≡ x .left
-  pub run : Run s (x .at) qs end
+-- Where no pairs are left to come, the table is what it is to be: by value as it is, and else once the messages that are left are filled in.
+pub none-few : (s : List ℕ) (source : Source) (x : Far) (i : ℕ) (table goal : List ℕ) → Comes s source x i table goal [] → source .own ≡ true → table ≡ goal
+none-few s source x i table goal c own = let f : ByValue source x table goal [] = rw own at c in f .1
 
-pub skipping-all : (s : List ℕ) (at : ℕ) (ps : List Pair) (end : ℕ) {count : ℕ} → length ps ≡ count → Run s at ps end → Skipping s (record { at = at; left = count; kv = false }) end
-skipping-all s at ps end n r = record { kv = refl; qs = ps; many = n; run = r }
+pub none-bytes : (s : List ℕ) (source : Source) (x : Far) (i : ℕ) (table goal : List ℕ) → Comes s source x i table goal [] → source .own ≡ false
+    → (y : Far) (new : List ℕ) → ((qs : List Pair) (g : List ℕ) → FromMessages s (source .total) i x table g qs → FromBytes s (source .total) i y new g qs) → new ≡ goal
+none-bytes s source x i table goal c own y new to =
+    let f : FromMessages s (source .total) i x table goal [] = rw own at c in
+    let b = to [] goal f in
+    go b (b .from .qs) (b .from .is) (b .from .many)
+  where
+    go : (b : FromBytes s (source .total) i y new goal []) (qs : List Pair) → [] ≡ qs ++ b .from .rest → length qs ≡ y .left → new ≡ goal
+    go b [] is many = b .ends (sym many) .1
+    go b (q ∷ qs) is many = absurd (omega (arith, ap length is))
 
-module _ (s : List ℕ) (x : Place) (end : ℕ) (k : Skipping s x end) where
-  -- the first of them
-  pub record First : Type 0 where
-    pub pair : Pair
-    pub place : ℕ
-    pub from : pairFrom (x .at) s ≡ done pair place
+-- The first of the pairs that come was taken, and the others come behind it.
+module _ (s : List ℕ) (source : Source) (x : Far) (i : ℕ) (table goal : List ℕ) (p : Pair) (ps : List Pair) (r : Given) (c : Comes s source x i table goal (p ∷ ps)) where
+  pub taken-few : source .own ≡ true
+      → ((q : Pair) (qs : List Pair) → InFew (source .few) (x .at) (q ∷ qs) → (r .some ≡ true) × (r .pair ≡ q) × InFew (source .few) (r .next .at) qs)
+      → (r .some ≡ true) × (r .pair ≡ p) × Comes s source (r .next) (i + 1) table goal ps
+  taken-few own t =
+      let f : ByValue source x table goal (p ∷ ps) = rw own at c in
+      let o = t p ps (f .0) in
+      (o .0, o .1, rw own (o .2, f .1))
 
-  pub skipping-pair : 0 < x .left → First
-  skipping-pair h = go (k .qs) (k .many) (k .run)
-    where
-      go : (qs : List Pair) → length qs ≡ x .left → Run s (x .at) qs end → First
-      go [] n r = absurd (omega (arith, n, h))
-      go (q ∷ qs) n r = record { pair = q; place = r .0; from = r .1 }
-
-  pub skipping-on : 0 < x .left → (p : Pair) (place : ℕ) → pairFrom (x .at) s ≡ done p place → (y : Place) → y ≡ afterPlace x place → Skipping s y end
-  skipping-on h p place f y e = go (k .qs) (k .many) (k .run)
-    where
-      go : (qs : List Pair) → length qs ≡ x .left → Run s (x .at) qs end → Skipping s y end
-      go [] n r = absurd (omega (arith, n, h))
-      go (q ∷ qs) n r =
-          record {
-            kv = ap (λ (z : Place). z .kv) e ∙ k .kv;
-            qs = qs;
-            many = omega (arith, n, ap (λ (z : Place). z .left) e);
-            run = subst (λ (a : ℕ). Run s a qs end) (done-same (sym (r .1) ∙ f) .1 ∙ sym (ap (λ (z : Place). z .at) e)) (r .2);
-          }
-
-  pub skipping-none : x .left ≡ 0 → x .at ≡ end
-  skipping-none z = go (k .qs) (k .many) (k .run)
-    where
-      go : (qs : List Pair) → length qs ≡ x .left → Run s (x .at) qs end → x .at ≡ end
-      go [] n r = r
-      go (q ∷ qs) n r = absurd (omega (arith, n, z))
+  pub taken-bytes : source .own ≡ false
+      → (y : Far) (new : List ℕ) → ((qs : List Pair) (g : List ℕ) → FromMessages s (source .total) i x table g qs → FromBytes s (source .total) i y new g qs)
+      → ((q : Pair) (end : ℕ) → pairFrom (y .at) s ≡ done q end → r ≡ record { some = true; pair = q; next = afterPair y end })
+      → (r .some ≡ true) × (r .pair ≡ p) × Comes s source (r .next) (i + 1) new goal ps
+  taken-bytes own y new to t =
+      let f : FromMessages s (source .total) i x table goal (p ∷ ps) = rw own at c in
+      let n = first-of (to (p ∷ ps) goal f) in
+      let e = t p (n .end) (n .from) in (
+        ap (λ (g : Given). g .some) e,
+        ap (λ (g : Given). g .pair) e,
+        rw own (subst (λ (g : Given). FromMessages s (source .total) (i + 1) (g .next) new goal ps) (sym e) (n .others)),
+      )

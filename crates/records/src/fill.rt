@@ -1,10 +1,9 @@
-// What an accepted frame holds: its messages go into their table, and its pairs are given one after the other, a few of them by value and else from where
-// they stand in the bytes.
-use crate::Ahead;
+// What an accepted frame holds: its pairs are given one after the other, a few of them by value and else from where they stand in the bytes, and its messages
+// go into their table on the way.
+use crate::Far;
 use crate::Found;
 use crate::Given;
 use crate::Source;
-use crate::Taken;
 use answer::Refusal;
 use answer::TABLE_FULL;
 use answer::TOO_SOON;
@@ -20,23 +19,19 @@ use walker::Place;
 use walker::Step;
 ghost use mathlib.Core.Path.{_≡_};
 ghost use mathlib.Core.Bool.{true, false};
-ghost use mathlib.Core.List.{List, _∷_};
-ghost use Prim.Native.Nat.{ℕ, _*_, _≤_, _<_};
+ghost use mathlib.Core.List.{List, [], _∷_};
+ghost use Prim.Native.Nat.{ℕ, _-_, _≤_};
 ghost use lib.ListN.{length, drop, getD};
 ghost use Rattle.answer.specs.Answer.{done, written, leaves};
-ghost use Rattle.answer.specs.Table.{joined};
 ghost use Rattle.types.specs.Value.{string};
 ghost use Rattle.types.specs.Promise.{textRead};
 ghost use Rattle.frame.specs.declared.Pair.{Pair as PairRecord};
-ghost use Rattle.frame.specs.declared.Message.{Message as MessageRecord};
 ghost use Rattle.frame.specs.Records.{messageWidth, messageNumbers};
 ghost use Rattle.parser.specs.Pair.{pairFrom};
 ghost use Rattle.parser.specs.Promise.{noPair};
-ghost use Rattle.parser.specs.Inner.{Run};
-ghost use Rattle.walker.specs.Walk.{comes, afterPlace};
-ghost use Rattle.records.specs.Inner.{Laid, FromMessages, four, InFew, noneAhead, Comes, ComesFrom, Prepared};
+ghost use Rattle.records.specs.Inner.{afterPair, FromMessages, FromBytes, four, InFew, Comes, TakesNext, noneFound, Prepared};
 
-// A pair that is not there, and no pairs by value.
+// A pair that is not there, and four of these.
 const NO_PAIR: Pair = Pair {
     start: 0,
     len: 0,
@@ -48,14 +43,11 @@ const NO_PAIR: Pair = Pair {
     },
 };
 
-const NONE_AHEAD: Ahead = Ahead {
-    own: false,
-    few: Few {
-        first: NO_PAIR,
-        second: NO_PAIR,
-        third: NO_PAIR,
-        fourth: NO_PAIR,
-    },
+const NONE: Few = Few {
+    first: NO_PAIR,
+    second: NO_PAIR,
+    third: NO_PAIR,
+    fourth: NO_PAIR,
 };
 
 // The string that stands at `at`; a refusal where that lies behind the bytes.
@@ -71,46 +63,100 @@ fn name_at(input: &[u8], at: usize) -> Text
     types::read_string(&input[at..])
 }
 
-// The pair that stands there, and what comes behind it.
-fn taken(input: &[u8], place: Place) -> Taken
-    ensures { λ r. ⌜ ((p : PairRecord) (end : ℕ) → comes (now (input .entry)) place ≡ true → pairFrom (place .at) (now (input .entry)) ≡ done p end → r ≡ record { pair = p; next = afterPlace place end }) ⌝ }
+// One less, where there is one.
+fn one_less(n: usize) -> usize
+    ensures { λ r. ⌜ r ≡ n - 1 ⌝ }
 {
-    let Step::Found { pair, next } = walker::step_from(input, place) else {
-        return Taken {
-            pair: NO_PAIR,
-            next: place,
-        };
-    };
-    Taken { pair, next }
+    if n == 0 {
+        return 0;
+    }
+    n - 1
 }
 
-// Where the next argument stands: messages without arguments are passed over.
-fn to_argument(input: &[u8], from: Place) -> Place
-    ensures { λ r. ⌜ ((p : PairRecord) (ps : List PairRecord) → FromMessages (now (input .entry)) (from .at) (from .left) (p ∷ ps) → FromMessages (now (input .entry)) (r .at) (r .left) (p ∷ ps) × (0 < r .left) × (r .kv ≡ false)) ⌝ }
+// No pair.
+fn none(x: Far) -> Given
+    ensures { λ r. ⌜ r ≡ record { some = false; pair = noPair; next = x } ⌝ }
 {
-    let mut at = from.at;
-    let mut left = from.left;
-    while left == 0 {
-        let Text::Done {
-            start: _,
-            len: _,
-            used,
-        } = name_at(input, at)
-        else {
-            return from;
+    Given {
+        some: false,
+        pair: NO_PAIR,
+        next: x,
+    }
+}
+
+// The pair that stands there, and how far it is behind it. How many are left is counted here, so the walker is told that one is.
+fn taken(input: &[u8], x: Far) -> Given
+    ensures { λ r. ⌜ ((p : PairRecord) (end : ℕ) → pairFrom (x .at) (now (input .entry)) ≡ done p end → r ≡ record { some = true; pair = p; next = afterPair x end }) ⌝ }
+{
+    let place = Place {
+        at: x.at,
+        left: 1,
+        kv: false,
+    };
+    let Step::Found { pair, next } = walker::step_from(input, place) else {
+        return none(x);
+    };
+    Given {
+        some: true,
+        pair,
+        next: Far {
+            at: next.at,
+            left: one_less(x.left),
+            messages: x.messages,
+        },
+    }
+}
+
+// Writes the numbers of a message.
+fn put_message(message: Message, table: &mut [u64])
+    requires { ⌜ messageWidth ≤ length (now table) ⌝ }
+    ensures { λ _. ⌜ now (table .exit) ≡ leaves (written (messageNumbers message)) (now (table .entry)) ⌝ }
+{
+    table[0] = message.start;
+    table[1] = message.len;
+    table[2] = message.first;
+    table[3] = message.count;
+}
+
+// Where no pair comes before the next message, fills in messages up to one that has arguments, or the last. So many pairs stand before these.
+fn to_argument(input: &[u8], total: usize, first: usize, from: Far, messages: &mut [u64]) -> Far
+    ensures { λ r. ⌜ ((ps : List PairRecord) (goal : List ℕ) → FromMessages (now (input .entry)) total first from (now (messages .entry)) goal ps → FromBytes (now (input .entry)) total first r (now (messages .exit)) goal ps) ⌝ }
+{
+    let mut x = from;
+    while x.left == 0 {
+        let i = x.messages;
+        if total <= i {
+            return x;
+        }
+        if messages.len() / MESSAGE_WIDTH <= i {
+            return x;
+        }
+        let at = x.at;
+        let Text::Done { start, len, used } = name_at(input, at) else {
+            return x;
         };
         let end = at + used;
         if input.len() <= end {
-            return from;
+            return x;
         }
-        left = input[end] as usize;
-        at = end + 1;
+        let count = input[end] as usize;
+        let to = i * MESSAGE_WIDTH;
+        put_message(
+            Message {
+                start: (at + start) as u64,
+                len: len as u64,
+                first: first as u64,
+                count: count as u64,
+            },
+            &mut messages[to..],
+        );
+        x = Far {
+            at: end + 1,
+            left: count,
+            messages: i + 1,
+        };
     }
-    Place {
-        at,
-        left,
-        kv: false,
-    }
+    x
 }
 
 // One of the pairs that are there by value, by its number.
@@ -133,153 +179,87 @@ fn nth(few: Few, n: usize) -> Pair
 }
 
 // The next of them, and the number of the one behind it.
-fn taken_ahead(few: Few, from: Place) -> Taken
-    ensures { λ r. ⌜ ((p : PairRecord) (ps : List PairRecord) → InFew few (from .at) (p ∷ ps) → (r .pair ≡ p) × InFew few (r .next .at) ps) ⌝ }
+fn taken_ahead(few: Few, x: Far) -> Given
+    ensures { λ r. ⌜ ((p : PairRecord) (ps : List PairRecord) → InFew few (x .at) (p ∷ ps) → (r .some ≡ true) × (r .pair ≡ p) × InFew few (r .next .at) ps) ⌝ }
 {
-    let n = from.at;
+    let n = x.at;
     if 4 <= n {
-        return Taken {
-            pair: NO_PAIR,
-            next: from,
-        };
+        return none(x);
     }
-    Taken {
+    Given {
+        some: true,
         pair: nth(few, n),
-        next: Place {
+        next: Far {
             at: n + 1,
             left: 0,
-            kv: false,
+            messages: 0,
         },
     }
 }
 
-// The next pair, and where the one behind it stands.
-fn take_at(input: &[u8], ahead: Ahead, from: Place) -> Taken
-    ensures { λ r. ⌜ ((p : PairRecord) (ps : List PairRecord) → Comes (now (input .entry)) ahead from (p ∷ ps) → (r .pair ≡ p) × Comes (now (input .entry)) ahead (r .next) ps) ⌝ }
+// The next pair, where i of so many were taken, and how far it is behind it. Messages that stand before it are filled in.
+pub(crate) fn take_next(
+    input: &[u8],
+    source: Source,
+    x: Far,
+    i: usize,
+    count: usize,
+    messages: &mut [u64],
+) -> Given
+    ensures { λ r. ⌜ TakesNext (now (input .entry)) source x i count r (now (messages .entry)) (now (messages .exit)) ⌝ }
 {
-    if ahead.own {
-        let few = ahead.few;
-        return taken_ahead(few, from);
+    if count <= i {
+        return none(x);
     }
-    if from.kv {
-        return taken(input, from);
+    if source.own {
+        let few = source.few;
+        return taken_ahead(few, x);
     }
-    taken(input, to_argument(input, from))
+    let y = to_argument(input, source.total, i, x, messages);
+    taken(input, y)
 }
 
-// The same by where the pairs come from.
-pub(crate) fn take_next(input: &[u8], from: Source) -> Given
-    ensures { λ r. ⌜ ((p : PairRecord) (ps : List PairRecord) → ComesFrom (now (input .entry)) from (p ∷ ps) → (r .pair ≡ p) × ComesFrom (now (input .entry)) (r .next) ps) ⌝ }
+// Behind the last pair, of so many: fills in the messages that are left.
+pub(crate) fn finish(input: &[u8], source: Source, x: Far, i: usize, messages: &mut [u64])
+    ensures { λ _. ⌜ ((goal : List ℕ) → Comes (now (input .entry)) source x i (now (messages .entry)) goal [] → now (messages .exit) ≡ goal) ⌝ }
 {
-    let ahead = from.ahead;
-    let taken = take_at(input, ahead, from.place);
-    let pair = taken.pair;
-    let place = taken.next;
-    Given {
-        pair,
-        next: Source { ahead, place },
+    if source.own {
+        return;
     }
-}
-
-// The place behind so many pairs, which stand from `at` on.
-fn skip_pairs(input: &[u8], at: usize, count: usize) -> usize
-    ensures { λ r. ⌜ ((ps : List PairRecord) (end : ℕ) → length ps ≡ count → Run (now (input .entry)) at ps end → r ≡ end) ⌝ }
-{
-    let mut place = Place {
-        at,
-        left: count,
-        kv: false,
-    };
-    while 0 < place.left {
-        let Step::Found { pair: _, next } = walker::step_from(input, place) else {
-            return 0;
-        };
-        place = next;
-    }
-    place.at
-}
-
-// The place behind a message's arguments. Behind those of the last message nothing is asked for, so they are not read.
-fn behind_arguments(input: &[u8], at: usize, count: usize, last: bool) -> usize
-    ensures { λ r. ⌜ ((ps : List PairRecord) (end : ℕ) → last ≡ false → length ps ≡ count → Run (now (input .entry)) at ps end → r ≡ end) ⌝ }
-{
-    if last {
-        return at;
-    }
-    skip_pairs(input, at, count)
-}
-
-// Writes the numbers of a message.
-fn put_message(message: Message, table: &mut [u64])
-    requires { ⌜ messageWidth ≤ length (now table) ⌝ }
-    ensures { λ _. ⌜ now (table .exit) ≡ leaves (written (messageNumbers message)) (now (table .entry)) ⌝ }
-{
-    table[0] = message.start;
-    table[1] = message.len;
-    table[2] = message.first;
-    table[3] = message.count;
-}
-
-// Fills in so many messages, the first of which stands at `start`, with so many pairs in all.
-fn fill_messages(input: &[u8], start: usize, total: usize, pairs: usize, messages: &mut [u64])
-    requires { ⌜ total * messageWidth ≤ length (now messages) ⌝ }
-    ensures { λ _. ⌜ ((ms : List MessageRecord) (ps : List PairRecord) (end : ℕ) → length ms ≡ total → length ps ≡ pairs → Laid (now (input .entry)) start 0 ms ps end → now (messages .exit) ≡ leaves (written (joined messageNumbers ms)) (now (messages .entry))) ⌝ }
-{
-    let mut at = start;
-    let mut first = 0;
-    let mut i = 0;
-    while i < total {
-        let Text::Done {
-            start: name,
-            len,
-            used,
-        } = name_at(input, at)
-        else {
-            return;
-        };
-        let end = at + used;
-        if input.len() <= end {
-            return;
-        }
-        let count = input[end] as usize;
-        if pairs - first < count {
-            return;
-        }
-        let from = i * MESSAGE_WIDTH;
-        put_message(
-            Message {
-                start: (at + name) as u64,
-                len: len as u64,
-                first: first as u64,
-                count: count as u64,
-            },
-            &mut messages[from..],
-        );
-        i += 1;
-        at = behind_arguments(input, end + 1, count, i == total);
-        first += count;
-    }
+    let _ = to_argument(input, source.total, i, x, messages);
 }
 
 // An answer that comes with no pairs.
 fn nothing(answer: FrameRead) -> Found
-    ensures { λ r. ⌜ r ≡ record { answer = answer; count = 0; from = record { ahead = noneAhead; place = record { at = 0; left = 0; kv = false } } } ⌝ }
+    ensures { λ r. ⌜ r ≡ noneFound answer ⌝ }
 {
     Found {
         answer,
         count: 0,
-        from: Source {
-            ahead: NONE_AHEAD,
-            place: Place {
-                at: 0,
-                left: 0,
-                kv: false,
-            },
+        source: Source {
+            own: true,
+            few: NONE,
+            total: 0,
+        },
+        start: Far {
+            at: 0,
+            left: 0,
+            messages: 0,
         },
     }
 }
 
-// Looks at the frame; where it is accepted, fills in its messages, and finds where its pairs stand.
+// How many pairs come before the first message, where a payload has so many: all of a KV list.
+fn before_messages(kind: u64, pairs: usize) -> usize
+    ensures { λ r. ⌜ ((kind ≡ 3 → r ≡ 0) × ((kind ≡ 3 → ⊥) → r ≡ pairs)) ⌝ }
+{
+    if kind == frame::NOTIFY {
+        return 0;
+    }
+    pairs
+}
+
+// Looks at the frame; where it is accepted, finds where its payload starts.
 fn prepare_many(input: &[u8], limit: u32, room: usize, messages: &mut [u64]) -> Found
     ensures { λ r. ⌜ Prepared (now (input .entry)) limit room r (now (messages .entry)) (now (messages .exit)) ⌝ }
 {
@@ -297,22 +277,21 @@ fn prepare_many(input: &[u8], limit: u32, room: usize, messages: &mut [u64]) -> 
     else {
         return nothing(answer);
     };
-    let start = walker::kv_of(&input[..used]).at;
-    let kv = metadata.kind != frame::NOTIFY;
-    if !kv {
-        fill_messages(input, start, message_count, pair_count, messages);
-    }
+    let place = walker::kv_of(&input[..used]);
+    let start = Far {
+        at: place.at,
+        left: before_messages(metadata.kind, pair_count),
+        messages: 0,
+    };
     Found {
         answer,
         count: pair_count,
-        from: Source {
-            ahead: NONE_AHEAD,
-            place: Place {
-                at: start,
-                left: 0,
-                kv,
-            },
+        source: Source {
+            own: false,
+            few: NONE,
+            total: message_count,
         },
+        start,
     }
 }
 
@@ -336,13 +315,15 @@ pub(crate) fn prepare(input: &[u8], limit: u32, room: usize, messages: &mut [u64
             return Found {
                 answer,
                 count: pairs,
-                from: Source {
-                    ahead: Ahead { own: true, few },
-                    place: Place {
-                        at: 0,
-                        left: 0,
-                        kv: false,
-                    },
+                source: Source {
+                    own: true,
+                    few,
+                    total: 0,
+                },
+                start: Far {
+                    at: 0,
+                    left: 0,
+                    messages: 0,
                 },
             };
         },

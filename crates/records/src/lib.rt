@@ -8,35 +8,33 @@ use frame::Pair;
 use parser::Few;
 use parser::FrameRead;
 pub use table::read_frame_records;
-use walker::Place;
 
-// A few pairs that are there by value, or none.
-pub(crate) struct Ahead {
+// Where pairs come from, which stays the same while they are taken: a few that are there by value, or else the bytes, in which so many messages stand.
+pub(crate) struct Source {
     pub own: bool,
     pub few: Few,
+    pub total: usize,
 }
 
-// Where the next pair comes from: those that are there by value, by their number, or else the bytes, where they stand.
-pub(crate) struct Source {
-    pub ahead: Ahead,
-    pub place: Place,
+// How far it is: the place of the next pair, or its number among those that are there by value; how many pairs come before the next message; and how many
+// messages are filled in.
+pub(crate) struct Far {
+    pub at: usize,
+    pub left: usize,
+    pub messages: usize,
 }
 
-// A pair that was taken at a place, and the place of the one behind it.
-pub(crate) struct Taken {
-    pub pair: Pair,
-    pub next: Place,
-}
-
-// A pair that was given, and where the one behind it comes from.
+// Whether a pair was taken; the pair, and how far it is behind it.
 pub(crate) struct Given {
+    pub some: bool,
     pub pair: Pair,
-    pub next: Source,
+    pub next: Far,
 }
 
-// What reading a frame comes to but for its pairs: how many these are, and where they come from.
+// What reading a frame comes to but for its pairs: how many these are, where they come from, and how far it is before the first.
 pub(crate) struct Found {
     pub answer: FrameRead,
     pub count: usize,
-    pub from: Source,
+    pub source: Source,
+    pub start: Far,
 }

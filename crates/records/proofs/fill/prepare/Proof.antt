@@ -11,7 +11,7 @@ use Rattle.parser.specs.Promise.{frameSaid}
 use Rattle.parser.proofs.FrameRead.{enum}
 use Rattle.parser.proofs.Kept.{wait-answered, answered-same}
 use Rattle.parser.proofs.Pairs.{refused-same}
-use Rattle.records.specs.Inner.{noneAhead}
+use Rattle.records.specs.Inner.{noneFound}
 use Rattle.records.proofs.Preparing.{few-prepared, few-nothing, few-again}
 use Rattle.records.proofs.fill.prepare.Statement.{statement}
 use Rattle.records.proofs.fill.prepare.Tie as tie
@@ -95,8 +95,7 @@ returns-5 c =
     few-nothing (a .input .now) (a .limit) (a .room) (a .messages .now) _ (t .before .before .if1 .left) (t .read-few .result) (t .read-few .ensures)
     (inr (ap (λ (x : FrameRead). tagOf (declared enum) x) (k .answer2 .given .1)))
     (λ place e. i .if2 .left (refused-same (answered-same (sym (ap frameSaid (k .answer2 .given .1)) ∙ e)) .0)) _
-    (c .nothing2 .ensures
-    ∙ ap (λ (x : FrameRead). record { answer = x; count = 0; from = record { ahead = noneAhead; place = record { at = 0; left = 0; kv = false } } }) (sym (k .answer2 .given .1)))
+    (c .nothing2 .ensures ∙ ap noneFound (sym (k .answer2 .given .1)))
 
 pub prepare-spec : {M : Type 1} → statement M
 prepare-spec =

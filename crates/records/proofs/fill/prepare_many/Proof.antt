@@ -1,5 +1,5 @@
--- `records::fill::prepare_many` meets its contract: a frame that is not accepted comes with no pairs; one that is has its messages filled in, and its pairs
--- come from where its payload starts.
+-- `records::fill::prepare_many` meets its contract: a frame that is not accepted comes with no pairs; of one that is, what its payload holds comes from where
+-- that starts.
 -- Assumes nothing.
 use borrow.Author.Needs.{needs}
 use mathlib.Core.Path.{_≡_, sym, ap, subst, _∙_}
@@ -13,7 +13,7 @@ use Rattle.parser.specs.Promise.{frameSaid, frameTells}
 use Rattle.walker.specs.declared.Place.{Place}
 use Rattle.records.specs.declared.Found.{Found}
 use Rattle.records.specs.Inner.{Prepared}
-use Rattle.records.proofs.Preparing.{nothing-prepared, rooms, lies, fit, messages-filled, list-left}
+use Rattle.records.proofs.Preparing.{nothing-prepared, rooms, lies, found-prepared, from-first}
 use Rattle.records.proofs.fill.prepare_many.Statement.{statement}
 use Rattle.records.proofs.fill.prepare_many.Tie as tie
 
@@ -63,30 +63,16 @@ slice-aggregate-kv-of c = sym (length-take-le _ _ (within (c .before)))
 kv-of-requires : tie.Need-kv-of-requires
 kv-of-requires c κs = search needs
 
-fill-messages-requires : tie.Need-fill-messages-requires
-fill-messages-requires c κs =
-    let k = c .before .before .before .before .before in
-    let a = start k .args in
-    fit (a .input .now) (a .limit) (a .room) (a .messages .now) (head k) (messages k) (pairs k) (used k) (said k) .0
-
-same-length : tie.Need-same-length
-same-length c = search needs
+before-messages-requires : tie.Need-before-messages-requires
+before-messages-requires c κs = search needs
 
 returns-2 : tie.Need-returns-2
 returns-2 c =
-    let w = c .before .before in
-    let i = w .before .before in
-    let k = i .before .before .before .before in
+    let k = c .before .before .before in
     let a = start k .args in
-    messages-filled (a .input .now) (a .limit) (a .room) (a .messages .now) (head k) (messages k) (pairs k) (used k) (said k) (i .if1 .taken) _
-    (ap (λ (x : Place). x .at) (i .before .before .kv-of .ensures)) _ (w .fill-messages .ensures)
-
-returns-3 : tie.Need-returns-3
-returns-3 c =
-    let k = c .before .before .before .before in
-    let a = start k .args in
-    list-left (a .input .now) (a .limit) (a .room) (a .messages .now) (head k) (messages k) (pairs k) (used k) (said k) (c .if1 .left) _
-    (ap (λ (x : Place). x .at) (c .before .before .kv-of .ensures))
+    found-prepared (a .input .now) (a .limit) (a .room) (a .messages .now) (head k) (messages k) (pairs k) (used k) (said k) _ _ _
+    (from-first (a .input .now) (a .limit) (a .room) (a .messages .now) (head k) (messages k) (pairs k) (used k) (said k) _ _
+    (ap (λ (x : Place). x .at) (c .before .kv-of .ensures)) (c .before-messages .ensures))
 
 pub prepare-many-spec : {M : Type 1} → statement M
 prepare-many-spec =
@@ -98,7 +84,5 @@ prepare-many-spec =
     returns
     slice-aggregate-kv-of
     kv-of-requires
-    fill-messages-requires
-    same-length
-    returns-2
-    returns-3)
+    before-messages-requires
+    returns-2)

@@ -1,4 +1,4 @@
--- `records::table::read_frame_records` meets its contract: a walk of its MIR, by hand. `prepare` is called with the message table, and `fill_records` with the records, each at its own lifetime and name, since neither is used again. All that the proof knows of the two is that each meets its contract.
+-- `records::table::read_frame_records` meets its contract: a walk of its MIR, by hand. The table of messages is lent on to `prepare`, for a lifetime that is made for that call (`Again.antt`), and both tables then go to `fill_records`, each at its own lifetime and name, since neither is used again. All that the proof knows of the two is that each meets its contract.
 -- Assumes nothing.
 use mathlib.Core.Path.{_≡_, refl, _∙_, ap, subst}
 use mathlib.Core.List.{List, [], _∷_, _++_}
@@ -19,6 +19,7 @@ use contract.Running.{givenOf, tables, tablesOf}
 use sound.WpLaws.{FmC, fmOf, WpFn-mono}
 use types.Kit.{Given, Item, ‵, raw, _⊛_, some, later, ⋆, _$_, _∵_, !, qed, by, move, keep, use1, use2, use3, drop as let-go, split, join, pick, rewrite, fsplit, fjoin, feqL, suffices, frame, await, done}
 use types.Part.{whole, sub, look-in, agg}
+use types.Tokens.{lft-new, lft-end}
 use types.Run.{look, init, forget, stop, hop, fld, from, load, of-opd, addr, and-then, no-more, assigns, land, returns, enter, alloc1, alloc0, params1, pass1, pass0, free1, free0}
 use denote.Memory.{pointee}
 use denote.RattleType.{owns}
@@ -45,13 +46,18 @@ use Rattle.frame.proofs.Pair.Laws as Q′
 use Rattle.parser.specs.declared.FrameRead.{FrameRead}
 use Rattle.parser.proofs.FrameRead as F
 use Rattle.parser.proofs.FrameRead.Laws as F′
+use Rattle.records.specs.declared.Source.{Source}
+use Rattle.records.specs.declared.Far.{Far}
 use Rattle.records.specs.declared.Found.{Found}
-use Rattle.records.specs.Inner.{ComesFrom, Prepared}
+use Rattle.records.specs.Inner.{Comes, Prepared}
 use Rattle.records.specs.Promise.{ReadFrameRecords}
 use Rattle.records.proofs.Source as S
 use Rattle.records.proofs.Source.Laws as S′
+use Rattle.records.proofs.Far as P
+use Rattle.records.proofs.Far.Laws as P′
 use Rattle.records.proofs.Found as N
 use Rattle.records.proofs.Found.Laws as N′
+use Rattle.records.proofs.Again.{LentAgain, lends-again, comes-back}
 use Rattle.records.proofs.fill.prepare as prep
 use Rattle.records.proofs.fill.prepare.Symbol as prep-def
 use Rattle.records.proofs.fill.prepare.Symbol.{name as #prepare}
@@ -91,15 +97,17 @@ function = record {
   outlives = [];
   params = 4;
   locals = local F′.mir valueLocal ∷ local bytes valueLocal ∷ local (tyInt w32) valueLocal ∷ local words valueLocal ∷ local records valueLocal ∷ local N′.mir valueLocal ∷ local word valueLocal ∷ local (tyRef erased mut word) valueLocal
-      ∷ local (sliceTy (tyRef erased mut word)) valueLocal ∷ local tyUnit valueLocal ∷ local (tyRef erased mut one) valueLocal ∷ local (sliceTy (tyRef erased mut one)) valueLocal ∷ [];
+      ∷ local (sliceTy (tyRef erased mut word)) valueLocal ∷ local tyUnit valueLocal ∷ local (tyRef erased mut word) valueLocal ∷ local (sliceTy (tyRef erased mut word)) valueLocal ∷ local (tyRef erased mut one) valueLocal ∷ local (sliceTy (tyRef erased mut one)) valueLocal ∷ [];
   body = seq (assign (place 6 []) (rvOpd (copy (place 4 (field 1 ∷ [])))))
       (seq (assign (place 7 []) (addrOf (place 3 (field 0 ∷ deref word ∷ []))))
       (seq (assign (place 8 []) (aggregate (copy (place 7 []) ∷ copy (place 3 (field 1 ∷ [])) ∷ [])))
       (seq (call #prepare (copy (place 1 []) ∷ copy (place 2 []) ∷ copy (place 6 []) ∷ copy (place 8 []) ∷ []) (place 5 []))
-      (seq (assign (place 10 []) (addrOf (place 4 (field 0 ∷ deref Q′.mir ∷ []))))
-      (seq (assign (place 11 []) (aggregate (copy (place 10 []) ∷ copy (place 4 (field 1 ∷ [])) ∷ [])))
-      (seq (call #fill (copy (place 1 []) ∷ copy (place 5 (field 2 ∷ [])) ∷ copy (place 5 (field 1 ∷ [])) ∷ copy (place 11 []) ∷ []) (place 9 []))
-      (seq (assign (place 0 []) (rvOpd (copy (place 5 (field 0 ∷ []))))) return)))))));
+      (seq (assign (place 10 []) (addrOf (place 3 (field 0 ∷ deref word ∷ []))))
+      (seq (assign (place 11 []) (aggregate (copy (place 10 []) ∷ copy (place 3 (field 1 ∷ [])) ∷ [])))
+      (seq (assign (place 12 []) (addrOf (place 4 (field 0 ∷ deref Q′.mir ∷ []))))
+      (seq (assign (place 13 []) (aggregate (copy (place 12 []) ∷ copy (place 4 (field 1 ∷ [])) ∷ [])))
+      (seq (call #fill (copy (place 1 []) ∷ copy (place 5 (field 2 ∷ [])) ∷ copy (place 5 (field 3 ∷ [])) ∷ copy (place 5 (field 1 ∷ [])) ∷ copy (place 11 []) ∷ copy (place 13 []) ∷ []) (place 9 []))
+      (seq (assign (place 0 []) (rvOpd (copy (place 5 (field 0 ∷ []))))) return)))))))));
 }
 
 compiled : function ≡ code.function
@@ -116,13 +124,17 @@ module _ {M : Type 1} (𝓤 : URA M) (H : Heap 𝓤) (A : Atoms 𝓤) (mem : Mem
   abbrev Fill : Contract 𝓤
   Fill = tripleOf 𝓤 H A fill.signature (fill.spec 𝓤 H A mem run)
 
-module _ {M : Type 1} (𝓤 : URA M) (H : Heap 𝓤) (A : Atoms 𝓤) (W : Given 𝓤 H A) (mem : Memory → SProp 𝓤) (run : Routine → Fun 𝓤) (κ₀ κ₁ κ₂ : Lft) (q₀ q₁ q₂ : Share) (s : RefT (List ℕ)) (n : ℕ) (m : RefT (List ℕ)) (r : RefT (List Pair)) (n-fits : n < 2 ^ 32) (room : Room Q.the-row (length (now r))) (rooms : Room u64 (length (now m))) where
+module _ {M : Type 1} (𝓤 : URA M) (H : Heap 𝓤) (A : Atoms 𝓤) (W : Given 𝓤 H A) (mem : Memory → SProp 𝓤) (run : Routine → Fun 𝓤) (κ₀ κ₁ κ₂ : Lft) (q₀ q₁ q₂ : Share) (s : RefT (List ℕ)) (n b o : ℕ) (γ : GName) (table : List ℕ) (r : RefT (List Pair)) (n-fits : n < 2 ^ 32) (room : Room Q.the-row (length (now r))) (rooms : Room u64 (length table)) where
+  -- the borrow of the messages, under the name δ at the list l
+  abbrev m : GName → List ℕ → RefT (List ℕ)
+  m δ l = record { ptr = (b, o); name = δ; now = l }
+
   -- the machine values
   abbrev vs : Val
   vs = sliceVal (s .ptr) (length (s .now))
 
   abbrev vm : Val
-  vm = sliceVal (m .ptr) (length (m .now))
+  vm = sliceVal (b, o) (length table)
 
   abbrev vr : Val
   vr = sliceVal (r .ptr) (length (r .now))
@@ -131,7 +143,7 @@ module _ {M : Type 1} (𝓤 : URA M) (H : Heap 𝓤) (A : Atoms 𝓤) (W : Given
   Arg = RefT (List ℕ) × (ℕ × (RefT (List ℕ) × (RefT (List Pair) × Unit {0})))
 
   abbrev a : Arg
-  a = (s, (n, (m, (r, tt))))
+  a = (s, (n, (m γ table, (r, tt))))
 
   abbrev vals : List Val × (List Val × (List Val × (List Val × Unit {0})))
   vals = (vs ∷ [], (vint w32 n ∷ [], (vm ∷ [], (vr ∷ [], tt))))
@@ -145,122 +157,145 @@ module _ {M : Type 1} (𝓤 : URA M) (H : Heap 𝓤) (A : Atoms 𝓤) (W : Given
   abbrev Own₀ : Fml
   Own₀ = ShrSlice (named 0) κ₀ u8 .own s (vs ∷ [])
 
-  abbrev Ownₘ : Fml
-  Ownₘ = MutSlice (named 1) κ₁ u64 .own m (vm ∷ [])
+  abbrev Ownₘ : List ℕ → Fml
+  Ownₘ l = MutSlice (named 1) κ₁ u64 .own (m γ l) (vm ∷ [])
 
   abbrev Ownᵣ : Fml
   Ownᵣ = MutSlice (named 2) κ₂ Q.the-row .own r (vr ∷ [])
 
-  abbrev Tok₁ : Item 𝓤
-  Tok₁ = ‵ (flft κ₀ q₀) ⊛ (‵ (flft κ₁ q₁) ⊛ ‵ ftrue)
+  -- the tokens of the two calls, the first with one of a lifetime ν that is made for it; and what is lent on for ν
+  abbrev Tok₁ : ℕ → Item 𝓤
+  Tok₁ ν = ‵ (flft κ₀ q₀) ⊛ (‵ (flft (ν ∷ []) fullShare) ⊛ ‵ ftrue)
 
   abbrev Tok₂ : Item 𝓤
-  Tok₂ = ‵ (flft κ₀ q₀) ⊛ (‵ (flft κ₂ q₂) ⊛ ‵ ftrue)
+  Tok₂ = ‵ (flft κ₀ q₀) ⊛ (‵ (flft κ₁ q₁) ⊛ (‵ (flft κ₂ q₂) ⊛ ‵ ftrue))
+
+  abbrev Lent : ℕ → GName → Fml
+  Lent ν δ = MutSlice (named 1) (ν ∷ []) u64 .own (m δ table) (vm ∷ [])
 
   -- what the two calls say
   abbrev Prepares : Found → List ℕ → Type 0
-  Prepares f ms = Prepared (now s) n (length (now r)) f (now m) ms
+  Prepares f ms = Prepared (now s) n (length (now r)) f table ms
 
-  abbrev Filled : Found → List Pair → Type 0
-  Filled f ws = (ps : List Pair) → length ps ≡ f .count → ComesFrom (now s) (f .from) ps → ws ≡ ps ++ drop (f .count) (now r)
+  abbrev Filled : Found → List ℕ → List ℕ → List Pair → Type 0
+  Filled f ms new ws = (ps : List Pair) (goal : List ℕ) → length ps ≡ f .count → Comes (now s) (f .source) (f .start) 0 ms goal ps → (new ≡ goal) × (ws ≡ ps ++ drop (f .count) (now r))
 
-  kept : (f : Found) (ms : List ℕ) (ws : List Pair) → Prepares f ms → Filled f ws → ReadFrameRecords (now s) n (f .answer) (now m) ms (now r) ws
-  kept f ms ws e e′ = record { says = e .says; fills = record { messages = e .messages; pairs = e′ (e .ps) (e .many) (e .comes) ∙ e .left (now r) refl } }
+  kept : (f : Found) (ms new : List ℕ) (ws : List Pair) → Prepares f ms → Filled f ms new ws → ReadFrameRecords (now s) n (f .answer) table new (now r) ws
+  kept f ms new ws e e′ = let o = e′ (e .ps) _ (e .many) (e .comes) in record { says = e .says; fills = record { messages = o .0; pairs = o .1 ∙ e .left (now r) refl } }
 
-  exits : (f : Found) (ms : List ℕ) (ws : List Pair) → Prepares f ms → Filled f ws → length ms ≡ length (now m) → length ws ≡ length (now r) → Is F.the-row (f .answer) (F′.lowered (f .answer) ∷ [])
-      → ent 𝓤 (⋆ 𝓤 H A (Tok₂ ∷ ‵ (finally Q.the-row (r .name) ws) ∷ ‵ Own₀ ∷ (‵ (flft κ₁ q₁) ⊛ ‵ ftrue) ∷ ‵ (finally u64 (m .name) ms) ∷ [])) (Post (F′.lowered (f .answer)))
-  exits f ms ws e e′ l l′ is =
-      qed W (Tok₂ ∷ ‵ (finally Q.the-row (r .name) ws) ∷ ‵ Own₀ ∷ (‵ (flft κ₁ q₁) ⊛ ‵ ftrue) ∷ ‵ (finally u64 (m .name) ms) ∷ []) ∵
-      suffices ! _ (ends-at 𝓤 H A reads.ended stayed (reads.clauses 𝓤 H A mem run) W bound (F′.lowered (f .answer)) (f .answer) (tt, (tt, (ms, (ws, tt)))) (tt, (tt, (l, (l′, tt))))) $ says ! (kept f ms ws e e′) $
-      split ! $ move ! (4 ∷ []) $ split ! $ move ! (1 ∷ []) $ let-go ! $ move ! (0 ∷ 2 ∷ []) $ join ! $ move ! (1 ∷ 0 ∷ []) $ join ! $ frame ! $
-      -- [the records' last list; what s owns; the messages' last list]
-      nothing ! $ move ! (1 ∷ 0 ∷ []) $ fjoin ! $ move ! (2 ∷ 0 ∷ []) $ fjoin ! $ owned ! u32 (Is u32) (uint-makes 𝓤 H A W w32) n _ (refl, n-fits) $ fjoin ! $ move ! (1 ∷ 0 ∷ []) $ fjoin ! $
+  exits : (f : Found) (ms new : List ℕ) (ws : List Pair) → Prepares f ms → Filled f ms new ws → length new ≡ length table → length ws ≡ length (now r) → Is F.the-row (f .answer) (F′.lowered (f .answer) ∷ [])
+      → ent 𝓤 (⋆ 𝓤 H A (Tok₂ ∷ ‵ (finally Q.the-row (r .name) ws) ∷ ‵ (finally u64 γ new) ∷ ‵ Own₀ ∷ [])) (Post (F′.lowered (f .answer)))
+  exits f ms new ws e e′ l l′ is =
+      qed W (Tok₂ ∷ ‵ (finally Q.the-row (r .name) ws) ∷ ‵ (finally u64 γ new) ∷ ‵ Own₀ ∷ []) ∵
+      suffices ! _ (ends-at 𝓤 H A reads.ended stayed (reads.clauses 𝓤 H A mem run) W bound (F′.lowered (f .answer)) (f .answer) (tt, (tt, (new, (ws, tt)))) (tt, (tt, (l, (l′, tt))))) $ says ! (kept f ms new ws e e′) $ frame ! $
+      -- [the records' last list; the messages' last list; what s owns]
+      nothing ! $ move ! (1 ∷ 0 ∷ []) $ fjoin ! $ move ! (1 ∷ 0 ∷ []) $ fjoin ! $ owned ! u32 (Is u32) (uint-makes 𝓤 H A W w32) n _ (refl, n-fits) $ fjoin ! $ move ! (1 ∷ 0 ∷ []) $ fjoin ! $
       owned ! F.the-row (Is F.the-row) (EL.makes F.the-type F′.the-plain 𝓤 H A) (f .answer) _ is $ move ! (1 ∷ 0 ∷ []) $ done !
 
   -- ---- the calls
-  abbrev to₁ : Prepare 𝓤 H A mem run .Ghost
-  to₁ = (((κ₀, (κ₁, tt)), (q₀, (q₁, tt)), tt, (s, (n, (length (now r), (m, tt)))), (vs ∷ [], (vint w32 n ∷ [], (vint w64 (length (now r)) ∷ [], (vm ∷ [], tt))))), tt)
+  abbrev Args₁ : GName → RefT (List ℕ) × (ℕ × (ℕ × (RefT (List ℕ) × Unit {0})))
+  Args₁ δ = (s, (n, (length (now r), (m δ table, tt))))
 
-  goes₁ : ent 𝓤 (⋆ 𝓤 H A (Tok₁ ∷ ‵ Ownₘ ∷ ‵ Own₀ ∷ [])) (sep 𝓤 (Prepare 𝓤 H A mem run .pre to₁) (sem 𝓤 H A Own₀))
-  goes₁ =
-      qed W (Tok₁ ∷ ‵ Ownₘ ∷ ‵ Own₀ ∷ []) ∵ move ! (2 ∷ []) $ use1 W (‵ Own₀ ⊛ ‵ Own₀) (shr-slice-copy 𝓤 H A W (named 0) κ₀ u8 .twice s (vs ∷ [])) $ split ! $
-      -- [what s owns, twice; the tokens; what m owns]
+  abbrev to₁ : ℕ → GName → Prepare 𝓤 H A mem run .Ghost
+  to₁ ν δ = (((κ₀, (ν ∷ [], tt)), (q₀, (fullShare, tt)), tt, Args₁ δ, (vs ∷ [], (vint w32 n ∷ [], (vint w64 (length (now r)) ∷ [], (vm ∷ [], tt))))), tt)
+
+  goes₁ : (ν : ℕ) (δ : GName) → ent 𝓤 (⋆ 𝓤 H A (Tok₁ ν ∷ ‵ (Lent ν δ) ∷ ‵ Own₀ ∷ [])) (sep 𝓤 (Prepare 𝓤 H A mem run .pre (to₁ ν δ)) (sem 𝓤 H A Own₀))
+  goes₁ ν δ =
+      qed W (Tok₁ ν ∷ ‵ (Lent ν δ) ∷ ‵ Own₀ ∷ []) ∵ move ! (2 ∷ []) $ use1 W (‵ Own₀ ⊛ ‵ Own₀) (shr-slice-copy 𝓤 H A W (named 0) κ₀ u8 .twice s (vs ∷ [])) $ split ! $
+      -- [what s owns, twice; the tokens; what is lent]
       nothing ! $ move ! (4 ∷ 0 ∷ []) $ fjoin ! $ owned ! usize (Is usize) (uint-makes 𝓤 H A W w64) (length (now r)) _ (refl, room .0) $ fjoin ! $ owned ! u32 (Is u32) (uint-makes 𝓤 H A W w32) n _ (refl, n-fits) $ fjoin ! $ move ! (1 ∷ 0 ∷ []) $ fjoin ! $
       -- [what is owned; what s owns; the tokens]
       move ! (2 ∷ 0 ∷ []) $ join ! $ nothing ! $ move ! (1 ∷ 0 ∷ []) $ join ! $ frame ! $ done !
 
-  abbrev to₂ : Found → Fill 𝓤 H A mem run .Ghost
-  to₂ f = (((κ₀, (κ₂, tt)), (q₀, (q₂, tt)), tt, (s, (f .from, (f .count, (r, tt)))), (vs ∷ [], (S′.lowered (f .from) ∷ [], (vint w64 (f .count) ∷ [], (vr ∷ [], tt))))), tt)
+  abbrev Args₂ : Found → List ℕ → RefT (List ℕ) × (Source × (Far × (ℕ × (RefT (List ℕ) × (RefT (List Pair) × Unit {0})))))
+  Args₂ f ms = (s, (f .source, (f .start, (f .count, (m γ ms, (r, tt))))))
 
-  goes₂ : (f : Found) → f .count ≤ length (now r) → Is S.the-row (f .from) (S′.lowered (f .from) ∷ []) → f .count < 2 ^ 64
-      → ent 𝓤 (⋆ 𝓤 H A (Tok₂ ∷ ‵ Ownᵣ ∷ ‵ Own₀ ∷ [])) (sep 𝓤 (Fill 𝓤 H A mem run .pre (to₂ f)) (sem 𝓤 H A Own₀))
-  goes₂ f within is fits =
-      qed W (Tok₂ ∷ ‵ Ownᵣ ∷ ‵ Own₀ ∷ []) ∵ move ! (2 ∷ []) $ use1 W (‵ Own₀ ⊛ ‵ Own₀) (shr-slice-copy 𝓤 H A W (named 0) κ₀ u8 .twice s (vs ∷ [])) $ split ! $
-      -- [what s owns, twice; the tokens; what r owns]
-      nothing ! $ move ! (4 ∷ 0 ∷ []) $ fjoin ! $ owned ! usize (Is usize) (uint-makes 𝓤 H A W w64) (f .count) _ (refl, fits) $ fjoin ! $ owned ! S.the-row (Is S.the-row) (LL.makes S.the-type S′.the-plain 𝓤 H A) (f .from) _ is $ fjoin ! $ move ! (1 ∷ 0 ∷ []) $ fjoin ! $
+  abbrev vals₂ : Found → List Val × (List Val × (List Val × (List Val × (List Val × (List Val × Unit {0})))))
+  vals₂ f = (vs ∷ [], (S′.lowered (f .source) ∷ [], (P′.lowered (f .start) ∷ [], (vint w64 (f .count) ∷ [], (vm ∷ [], (vr ∷ [], tt))))))
+
+  abbrev to₂ : Found → List ℕ → Fill 𝓤 H A mem run .Ghost
+  to₂ f ms = (((κ₀, (κ₁, (κ₂, tt))), (q₀, (q₁, (q₂, tt))), tt, Args₂ f ms, vals₂ f), tt)
+
+  goes₂ : (f : Found) (ms : List ℕ) → f .count ≤ length (now r) → f .count < 2 ^ 64 → Is S.the-row (f .source) (S′.lowered (f .source) ∷ []) → Is P.the-row (f .start) (P′.lowered (f .start) ∷ [])
+      → ent 𝓤 (⋆ 𝓤 H A (Tok₂ ∷ (‵ (Ownₘ ms) ⊛ ‵ Ownᵣ) ∷ ‵ Own₀ ∷ [])) (sep 𝓤 (Fill 𝓤 H A mem run .pre (to₂ f ms)) (sem 𝓤 H A Own₀))
+  goes₂ f ms within fits is is′ =
+      qed W (Tok₂ ∷ (‵ (Ownₘ ms) ⊛ ‵ Ownᵣ) ∷ ‵ Own₀ ∷ []) ∵ move ! (2 ∷ []) $ use1 W (‵ Own₀ ⊛ ‵ Own₀) (shr-slice-copy 𝓤 H A W (named 0) κ₀ u8 .twice s (vs ∷ [])) $ split ! $ move ! (3 ∷ []) $ split ! $
+      -- [what the messages own; what r owns; what s owns, twice; the tokens]
+      nothing ! $ move ! (2 ∷ 0 ∷ []) $ fjoin ! $ move ! (1 ∷ 0 ∷ []) $ fjoin ! $ owned ! usize (Is usize) (uint-makes 𝓤 H A W w64) (f .count) _ (refl, fits) $ fjoin ! $
+      owned ! P.the-row (Is P.the-row) (LL.makes P.the-type P′.the-plain 𝓤 H A) (f .start) _ is′ $ fjoin ! $ owned ! S.the-row (Is S.the-row) (LL.makes S.the-type S′.the-plain 𝓤 H A) (f .source) _ is $ fjoin ! $ move ! (1 ∷ 0 ∷ []) $ fjoin ! $
       -- [what is owned; what s owns; the tokens]
-      move ! (2 ∷ 0 ∷ []) $ use2 W (raw (Fill 𝓤 H A mem run .pre (to₂ f))) (asked₂ f within) $ frame ! $ done !
+      move ! (2 ∷ 0 ∷ []) $ use2 W (raw (Fill 𝓤 H A mem run .pre (to₂ f ms))) asked₂ $ frame ! $ done !
     where
-      asked₂ : (f : Found) → f .count ≤ length (now r) → ent 𝓤 (onEntry 𝓤 H A fill.signature (κ₀, (κ₂, tt)) (q₀, (q₂, tt)) (s, (f .from, (f .count, (r, tt)))) (vs ∷ [], (S′.lowered (f .from) ∷ [], (vint w64 (f .count) ∷ [], (vr ∷ [], tt))))) (Fill 𝓤 H A mem run .pre (to₂ f))
-      asked₂ f within = qed W (Tok₂ ∷ ‵ (owns (ShrSlice (named 0) κ₀ u8 ∷ S.the-row ∷ usize ∷ MutSlice (named 1) κ₂ Q.the-row ∷ []) (s, (f .from, (f .count, (r, tt)))) (vs ∷ [], (S′.lowered (f .from) ∷ [], (vint w64 (f .count) ∷ [], (vr ∷ [], tt))))) ∷ []) ∵ says ! within $ frame ! $ done !
+      asked₂ : ent 𝓤 (onEntry 𝓤 H A fill.signature (κ₀, (κ₁, (κ₂, tt))) (q₀, (q₁, (q₂, tt))) (Args₂ f ms) (vals₂ f)) (Fill 𝓤 H A mem run .pre (to₂ f ms))
+      asked₂ =
+          qed W (Tok₂ ∷ ‵ (owns (ShrSlice (named 0) κ₀ u8 ∷ S.the-row ∷ P.the-row ∷ usize ∷ MutSlice (named 1) κ₁ u64 ∷ MutSlice (named 2) κ₂ Q.the-row ∷ []) (Args₂ f ms) (vals₂ f)) ∷ []) ∵ says ! within $ frame ! $ done !
 
   abbrev Lasts₁ : Type 0
   Lasts₁ = Unit {0} × (Unit {0} × (Unit {0} × (List ℕ × Unit {0})))
 
   abbrev Lasts₂ : Type 0
-  Lasts₂ = Unit {0} × (Unit {0} × (Unit {0} × (List Pair × Unit {0})))
+  Lasts₂ = Unit {0} × (Unit {0} × (Unit {0} × (Unit {0} × (List ℕ × (List Pair × Unit {0})))))
 
   module _ (C : Calls 𝓤 H) (Λ : Loops 𝓤 H) (fm : FmC 𝓤 H (W .laws) C) (known₁ : Triple 𝓤 (C #prepare) (Prepare 𝓤 H A mem run)) (known₂ : Triple 𝓤 (C #fill) (Fill 𝓤 H A mem run)) where
     walk : Is (ShrSlice (named 0) κ₀ u8) s (vs ∷ []) → ent 𝓤 (onEntry 𝓤 H A reads.signature (κ₀, (κ₁, (κ₂, tt))) (q₀, (q₁, (q₂, tt))) a vals) (WpFn 𝓤 H C Λ function (vs ∷ vint w32 n ∷ vm ∷ vr ∷ []) Post)
     walk s-is =
         qed W ((‵ (flft κ₀ q₀) ⊛ (‵ (flft κ₁ q₁) ⊛ (‵ (flft κ₂ q₂) ⊛ ‵ ftrue))) ∷ ‵ (owns (ShrSlice (named 0) κ₀ u8 ∷ u32 ∷ MutSlice (named 1) κ₁ u64 ∷ MutSlice (named 2) κ₂ Q.the-row ∷ []) a vals) ∷ []) ∵
         enter ! C Λ function (vs ∷ vint w32 n ∷ vm ∷ vr ∷ []) _ $
-        alloc1 ! (λ l₀. alloc1 ! (λ l₁. alloc1 ! (λ l₂. alloc1 ! (λ l₃. alloc1 ! (λ l₄. alloc1 ! (λ l₅. alloc1 ! (λ l₆. alloc1 ! (λ l₇. alloc1 ! (λ l₈. alloc1 ! (λ l₉. alloc1 ! (λ l₁₀. alloc1 ! (λ l₁₁. alloc0 ! $ params1 ! $
-        pass1 ! (init ! 20 refl (shr-slice-lawful 𝓤 H A W (named 0) κ₀ u8 .typed s (vs ∷ []) s-is .0)) $ pass1 ! (init ! 18 refl (tt, record { fits = n-fits })) $
-        pass1 ! (init ! 16 refl (tt, (tt, (record { fits = rooms .0 }, tt)))) $ pass1 ! (init ! 14 refl (tt, (tt, (record { fits = room .0 }, tt)))) $ pass0 ! $
-        -- [_11; …; _0; …; the tokens; what the parameters own]
-        assigns ! (of-opd ! (load ! (from ! (fld ! refl (stop !))) (look-in ! 14 (sub ! 1 refl (whole !))))) (from ! (stop !)) (init ! 10 refl (tt, record { fits = room .0 })) $
-        assigns ! (addr ! (from ! (fld ! refl (hop ! (look-in ! 16 (sub ! 0 refl (whole !))) (stop !))))) (from ! (stop !)) (init ! 8 refl (tt, tt)) $
-        assigns ! (agg ! (and-then ! (load ! (from ! (stop !)) (look ! 8 refl)) (and-then ! (load ! (from ! (fld ! refl (stop !))) (look-in ! 16 (sub ! 1 refl (whole !)))) (no-more !)))) (from ! (stop !)) (init ! 6 refl (tt, (tt, (record { fits = rooms .0 }, tt)))) $
-        move ! (25 ∷ []) $ fsplit ! $ move ! (1 ∷ []) $ fsplit ! $ let-go ! $ fsplit ! $ move ! (1 ∷ []) $ fsplit ! $
-        -- [what r owns; true; what m owns; what s owns; _11; …; the tokens]
-        move ! (28 ∷ []) $ split ! $ move ! (1 ∷ []) $ split ! $
-        -- [the second token; the third, with true; the first; what r owns; true; what m owns; what s owns; _11; …]
-        move ! (0 ∷ 4 ∷ []) $ join ! $ move ! (2 ∷ 0 ∷ []) $ join ! $
-        -- [the first and the second; the third; what r owns; what m owns; what s owns; _11; …]
-        move ! (0 ∷ 3 ∷ 4 ∷ []) $ use3 W (raw (Prepare 𝓤 H A mem run .pre to₁) ⊛ ‵ Own₀) goes₁ $ split ! $
-        -- [what is asked; what s owns; the third token; what r owns; _11; …]
-        calls-at ! fm (Prepare 𝓤 H A mem run) known₁ to₁ (and-then ! (load ! (from ! (stop !)) (look ! 24 refl)) (and-then ! (load ! (from ! (stop !)) (look ! 22 refl)) (and-then ! (load ! (from ! (stop !)) (look ! 14 refl)) (and-then ! (load ! (from ! (stop !)) (look ! 10 refl)) (no-more !))))) (λ w.
-        use1 W (later (some (λ (f : Found). (Tok₁ ⊛ ‵ (N.the-row .own f (w ∷ []))) ⊛ raw (ensured 𝓤 H A prep.ended (prep.clauses 𝓤 H A mem run) (κ₀, (κ₁, tt)) (s, (n, (length (now r), (m, tt)))) tt f)))) (id⊢ 𝓤 _) $ await ! tt $ pick ! (λ f.
-        split ! $ move ! (1 ∷ []) $ use1 W (some (λ (ls : Lasts₁). ‵ (lasts prep.ended (κ₀, (κ₁, tt)) (s, (n, (length (now r), (m, tt)))) ls) ⊛ raw (fact 𝓤 (Prepares f (ls .1 .1 .1 .0))))) (id⊢ 𝓤 _) $ pick ! (λ ls.
+        alloc1 ! (λ l₀. alloc1 ! (λ l₁. alloc1 ! (λ l₂. alloc1 ! (λ l₃. alloc1 ! (λ l₄. alloc1 ! (λ l₅. alloc1 ! (λ l₆. alloc1 ! (λ l₇. alloc1 ! (λ l₈. alloc1 ! (λ l₉. alloc1 ! (λ l₁₀. alloc1 ! (λ l₁₁. alloc1 ! (λ l₁₂. alloc1 ! (λ l₁₃. alloc0 ! $ params1 ! $
+        pass1 ! (init ! 24 refl (shr-slice-lawful 𝓤 H A W (named 0) κ₀ u8 .typed s (vs ∷ []) s-is .0)) $ pass1 ! (init ! 22 refl (tt, record { fits = n-fits })) $
+        pass1 ! (init ! 20 refl (tt, (tt, (record { fits = rooms .0 }, tt)))) $ pass1 ! (init ! 18 refl (tt, (tt, (record { fits = room .0 }, tt)))) $ pass0 ! $
+        -- [_13; …; _0; …; the tokens; what the parameters own]
+        assigns ! (of-opd ! (load ! (from ! (fld ! refl (stop !))) (look-in ! 18 (sub ! 1 refl (whole !))))) (from ! (stop !)) (init ! 14 refl (tt, record { fits = room .0 })) $
+        assigns ! (addr ! (from ! (fld ! refl (hop ! (look-in ! 20 (sub ! 0 refl (whole !))) (stop !))))) (from ! (stop !)) (init ! 12 refl (tt, tt)) $
+        assigns ! (agg ! (and-then ! (load ! (from ! (stop !)) (look ! 12 refl)) (and-then ! (load ! (from ! (fld ! refl (stop !))) (look-in ! 20 (sub ! 1 refl (whole !)))) (no-more !)))) (from ! (stop !)) (init ! 10 refl (tt, (tt, (record { fits = rooms .0 }, tt)))) $
+        move ! (29 ∷ []) $ fsplit ! $ move ! (1 ∷ []) $ fsplit ! $ let-go ! $ fsplit ! $ move ! (1 ∷ []) $ fsplit ! $
+        -- [what r owns; true; what the messages own; what s owns; _13; …; the tokens]
+        move ! (32 ∷ []) $ split ! $ move ! (1 ∷ []) $ split ! $
+        -- [the second token; the third, with true; the first; what r owns; true; what the messages own; what s owns; _13; …]
+        -- the messages are lent on, for a lifetime ν of the call
+        lft-new ! tt (λ ν. move ! (6 ∷ 1 ∷ []) $
+        use2 W (later (some (λ (δ : GName). ‵ (Lent ν δ) ⊛ ‵ (LentAgain u64 κ₁ (ν ∷ []) q₁ γ b o δ table)))) (lends-again u64 κ₁ (ν ∷ []) q₁ γ b o 𝓤 H A W (named 1) (named 1) (length table) table refl) $ await ! tt $ pick ! (λ δ. split ! $
+        -- [what is lent; what is kept; the token of ν; the third, with true; the first; what r owns; true; what s owns; _13; …]
+        move ! (2 ∷ 6 ∷ []) $ join ! $ move ! (4 ∷ 0 ∷ []) $ join ! $ move ! (0 ∷ 1 ∷ 5 ∷ []) $ use3 W (raw (Prepare 𝓤 H A mem run .pre (to₁ ν δ)) ⊛ ‵ Own₀) (goes₁ ν δ) $ split ! $
+        -- [what is asked; what s owns; what is kept; the third token; what r owns; _13; …]
+        calls-at ! fm (Prepare 𝓤 H A mem run) known₁ (to₁ ν δ) (and-then ! (load ! (from ! (stop !)) (look ! 29 refl)) (and-then ! (load ! (from ! (stop !)) (look ! 27 refl)) (and-then ! (load ! (from ! (stop !)) (look ! 19 refl)) (and-then ! (load ! (from ! (stop !)) (look ! 15 refl)) (no-more !))))) (λ w.
+        use1 W (later (some (λ (f : Found). (Tok₁ ν ⊛ ‵ (N.the-row .own f (w ∷ []))) ⊛ raw (ensured 𝓤 H A prep.ended (prep.clauses 𝓤 H A mem run) (κ₀, (ν ∷ [], tt)) (Args₁ δ) tt f)))) (id⊢ 𝓤 _) $ await ! tt $ pick ! (λ f.
+        split ! $ move ! (1 ∷ []) $ use1 W (some (λ (ls : Lasts₁). ‵ (lasts prep.ended (κ₀, (ν ∷ [], tt)) (Args₁ δ) ls) ⊛ raw (fact 𝓤 (Prepares f (ls .1 .1 .1 .0))))) (id⊢ 𝓤 _) $ pick ! (λ ls.
         split ! $ move ! (1 ∷ []) $ heard ! (Prepares f (ls .1 .1 .1 .0)) (λ e. fsplit ! $ let-go ! $ fsplit ! $ let-go ! $ fsplit ! $ let-go ! $ fsplit ! $ fsplit ! $ move ! (1 ∷ []) $ feqL ! (λ l.
-        -- [the messages' last list; true; the tokens and the result; what s owns; the third token; what r owns; _11; …]
+        -- [the messages' last list; true; the tokens and the result; what s owns; what is kept; the third token; what r owns; _13; …]
         move ! (2 ∷ []) $ split ! $ move ! (1 ∷ []) $ peeks ! N.the-row (Is N.the-row) (shows 𝓤 H A N.the-row) f (w ∷ []) (λ is.
-        land ! (from ! (stop !)) (init ! 19 refl (LL.lawful N.the-type N′.the-laws 𝓤 H A W .typed f _ is .0)) $
-        rewrite ! 19 (λ (v : Val). ‵ (fat fullShare N′.mir l₅ 0 v)) (ap only (N′.lowers .val-is f _ is)) refl $ let-go ! $
-        -- [the first and the second; the messages' last list; true; what s owns; the third; what r owns; _11; …]
-        assigns ! (addr ! (from ! (fld ! refl (hop ! (look-in ! 20 (sub ! 0 refl (whole !))) (stop !))))) (from ! (stop !)) (init ! 8 refl (tt, tt)) $
-        assigns ! (agg ! (and-then ! (load ! (from ! (stop !)) (look ! 8 refl)) (and-then ! (load ! (from ! (fld ! refl (stop !))) (look-in ! 20 (sub ! 1 refl (whole !)))) (no-more !)))) (from ! (stop !)) (init ! 6 refl (tt, (tt, (record { fits = room .0 }, tt)))) $
-        split ! $ move ! (0 ∷ 5 ∷ []) $ join ! $
-        -- [the first and the third; the second; the messages' last list; true; what s owns; what r owns; _11; …]
-        move ! (0 ∷ 5 ∷ 4 ∷ []) $ use3 W (raw (Fill 𝓤 H A mem run .pre (to₂ f)) ⊛ ‵ Own₀) (goes₂ f (e .within) (parts f w is .2) (parts f w is .1)) $ split ! $
-        -- [what is asked; what s owns; the second; the messages' last list; true; _11; …]
-        calls-at ! fm (Fill 𝓤 H A mem run) known₂ (to₂ f) (and-then ! (load ! (from ! (stop !)) (look ! 25 refl)) (and-then ! (load ! (from ! (fld ! refl (stop !))) (look-in ! 17 (sub ! 2 refl (whole !)))) (and-then ! (load ! (from ! (fld ! refl (stop !))) (look-in ! 17 (sub ! 1 refl (whole !)))) (and-then ! (load ! (from ! (stop !)) (look ! 5 refl)) (no-more !))))) (λ w′.
-        use1 W (later (some (λ (u : Unit {0}). (Tok₂ ⊛ ‵ (unit .own u (w′ ∷ []))) ⊛ raw (ensured 𝓤 H A fill.ended (fill.clauses 𝓤 H A mem run) (κ₀, (κ₂, tt)) (s, (f .from, (f .count, (r, tt)))) tt u)))) (id⊢ 𝓤 _) $ await ! tt $ pick ! (λ u.
-        split ! $ move ! (1 ∷ []) $ use1 W (some (λ (ks : Lasts₂). ‵ (lasts fill.ended (κ₀, (κ₂, tt)) (s, (f .from, (f .count, (r, tt)))) ks) ⊛ raw (fact 𝓤 (Filled f (ks .1 .1 .1 .0))))) (id⊢ 𝓤 _) $ pick ! (λ ks.
-        split ! $ move ! (1 ∷ []) $ heard ! (Filled f (ks .1 .1 .1 .0)) (λ e′. fsplit ! $ let-go ! $ fsplit ! $ let-go ! $ fsplit ! $ let-go ! $ fsplit ! $ fsplit ! $ move ! (1 ∷ []) $ feqL ! (λ l′.
-        -- [the records' last list; true; the tokens and the result; what s owns; the second; the messages' last list; true; _11; …]
-        move ! (2 ∷ []) $ split ! $ move ! (1 ∷ []) $ peeks ! unit (Is unit) (shows 𝓤 H A unit) u (w′ ∷ []) (λ is′.
-        land ! (from ! (stop !)) (init ! 12 refl (nothing-lawful 𝓤 H A W .typed u _ is′ .0)) $ let-go ! $
-        -- [the tokens; the records' last list; true; what s owns; the second; the messages' last list; true; _11; …]
-        assigns ! (of-opd ! (load ! (from ! (fld ! refl (stop !))) (look-in ! 19 (sub ! 0 refl (whole !))))) (from ! (stop !)) (init ! 29 refl (EL.lawful F.the-type F′.the-laws 𝓤 H A W tt .typed (f .answer) _ (parts f w is .0) .0)) $
-        returns ! (look ! 29 refl) $ forget ! 7 refl $ forget ! 9 refl $ forget ! 11 refl $ forget ! 13 refl $ forget ! 15 refl $ forget ! 17 refl $ forget ! 19 refl $ forget ! 21 refl $ forget ! 23 refl $ forget ! 25 refl $ forget ! 27 refl $ forget ! 29 refl $
-        move ! (29 ∷ 30 ∷ []) $ free1 ! $ move ! (27 ∷ 28 ∷ []) $ free1 ! $ move ! (25 ∷ 26 ∷ []) $ free1 ! $ move ! (23 ∷ 24 ∷ []) $ free1 ! $ move ! (21 ∷ 22 ∷ []) $ free1 ! $ move ! (19 ∷ 20 ∷ []) $ free1 ! $
-        move ! (17 ∷ 18 ∷ []) $ free1 ! $ move ! (15 ∷ 16 ∷ []) $ free1 ! $ move ! (13 ∷ 14 ∷ []) $ free1 ! $ move ! (11 ∷ 12 ∷ []) $ free1 ! $ move ! (9 ∷ 10 ∷ []) $ free1 ! $ move ! (7 ∷ 8 ∷ []) $ free1 ! $ free0 ! $
-        keep ! (0 ∷ 1 ∷ 3 ∷ 4 ∷ 5 ∷ []) $ by ! (exits f (ls .1 .1 .1 .0) (ks .1 .1 .1 .0) e e′ l l′ (parts f w is .0))))))))))))))))))))))))))
+        land ! (from ! (stop !)) (init ! 24 refl (LL.lawful N.the-type N′.the-laws 𝓤 H A W .typed f _ is .0)) $
+        rewrite ! 24 (λ (v : Val). ‵ (fat fullShare N′.mir l₅ 0 v)) (ap only (N′.lowers .val-is f _ is)) refl $ let-go ! $
+        -- ν is ended, and the messages come back at that list
+        split ! $ move ! (1 ∷ []) $ split ! $ lft-end ! tt $ move ! (0 ∷ 6 ∷ 3 ∷ []) $
+        use3 W (later (‵ (Ownₘ (ls .1 .1 .1 .0)) ⊛ ‵ (flft κ₁ q₁))) (comes-back u64 κ₁ (ν ∷ []) q₁ γ b o 𝓤 H A W (named 1) (named 1) (length table) table refl δ (ls .1 .1 .1 .0) rooms l) $ await ! tt $ split ! $
+        -- [what the messages own; the second token; true; the first; true; what s owns; the third, with true; what r owns; _13; …]
+        assigns ! (addr ! (from ! (fld ! refl (hop ! (look-in ! 28 (sub ! 0 refl (whole !))) (stop !))))) (from ! (stop !)) (init ! 14 refl (tt, tt)) $
+        assigns ! (agg ! (and-then ! (load ! (from ! (stop !)) (look ! 14 refl)) (and-then ! (load ! (from ! (fld ! refl (stop !))) (look-in ! 28 (sub ! 1 refl (whole !)))) (no-more !)))) (from ! (stop !)) (init ! 12 refl (tt, (tt, (record { fits = rooms .0 }, tt)))) $
+        assigns ! (addr ! (from ! (fld ! refl (hop ! (look-in ! 26 (sub ! 0 refl (whole !))) (stop !))))) (from ! (stop !)) (init ! 10 refl (tt, tt)) $
+        assigns ! (agg ! (and-then ! (load ! (from ! (stop !)) (look ! 10 refl)) (and-then ! (load ! (from ! (fld ! refl (stop !))) (look-in ! 26 (sub ! 1 refl (whole !)))) (no-more !)))) (from ! (stop !)) (init ! 8 refl (tt, (tt, (record { fits = room .0 }, tt)))) $
+        move ! (1 ∷ 6 ∷ []) $ join ! $ move ! (3 ∷ 0 ∷ []) $ join ! $ move ! (1 ∷ 5 ∷ []) $ join ! $
+        -- [what the messages and r own; the tokens; true; true; what s owns; _13; …]
+        move ! (1 ∷ 0 ∷ 4 ∷ []) $ use3 W (raw (Fill 𝓤 H A mem run .pre (to₂ f (ls .1 .1 .1 .0))) ⊛ ‵ Own₀) (goes₂ f (ls .1 .1 .1 .0) (e .within) (parts f w is .1) (parts f w is .2) (parts f w is .3)) $ split ! $
+        -- [what is asked; what s owns; true; true; _13; …]
+        calls-at ! fm (Fill 𝓤 H A mem run) known₂ (to₂ f (ls .1 .1 .1 .0)) (and-then ! (load ! (from ! (stop !)) (look ! 28 refl)) (and-then ! (load ! (from ! (fld ! refl (stop !))) (look-in ! 20 (sub ! 2 refl (whole !)))) (and-then ! (load ! (from ! (fld ! refl (stop !))) (look-in ! 20 (sub ! 3 refl (whole !)))) (and-then ! (load ! (from ! (fld ! refl (stop !))) (look-in ! 20 (sub ! 1 refl (whole !)))) (and-then ! (load ! (from ! (stop !)) (look ! 8 refl)) (and-then ! (load ! (from ! (stop !)) (look ! 4 refl)) (no-more !))))))) (λ w′.
+        use1 W (later (some (λ (u : Unit {0}). (Tok₂ ⊛ ‵ (unit .own u (w′ ∷ []))) ⊛ raw (ensured 𝓤 H A fill.ended (fill.clauses 𝓤 H A mem run) (κ₀, (κ₁, (κ₂, tt))) (Args₂ f (ls .1 .1 .1 .0)) tt u)))) (id⊢ 𝓤 _) $ await ! tt $ pick ! (λ u.
+        split ! $ move ! (1 ∷ []) $ use1 W (some (λ (ks : Lasts₂). ‵ (lasts fill.ended (κ₀, (κ₁, (κ₂, tt))) (Args₂ f (ls .1 .1 .1 .0)) ks) ⊛ raw (fact 𝓤 (Filled f (ls .1 .1 .1 .0) (ks .1 .1 .1 .1 .0) (ks .1 .1 .1 .1 .1 .0))))) (id⊢ 𝓤 _) $ pick ! (λ ks.
+        split ! $ move ! (1 ∷ []) $ heard ! (Filled f (ls .1 .1 .1 .0) (ks .1 .1 .1 .1 .0) (ks .1 .1 .1 .1 .1 .0)) (λ e′. fsplit ! $ let-go ! $ fsplit ! $ let-go ! $ fsplit ! $ let-go ! $ fsplit ! $ let-go ! $
+        fsplit ! $ fsplit ! $ move ! (1 ∷ []) $ feqL ! (λ l′. move ! (1 ∷ []) $ fsplit ! $ fsplit ! $ move ! (1 ∷ []) $ feqL ! (λ l″.
+        -- [the records' last list; true; the messages' last list; the tokens and the result; what s owns; true; true; _13; …]
+        move ! (3 ∷ []) $ split ! $ move ! (1 ∷ []) $ peeks ! unit (Is unit) (shows 𝓤 H A unit) u (w′ ∷ []) (λ is′.
+        land ! (from ! (stop !)) (init ! 16 refl (nothing-lawful 𝓤 H A W .typed u _ is′ .0)) $ let-go ! $
+        -- [the tokens; the records' last list; true; the messages' last list; what s owns; true; true; _13; …]
+        assigns ! (of-opd ! (load ! (from ! (fld ! refl (stop !))) (look-in ! 23 (sub ! 0 refl (whole !))))) (from ! (stop !)) (init ! 33 refl (EL.lawful F.the-type F′.the-laws 𝓤 H A W tt .typed (f .answer) _ (parts f w is .0) .0)) $
+        returns ! (look ! 33 refl) $ forget ! 7 refl $ forget ! 9 refl $ forget ! 11 refl $ forget ! 13 refl $ forget ! 15 refl $ forget ! 17 refl $ forget ! 19 refl $ forget ! 21 refl $ forget ! 23 refl $ forget ! 25 refl $ forget ! 27 refl $ forget ! 29 refl $ forget ! 31 refl $ forget ! 33 refl $
+        move ! (33 ∷ 34 ∷ []) $ free1 ! $ move ! (31 ∷ 32 ∷ []) $ free1 ! $ move ! (29 ∷ 30 ∷ []) $ free1 ! $ move ! (27 ∷ 28 ∷ []) $ free1 ! $ move ! (25 ∷ 26 ∷ []) $ free1 ! $
+        move ! (23 ∷ 24 ∷ []) $ free1 ! $ move ! (21 ∷ 22 ∷ []) $ free1 ! $ move ! (19 ∷ 20 ∷ []) $ free1 ! $ move ! (17 ∷ 18 ∷ []) $ free1 ! $ move ! (15 ∷ 16 ∷ []) $ free1 ! $
+        move ! (13 ∷ 14 ∷ []) $ free1 ! $ move ! (11 ∷ 12 ∷ []) $ free1 ! $ move ! (9 ∷ 10 ∷ []) $ free1 ! $ move ! (7 ∷ 8 ∷ []) $ free1 ! $ free0 ! $
+        keep ! (0 ∷ 1 ∷ 3 ∷ 4 ∷ []) $ by ! (exits f (ls .1 .1 .1 .0) (ks .1 .1 .1 .1 .0) (ks .1 .1 .1 .1 .1 .0) e e′ (l′ ∙ l) l″ (parts f w is .0)))))))))))))))))))))))))))))))
       where
-        parts : (f : Found) (w : Val) → Is N.the-row f (w ∷ []) → Is F.the-row (f .answer) (F′.lowered (f .answer) ∷ []) × (f .count < 2 ^ 64) × Is S.the-row (f .from) (S′.lowered (f .from) ∷ [])
-        parts f w is = let o = LL.owed N.the-type N′.the-laws f _ is in (subst (Is F.the-row (f .answer)) (F′.the-field-laws .low-is (f .answer) _ (o .0)) (o .0), o .1 .0 .1, o .1 .1 .0)
+        parts : (f : Found) (w : Val) → Is N.the-row f (w ∷ []) → Is F.the-row (f .answer) (F′.lowered (f .answer) ∷ []) × (f .count < 2 ^ 64) × Is S.the-row (f .source) (S′.lowered (f .source) ∷ []) × Is P.the-row (f .start) (P′.lowered (f .start) ∷ [])
+        parts f w is = let o = LL.owed N.the-type N′.the-laws f _ is in (subst (Is F.the-row (f .answer)) (F′.the-field-laws .low-is (f .answer) _ (o .0)) (o .0), o .1 .0 .1, o .1 .1 .0, o .1 .1 .1 .0)
 
 module _ {M : Type 1} (𝓤 : URA M) (H : Heap 𝓤) (A : Atoms 𝓤) (W : Given 𝓤 H A) (mem : Memory → SProp 𝓤) (run : Routine → Fun 𝓤) (𝓣 : Tables 𝓤 H) (known₁ : Triple 𝓤 (𝓣 .C #prepare) (Prepare 𝓤 H A mem run)) (known₂ : Triple 𝓤 (𝓣 .C #fill) (Fill 𝓤 H A mem run)) where
   read-walks : Walks 𝓤 H A reads.ended stayed (WpFn 𝓤 H (𝓣 .C) (𝓣 .Λ) function) (reads.clauses 𝓤 H A mem run)
@@ -268,7 +303,7 @@ module _ {M : Type 1} (𝓤 : URA M) (H : Heap 𝓤) (A : Atoms 𝓤) (W : Given
       (λ κs. (slice-vals, (uint-vals w32, (slice-vals, (slice-vals, tt)))))
       (λ κs. (shr-slice-tells (named 0) (κs .0) u8, (uint-tells w32, (mut-slice-tells (named 1) (κs .1 .0) u64, (mut-slice-tells (named 2) (κs .1 .1 .0) Q.the-row, tt)))))
       (λ κs qs bounds a g are. via 𝓤 _ (fst∗ 𝓤 _ (emp 𝓤))
-      (walk 𝓤 H A W mem run (κs .0) (κs .1 .0) (κs .1 .1 .0) (qs .0) (qs .1 .0) (qs .1 .1 .0) (a .0) (a .1 .0) (a .1 .1 .0) (a .1 .1 .1 .0) (are .1 .0 .1) (are .1 .1 .1 .0 .0 .1) (are .1 .1 .0 .0 .1)
+      (walk 𝓤 H A W mem run (κs .0) (κs .1 .0) (κs .1 .1 .0) (qs .0) (qs .1 .0) (qs .1 .1 .0) (a .0) (a .1 .0) (a .1 .1 .0 .ptr .0) (a .1 .1 .0 .ptr .1) (a .1 .1 .0 .name) (a .1 .1 .0 .now) (a .1 .1 .1 .0) (are .1 .0 .1) (are .1 .1 .1 .0 .0 .1) (are .1 .1 .0 .0 .1)
       (𝓣 .C) (𝓣 .Λ) (fmOf 𝓤 H (W .laws) 𝓣) known₁ known₂ (are .0)))
 
   read-meets : Meets 𝓤 H A reads.signature (WpFn 𝓤 H (𝓣 .C) (𝓣 .Λ) code.function) (reads.spec 𝓤 H A mem run)
