@@ -449,6 +449,7 @@ static bool start(uint16_t port)
     in_room = (size_t)own_size + 4;
     out_room = FRAMES * in_room;
     pool = (uint8_t *)malloc(in_room);
+    memset(times, 0, sizeof times);     /* so that its pages are there, and memory does not grow later */
     spop_builder_init(&builder, spop_room_of(pool, in_room));
     spop_lend_pairs(&builder, pairs, MOST);
     spop_lend_actions(&builder, actions, MOST);
