@@ -359,6 +359,7 @@ static struct connection *unused(void)
     while (c != NULL && c->state != CLOSED)
         c = c->next;
     if (c == NULL && (c = (struct connection *)malloc(sizeof *c + in_room + out_room)) != NULL) {
+        memset(c, 0, sizeof *c + in_room + out_room);   /* its pages are there from now on too */
         c->in = (uint8_t *)(c + 1);
         c->out = c->in + in_room;
         c->state = CLOSED;
