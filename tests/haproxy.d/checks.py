@@ -8,9 +8,10 @@ import sys
 import time
 from pathlib import Path
 
+import listing
 import load
 import wire
-from running import Agent, Failed, HAProxy, Raw, Relay, end_all, until
+from running import TOP, Agent, Failed, HAProxy, Raw, Relay, end_all, until
 
 COUNTS = {"pass": 0, "fail": 0}
 SLOTS = range(28)
@@ -136,17 +137,20 @@ def is_text(raw):
         return False
 
 
+def raw_headers(headers):
+    return {key: value if isinstance(value, bytes) else value.encode() for key, value in headers.items()}
+
+
 def each_kind(scratch):
     agent = Agent(scratch)
     relay = Relay(agent.port)
     haproxy = HAProxy(scratch, relay.port)
     web, sent = Web(haproxy.port), []
     for headers, body, values, shown in KINDS:
-        raw = {key: value if isinstance(value, bytes) else value.encode() for key, value in headers.items()}
         values = values + [(wire.STRING, b"POST")]
         shown = {**shown, "x-method": "POST", **{f"x-{key.decode()}": value.hex().upper()
                                                   for key, (_, value) in zip(KEYS, values) if key in (b"string", b"binary") and value is not None}}
-        same(f"what comes back of {headers}", web.ask("/kinds", raw, body), (200, shown))
+        same(f"what comes back of {headers}", web.ask("/kinds", raw_headers(headers), body), (200, shown))
         sent.append([(key, *value) for key, value in zip(KEYS, values)])
     there = [pairs for frame in map(wire.read, relay.from_haproxy) for _, pairs in frame.messages]
     same("what HAProxy sends", there, sent)
@@ -173,6 +177,21 @@ def each_kind_by_hand(scratch):
     same("the ACK", raw.one(), wire.frame(wire.ACK, b"".join(wire.set_var(*value) for value in values), 300, 7))
     agent.end()
     return "all ten kinds sent to the agent by hand come back as they are"
+
+
+# ---- the frames that are kept
+
+def kept_frames(_):
+    """Frames that a HAProxy sent: each type that it has, each kind of value, and the lines of the listing."""
+    folder = TOP / "examples/haproxy"
+    raw = (folder / "frames.bin").read_bytes()
+    same("frames.txt", (folder / "frames.txt").read_text(), listing.text(raw))
+    frames = [wire.read(frame) for frame in wire.split(raw)[0]]
+    same("their types", sorted({frame.kind for frame in frames}), [wire.HELLO, wire.GOODBYE, wire.NOTIFY])
+    names = [(name, [key for key, _, _ in pairs]) for frame in frames for name, pairs in frame.messages]
+    same("their messages", sorted({name for name, _ in names}), [b"kinds", b"upload"])
+    same("the arguments of kinds", [keys for name, keys in names if name == b"kinds"], [KEYS] * len(KINDS))
+    return f"{len(frames)} frames of {len(raw)} bytes have the lines of frames.txt"
 
 
 # ---- frames in pieces
@@ -228,24 +247,26 @@ def most_connections(haproxy):
 def many_frames(scratch, count):
     agent = Agent(scratch)
     haproxy = HAProxy(scratch, agent.port)
-    warm = 2000
-    same("right answers at first", load.run(haproxy.port, warm, 8).right, warm)
-    time.sleep(2.5)                 # a health check has come meanwhile, which is a connection beside those of HAProxy
-    before, connections = agent.memory(), most_connections(haproxy)
-    result = load.run(haproxy.port, count, 8, keep_times=False)
+    warm, seen = 100_000, []        # a health check comes meanwhile, which is a connection beside the others
+
+    def look():
+        seen.append((agent.memory(), most_connections(haproxy)))
+
+    result = load.run(haproxy.port, warm + count, 8, keep_times=False, once=(warm, look))
     same("wrong answers", result.wrong[:3], [])
-    same("right answers", result.right, count)
-    after, added = agent.memory(), most_connections(haproxy) - connections
-    if added == 0:
-        same("the agent's memory in kB", after, before)
-    elif any(after[key] > before[key] + 2 * added * PER_CONNECTION for key in after):
-        raise Failed(f"the agent's memory in kB is {after} with {added} connections more, and was {before}")
+    same("right answers", result.right, warm + count)
+    seen.append((agent.memory(), most_connections(haproxy)))
     no_errors(haproxy, warm + count, warm + count)
-    same("HTTP connections", haproxy.counters()["uploads", "FRONTEND"]["conn_tot"], "16")
+    same("HTTP connections", haproxy.counters()["uploads", "FRONTEND"]["conn_tot"], "8")
     haproxy.end()
     same("the agent's frames", agent.stats()[0], warm + count)
-    return (f"{count} frames on kept-alive connections in {result.seconds:.1f} s, none lost; the agent's memory is {before['RssAnon']} kB "
-            f"before and {after['RssAnon']} kB after, with {connections + added} connections")
+    (before, connections), (after, later) = seen
+    if later == connections:
+        same("the agent's memory in kB", after, before)
+    elif any(after[key] > before[key] + 2 * (later - connections) * PER_CONNECTION for key in after):
+        raise Failed(f"the agent's memory in kB is {after} with {later} connections, and was {before} with {connections}")
+    return (f"{warm + count} frames on kept-alive connections in {result.seconds:.1f} s, none lost; the agent's memory is "
+            f"{before['RssAnon']} kB after {warm} and {after['RssAnon']} kB at the end, its connections {connections} and {later}")
 
 
 # ---- 5. sizes, and ends
@@ -455,7 +476,7 @@ def main(folder, long):
     signal.signal(signal.SIGTERM, lambda *_: sys.exit(143))
     points = [
         ("1. slots and delays", each_pair_of_slots), ("2. kinds of values", each_kind), ("2. kinds by hand", each_kind_by_hand),
-        ("2. frames in pieces", any_cut), ("3. the start of a run", start_of_a_run),
+        ("2. frames that are kept", kept_frames), ("2. frames in pieces", any_cut), ("3. the start of a run", start_of_a_run),
         ("4. many frames", lambda s: many_frames(s, 1_000_000 if long else 50_000)),
         ("5. the agreed size", lambda s: size_through_haproxy(s, SIZE)), ("5. a smaller size", lambda s: size_through_haproxy(s, 4096)),
         ("5. sizes by hand", sizes_by_hand), ("5. HAProxy ends", haproxy_ends), ("5. the agent ends", agent_ends), ("6. garbage", garbage),

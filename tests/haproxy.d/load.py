@@ -45,9 +45,9 @@ class Result:
         return 1000 * ordered[min(len(ordered) - 1, len(ordered) * percent // 100)]
 
 
-def run(port, count, connections, rate=None, keep_times=True):
+def run(port, count, connections, rate=None, keep_times=True, once=(0, None)):
     """Sends so many uploads. With a rate each is due at its time, and its time is counted from there, whether or not a connection was
-    free; without one each connection sends the next as soon as it has an answer."""
+    free; without one each connection sends the next as soon as it has an answer. Once so many are answered, something is done."""
     result, turn = Result(), 0
     free = [Connection(port) for _ in range(connections)]
     by_socket = {each.socket: each for each in free}
@@ -74,6 +74,8 @@ def run(port, count, connections, rate=None, keep_times=True):
                 if keep_times:
                     result.times.append(now - each.due)
                 free.append(each)
+                if result.right == once[0]:
+                    once[1]()
             elif not got or not each.expected.startswith(each.got):
                 result.wrong.append(f"{each.got!r} for {each.expected!r}")
                 each.socket.close()
