@@ -40,8 +40,8 @@ enum status {
     BAD_SIZE = 9, FRAGMENTED = 10, NO_RESOURCE = 13
 };
 
-/* Once its DISCONNECT is written, a connection is ENDING until that is sent, and CLOSING until the other side has closed too: closed
- * at once, with bytes that nobody read, it would take the DISCONNECT back. A CLOSED one is there for the next that is accepted. */
+/* Once its DISCONNECT is written, a connection is ENDING until that is sent, and CLOSING until the other side has closed too:
+ * closed at once, with bytes that nobody read, it would take the DISCONNECT back. A CLOSED one is there to be used again. */
 enum state { GREETING, SERVING, ENDING, CLOSING, CLOSED };
 
 struct connection {
@@ -240,6 +240,7 @@ static void answer_frame(struct connection *c)
         end_with(c, INVALID, c->state == GREETING ? "a NOTIFY before the HELLO" : "a second HELLO");
 }
 
+/* Nanoseconds. */
 static uint64_t now(void)
 {
     struct timespec t = {0, 0};
@@ -400,31 +401,28 @@ static void say_goodbye(void)
 {
     close(listener);
     for (struct connection *c = connections; c != NULL; c = c->next) {
-        if (c->state == CLOSED)
-            continue;
         if (c->state <= SERVING && room_of(c).len >= in_room)
             disconnect(c, NORMAL, "the agent ends");
-        go_on(c);
+        if (c->state != CLOSED)
+            go_on(c);
     }
 }
 
-/* Takes what comes, until a signal does. Then each connection has a second to close. */
+/* Takes what comes, until a signal does. Then the connections have a second or two to close. */
 static void serve(void)
 {
     struct epoll_event events[64];
-    bool stopped = false;
+    time_t end = 0;
 
-    while (!stopped || open_count > 0) {
-        int count = epoll_wait(poller, events, SPOP_COUNT(events), stopped ? 1000 : -1);
-        bool signalled = false;
+    while (end == 0 || (open_count > 0 && time(NULL) < end)) {
+        int count = epoll_wait(poller, events, SPOP_COUNT(events), end == 0 ? -1 : 100);
+        bool stopped = false;
 
-        if (stopped && count == 0)
-            return;
         for (int i = 0; i < count; i++) {
             struct connection *c = (struct connection *)events[i].data.ptr;
 
             if (events[i].data.ptr == &stop) {
-                signalled = true;
+                stopped = true;
             } else if (events[i].data.ptr == &listener) {
                 accept_one();
             } else {
@@ -433,10 +431,11 @@ static void serve(void)
                 go_on(c);
             }
         }
-        if (signalled && !stopped)
+        if (stopped) {
+            wait_for(EPOLL_CTL_DEL, stop, 0, NULL);
             say_goodbye();
-        if (signalled && !stopped && wait_for(EPOLL_CTL_DEL, stop, 0, NULL))
-            stopped = true;
+            end = time(NULL) + 2;
+        }
     }
 }
 

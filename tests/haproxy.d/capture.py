@@ -1,7 +1,7 @@
 """Keeps what a HAProxy sends: capture.py AGENT, with a built examples/agent.c.
 
-Writes examples/haproxy/frames.bin, its frames as they came, and frames.txt, the lines that spoplist has to write for them. They are of
-a health check, an engine's HELLO, uploads, each kind of value, and the DISCONNECT with which HAProxy ends."""
+Writes examples/haproxy/frames.bin, its frames as they came, and frames.txt, the lines that spoplist has to write for them. They
+are of a health check, an engine's HELLO, uploads, each kind of value, and the DISCONNECT with which HAProxy ends."""
 import shutil
 import signal
 import sys

@@ -46,8 +46,9 @@ class Result:
 
 
 def run(port, count, connections, rate=None, keep_times=True, once=(0, None)):
-    """Sends so many uploads. With a rate each is due at its time, and its time is counted from there, whether or not a connection was
-    free; without one each connection sends the next as soon as it has an answer. Once so many are answered, something is done."""
+    """Sends so many uploads. With a rate each is due at its time, and its time is counted from there, whether or not a connection
+    was free; without one each connection sends the next as soon as it has an answer. Once so many are answered, once[1] is
+    called."""
     result, turn = Result(), 0
     free = [Connection(port) for _ in range(connections)]
     by_socket = {each.socket: each for each in free}

@@ -125,10 +125,10 @@ class HAProxy(Process):
 
 
 class Relay:
-    """Stands between HAProxy and an agent, and keeps the frames of both."""
+    """Stands between HAProxy and an agent, and keeps the frames of both. It may change those of HAProxy on their way."""
 
-    def __init__(self, agent_port):
-        self.agent_port, self.lock = agent_port, threading.Lock()
+    def __init__(self, agent_port, change=lambda frame: frame):
+        self.agent_port, self.change, self.lock = agent_port, change, threading.Lock()
         self.from_haproxy, self.from_agent = [], []
         self.listener = socket.create_server(("127.0.0.1", 0))
         self.port = self.listener.getsockname()[1]
@@ -147,17 +147,17 @@ class Relay:
                 continue
             for each in (ours, theirs):
                 each.setsockopt(socket.IPPROTO_TCP, socket.TCP_NODELAY, 1)
-            threading.Thread(target=self._pass_on, args=(ours, theirs, self.from_haproxy), daemon=True).start()
-            threading.Thread(target=self._pass_on, args=(theirs, ours, self.from_agent), daemon=True).start()
+            threading.Thread(target=self._pass_on, args=(ours, theirs, self.from_haproxy, self.change), daemon=True).start()
+            threading.Thread(target=self._pass_on, args=(theirs, ours, self.from_agent, lambda frame: frame), daemon=True).start()
 
-    def _pass_on(self, source, target, kept):
+    def _pass_on(self, source, target, kept, change):
         rest = b""
         try:
             while got := source.recv(65536):
                 frames, rest = wire.split(rest + got)
                 with self.lock:
                     kept.extend(frames)
-                target.sendall(got)
+                target.sendall(b"".join(map(change, frames)))
             target.shutdown(socket.SHUT_WR)
         except OSError:
             pass
