@@ -30,8 +30,9 @@
 
 #include "spop_build.h"
 
-/* How many records a frame may have: in a HELLO each key is compared with each, so this is to be small. How many frames an output
- * has room for. How many times of frames are told apart, and by how many nanoseconds. */
+/* How many records a frame may have: in a HELLO each key is compared with each, so this is to be small. How many frames of the most
+ * bytes an output has room for: an ACK has less than three bytes for each of its NOTIFY, so the answers to all that an input holds
+ * fit. How many times of frames are told apart, and by how many nanoseconds. */
 enum { MOST = 64, FRAMES = 4, STEPS = 100000, STEP = 10 };
 
 /* The status codes of a DISCONNECT that are used here (SPOE.txt, 3.5). */
@@ -260,13 +261,13 @@ static uint64_t time_of(unsigned percent)
     return (step + 1) * STEP;
 }
 
-/* Answers the frames that are whole, as long as there is room for one more answer. Whether that is why it stopped. */
-static bool answer_input(struct connection *c)
+/* Answers the frames that are whole. */
+static void answer_input(struct connection *c)
 {
     size_t used = 0;
     bool whole = true;
 
-    while (whole && c->state <= SERVING && room_of(c).len >= in_room) {
+    while (whole && c->state <= SERVING) {
         struct spop_bytes input = spop_bytes_of(c->in + used, c->in_len - used);
         uint64_t start = now(), before = answered, at, step;
         uint64_t number = spop_frame_read(&frame, input, c->size, &at);
@@ -283,24 +284,19 @@ static bool answer_input(struct connection *c)
     }
     c->in_len -= used;
     memmove(c->in, c->in + used, c->in_len);
-    return whole && c->state <= SERVING;
 }
 
-/* Sends what is taken. Whether that was all. */
-static bool send_output(struct connection *c)
+/* Sends what is taken. */
+static void send_output(struct connection *c)
 {
-    while (c->out_len > 0) {
-        ssize_t sent = send(c->fd, c->out, c->out_len, MSG_NOSIGNAL);
+    ssize_t sent = send(c->fd, c->out, c->out_len, MSG_NOSIGNAL);
 
-        if (sent < 0) {
-            if (errno != EAGAIN && errno != EINTR)
-                c->state = CLOSED;
-            return false;
-        }
+    if (sent >= 0) {
         c->out_len -= (size_t)sent;
         memmove(c->out, c->out + sent, c->out_len);
+    } else if (errno != EAGAIN && errno != EINTR) {
+        c->state = CLOSED;
     }
-    return true;
 }
 
 /* Reads what has come. The last frame may be cut there; a connection that is CLOSING is not listened to. */
@@ -328,15 +324,14 @@ static bool wait_for(int change, int fd, uint32_t events, void *what)
     return epoll_ctl(poller, change, fd, &event) == 0;
 }
 
-/* Answers and sends as far as that goes. As long as an answer is not taken, nothing more is read. */
+/* Answers what has come, and sends. As long as an answer is not taken, nothing more is read. */
 static void go_on(struct connection *c)
 {
     uint32_t events;
-    bool more;
 
-    do
-        more = answer_input(c);
-    while (send_output(c) && more);
+    answer_input(c);
+    if (c->out_len > 0)
+        send_output(c);
     if (c->state == ENDING && c->out_len == 0) {
         shutdown(c->fd, SHUT_WR);
         c->state = CLOSING;
@@ -401,7 +396,7 @@ static void say_goodbye(void)
 {
     close(listener);
     for (struct connection *c = connections; c != NULL; c = c->next) {
-        if (c->state <= SERVING && room_of(c).len >= in_room)
+        if (c->state <= SERVING)
             disconnect(c, NORMAL, "the agent ends");
         if (c->state != CLOSED)
             go_on(c);

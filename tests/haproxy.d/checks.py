@@ -4,7 +4,9 @@ import random
 import re
 import shutil
 import signal
+import subprocess
 import sys
+import threading
 import time
 from pathlib import Path
 
@@ -250,6 +252,92 @@ def any_cut(scratch):
         same(f"the answers to {len(pieces)} pieces, the first of {len(pieces[0])} bytes", got, answers)
     same("frames", agent.stats()[0], 3 * (len(cuts) + 2))
     return f"four frames in one read, byte by byte, and cut in two at each of {len(cuts)} places"
+
+
+# ---- connections
+
+def greetings(scratch):
+    """HELLO and DISCONNECT by hand, where the agent has nothing against them."""
+    agent = Agent(scratch)
+    for versions in (b"2.0", b"1.0, 2.0", b" 2.0 ,1.5", b"2.5"):
+        raw = Raw(agent.port)
+        raw.send(wire.hello(versions=versions, healthcheck=(wire.BOOL, False), engine_id=(wire.STRING, b"x")))
+        same(f"the answer to versions {versions}", raw.one(), wire.agent_hello(SIZE))
+        raw.send(wire.frame(wire.GOODBYE, wire.pair(b"status-code", wire.U32, 2) + wire.pair(b"message", wire.STRING, b"\n")))
+        same("the answer to a DISCONNECT", raw.reason(), (0, "normal"))
+    said = re.findall(r"^agent: connection \d+: (.*)$", agent.said(), re.M)
+    same("the log", said, ["HAProxy ends it with status 2"] * 4)
+    raw = Raw(agent.port)
+    raw.send(wire.hello(healthcheck=(wire.BOOL, True)))
+    same("the answer to a health check, and the end", (raw.one(), raw.one()), (wire.agent_hello(SIZE), None))
+    agent.end()
+    return "versions as they may be written, a DISCONNECT with a status, and a health check, which is answered and closed"
+
+
+def slow_reader(scratch):
+    """Whoever does not take answers is not read from, and has them all in the end."""
+    agent, count = Agent(scratch), 250_000       # more than the kernel's buffers hold
+    raw = Raw(agent.port)
+    raw.greet()
+    frames = b"".join(wire.frame(wire.NOTIFY, upload_message((1, 2), (n, -n)), n, 1) for n in range(count))
+    sender = threading.Thread(target=raw.send, args=(frames,), daemon=True)
+    sender.start()
+    sender.join(1)
+    if not sender.is_alive():
+        raise Failed("all frames are taken, though no answer is")
+    before, worked = agent.memory(), agent.work()
+    time.sleep(0.5)
+    if agent.work() > worked + 0.1:
+        raise Failed("the agent works while there is nothing to do")
+    expected = b"".join(upload_ack(n, 1, (1, 2), (n, -n)) for n in range(count))
+    got = bytearray()
+    while len(got) < len(expected) and (piece := raw.socket.recv(1 << 20)):
+        got += piece
+    same("the answers are right", bytes(got) == expected, True)
+    same("the agent's memory", agent.memory(), before)
+    same("the agent's frames", agent.stats()[0], count)
+    return f"{count} frames from one who reads no answer at first: it is not read from meanwhile, and has all answers in order"
+
+
+def many_connections(scratch):
+    agent = Agent(scratch)
+    raws = [Raw(agent.port) for _ in range(500)]
+    for raw in raws:
+        raw.send(wire.hello())
+    for number, raw in enumerate(raws):
+        same("an AGENT-HELLO", raw.one(), wire.agent_hello(SIZE))
+        raw.send(wire.frame(wire.NOTIFY, upload_message((3, 4), (number, 0)), number, 1))
+    for number, raw in enumerate(raws):
+        same("an ACK", raw.one(), upload_ack(number, 1, (3, 4), (number, 0)))
+        raw.socket.close()
+    agent.end()
+    few = Agent(scratch, files=16)
+    raws = [Raw(few.port) for _ in range(30)]
+    for raw in raws:
+        raw.send(wire.hello())
+    until("a connection is turned away", lambda: "a connection is turned away" in few.said())
+    answers = [raw.one_or_none() for raw in raws]
+    served = [raw for raw, answer in zip(raws, answers) if answer == wire.agent_hello(SIZE)]
+    same("answers and ends", set(answers), {wire.agent_hello(SIZE), None})
+    served[0].send(wire.frame(wire.NOTIFY, upload_message((3, 4), (5, 6)), 1, 1))
+    same("an ACK", served[0].one(), upload_ack(1, 1, (3, 4), (5, 6)))
+    for raw in served:
+        raw.socket.close()
+    until("another connection", lambda: Raw(few.port).greet_or_none() == wire.agent_hello(SIZE))
+    few.end()
+    return f"500 at once; of 30 with files for {len(served)} the others are turned away, and later ones are served again"
+
+
+def words(scratch):
+    """What the agent says to wrong words, and to a port that is taken."""
+    agent = Agent(scratch)
+    for given, status in ((["x"], 2), (["0"], 2), (["65536"], 2), ([agent.port, 255], 2), ([agent.port, 1048577], 2),
+                          (["1", "256", "2"], 2), (["--status"], 2), ([""], 2), ([agent.port], 1)):
+        done = subprocess.run([scratch / "agent", *map(str, given)], capture_output=True, text=True, timeout=10)
+        said = "usage: agent " if status == 2 else "agent: it does not listen: Address already in use"
+        same(f"status and line for {given}", (done.returncode, done.stderr.startswith(said), done.stdout), (status, True, ""))
+    agent.end()
+    return "wrong words have the usage and status 2, a port that is taken status 1"
 
 
 # ---- 3. the start of a run
@@ -535,7 +623,9 @@ def main(folder, long):
     points = [
         ("1. slots and delays", each_pair_of_slots), ("2. kinds of values", each_kind),
         ("2. other kinds", other_kinds), ("2. kinds by hand", each_kind_by_hand),
-        ("2. frames that are kept", kept_frames), ("2. frames in pieces", any_cut), ("3. the start of a run", start_of_a_run),
+        ("2. frames that are kept", kept_frames), ("2. frames in pieces", any_cut),
+        ("2. greetings", greetings), ("2. a slow reader", slow_reader), ("2. many connections", many_connections),
+        ("2. words", words), ("3. the start of a run", start_of_a_run),
         ("4. many frames", lambda s: many_frames(s, 1_000_000 if long else 50_000)),
         ("5. the agreed size", lambda s: size_through_haproxy(s, SIZE)),
         ("5. a smaller size", lambda s: size_through_haproxy(s, 4096)), ("5. sizes by hand", sizes_by_hand),

@@ -73,11 +73,18 @@ class Process:
         status = Path(f"/proc/{self.process.pid}/status").read_text()
         return {name: int(re.search(rf"^{name}:\s+(\d+) kB", status, re.M)[1]) for name in ("VmSize", "VmData", "RssAnon")}
 
+    def work(self):
+        """The seconds that it has worked."""
+        words = Path(f"/proc/{self.process.pid}/stat").read_text().rpartition(")")[2].split()
+        return (int(words[11]) + int(words[12])) / os.sysconf("SC_CLK_TCK")
+
 
 class Agent(Process):
-    def __init__(self, scratch, port=None, size=None):
+    def __init__(self, scratch, port=None, size=None, files=None):
         self.port = port or free_port()
         words = [scratch / "agent", "--stats", self.port] + ([size] if size else [])
+        if files:
+            words = ["prlimit", f"--nofile={files}", *words]
         super().__init__(scratch / "agent.log", words)
         until("the agent", lambda: "listening on port" in self.said() or self.process.poll() is not None)
         if self.process.poll() is not None:
@@ -192,6 +199,19 @@ class Raw:
     def greet(self, size=16384):
         self.send(wire.hello(size))
         return self.one()
+
+    def one_or_none(self):
+        """The same, where the connection may be turned away."""
+        try:
+            return self.one()
+        except ConnectionResetError:
+            return None
+
+    def greet_or_none(self):
+        try:
+            return self.greet()
+        except (ConnectionResetError, BrokenPipeError):
+            return None
 
     def no_more(self):
         self.socket.shutdown(socket.SHUT_WR)
