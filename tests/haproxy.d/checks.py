@@ -619,7 +619,8 @@ def garbage(scratch):
 
 def main(folder, long):
     scratch = Path(folder)
-    signal.signal(signal.SIGTERM, lambda *_: sys.exit(143))
+    for number in (signal.SIGTERM, signal.SIGINT):
+        signal.signal(number, lambda got, _: sys.exit(128 + got))       # by way of what ends all that was started
     points = [
         ("1. slots and delays", each_pair_of_slots), ("2. kinds of values", each_kind),
         ("2. other kinds", other_kinds), ("2. kinds by hand", each_kind_by_hand),
