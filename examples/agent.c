@@ -30,9 +30,9 @@
 
 #include "spop_build.h"
 
-/* How many records a frame may have: in a HELLO each key is compared with each, so this is to be small. How many frames of the most
- * bytes an output has room for: an ACK has less than three bytes for each of its NOTIFY, so the answers to all that an input holds
- * fit. How many times of frames are told apart, and by how many nanoseconds. */
+/* How many records a frame may have: in a HELLO each key is compared with each, so this is to be small. How many of the longest
+ * frames an output has room for: an ACK has less than three bytes for each of its NOTIFY, so the answers to all that an input
+ * holds fit. How many times of frames are told apart, and by how many nanoseconds. */
 enum { MOST = 64, FRAMES = 4, STEPS = 100000, STEP = 10 };
 
 /* The status codes of a DISCONNECT that are used here (SPOE.txt, 3.5). */
@@ -299,7 +299,8 @@ static void send_output(struct connection *c)
     }
 }
 
-/* Reads what has come. The last frame may be cut there; a connection that is CLOSING is not listened to. */
+/* Reads what has come. At the end a frame may be cut, and the log has how many bytes are missing for its place. A connection that
+ * is CLOSING is not listened to. */
 static void receive(struct connection *c)
 {
     struct spop_bytes input = spop_bytes_of(c->in, c->in_len);
