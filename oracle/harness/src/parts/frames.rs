@@ -28,6 +28,7 @@ use std::hint::black_box;
 pub fn diff(random: &mut Random, rounds: u64) -> Result<String, Difference> {
     let (mut fixed, mut drawn) = (Met::default(), Met::default());
     examples(&mut fixed)?;
+    from_haproxy(&mut fixed)?;
     around_the_listing(&mut fixed)?;
     small_payloads(&mut fixed)?;
     long_numbers(&mut fixed)?;
@@ -107,6 +108,40 @@ fn examples(met: &mut Met) -> Result<(), Difference> {
     assert_eq!(read.head, [3, 1, 1, 2, 1, 2]);
     assert_eq!(read.messages, [[12, 5, 0, 2]]);
     assert_eq!(read.pairs, [[19, 4, 3, 7, 0, 0], [26, 2, 1, 1, 0, 0]]);
+    Ok(())
+}
+
+/// Frames that a HAProxy sent, all of them whole.
+const FROM_HAPROXY: &[u8] = include_bytes!("../../../../examples/haproxy/frames.bin");
+
+/// These read one after the other, with what stands behind them, and each in tables that are just enough and too small.
+fn from_haproxy(met: &mut Met) -> Result<(), Difference> {
+    let mut call = Call {
+        input: FROM_HAPROXY.to_vec(),
+        limit: 16_384,
+        lengths: ROOMY,
+    };
+    while !call.input.is_empty() {
+        let read = met.frame(&call)?;
+        assert!(
+            read.number == answers::DONE,
+            "HAProxy's frame is answered with {}",
+            read.number
+        );
+        let (frame, behind) = call.input.split_at(read.at as usize);
+        let mut alone = Call {
+            input: frame.to_vec(),
+            limit: declared(frame),
+            lengths: [
+                MESSAGE_WIDTH * read.messages.len(),
+                PAIR_WIDTH * read.pairs.len(),
+            ],
+        };
+        call.input = behind.to_vec();
+        met.frame(&alone)?;
+        alone.lengths[1] -= 1;
+        met.frame(&alone)?;
+    }
     Ok(())
 }
 
