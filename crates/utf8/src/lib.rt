@@ -486,6 +486,17 @@ fn lossy_steps(bytes: &[u8], out: &mut [u8]) -> Written
 fn has_room(bytes: &[u8], room: usize) -> bool
     ensures { λ r. ⌜ r ≡ leb (length (lossy (now (bytes .entry)))) room ⌝ }
 {
+    // A byte becomes at most three.
+    if bytes.len() <= room / 3 {
+        return true;
+    }
+    steps_room(bytes, room)
+}
+
+// The same, step by step.
+fn steps_room(bytes: &[u8], room: usize) -> bool
+    ensures { λ r. ⌜ r ≡ leb (length (lossy (now (bytes .entry)))) room ⌝ }
+{
     let mut at = 0;
     let mut left = room;
     while at < bytes.len() {
