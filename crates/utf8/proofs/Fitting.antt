@@ -89,6 +89,17 @@ record Begun (d e n : ℕ) : Type 0 where
   is : rowFor rows d ≡ led (row lead second n)
   can : inRange second e ≡ true
 
+-- from E0 on it is none of the first two rows, and from F0 on none of the first six
+past-two : (d : ℕ) → 0xE0 ≤ d → rowFor rows d ≡ rowFor (drop 2 rows) d
+unfolding rowFor rows inRange
+past-two d h = simp (le-leb 0 d zero-le, lt-leb d 0x7F (omega arith), le-leb 0xC2 d (omega arith), lt-leb d 0xDF (omega arith))
+
+past-six : (d : ℕ) → 0xF0 ≤ d → rowFor rows d ≡ rowFor (drop 6 rows) d
+unfolding rowFor rows inRange
+past-six d h =
+    past-two d (omega arith)
+    ∙ simp (le-leb 0xE0 d (omega arith), lt-leb d 0xE0 (omega arith), le-leb 0xE1 d (omega arith), lt-leb d 0xEC (omega arith), le-leb 0xED d (omega arith), lt-leb d 0xED (omega arith), le-leb 0xEE d (omega arith), lt-leb d 0xEF (omega arith))
+
 begun-two : {a b : ℕ} (d e : ℕ) → 0xC2 ≤ d → d ≤ 0xDF → Fits a b d e → Begun d e 2
 unfolding rowFor rows inRange
 begun-two d e h g f =
@@ -113,7 +124,7 @@ begun-three d e h g f =
     (λ m. record {
       lead = 0xE1 to 0xEC;
       second = 0x80 to 0xBF;
-      is = simp (le-leb 0 d zero-le, lt-leb d 0x7F (omega arith), le-leb 0xC2 d (omega arith), lt-leb d 0xDF (omega arith), le-leb 0xE0 d h, lt-leb d 0xE0 (omega arith), le-leb 0xE1 d l, le-leb d 0xEC (omega arith));
+      is = past-two d h ∙ simp (le-leb 0xE0 d h, lt-leb d 0xE0 (omega arith), le-leb 0xE1 d l, le-leb d 0xEC (omega arith));
       can = inRange-in 0x80 0xBF e (q .0) (q .1);
     })
     (λ m. ⊎-elim
@@ -123,7 +134,7 @@ begun-three d e h g f =
     (λ o. record {
       lead = 0xEE to 0xEF;
       second = 0x80 to 0xBF;
-      is = simp (le-leb 0 d zero-le, lt-leb d 0x7F (omega arith), le-leb 0xC2 d (omega arith), lt-leb d 0xDF (omega arith), le-leb 0xE0 d h, lt-leb d 0xE0 (omega arith), le-leb 0xE1 d l, lt-leb d 0xEC (omega arith), le-leb 0xED d m, lt-leb d 0xED (omega arith), le-leb 0xEE d o, le-leb d 0xEF g);
+      is = past-two d h ∙ simp (le-leb 0xE0 d h, lt-leb d 0xE0 (omega arith), le-leb 0xE1 d l, lt-leb d 0xEC (omega arith), le-leb 0xED d m, lt-leb d 0xED (omega arith), le-leb 0xEE d o, le-leb d 0xEF g);
       can = inRange-in 0x80 0xBF e (q .0) (q .1);
     })
     (lt-or-le d 0xEE))
@@ -142,7 +153,7 @@ begun-four d e h g f =
     (λ m. record {
       lead = 0xF1 to 0xF3;
       second = 0x80 to 0xBF;
-      is = simp (le-leb 0 d zero-le, lt-leb d 0x7F (omega arith), le-leb 0xC2 d (omega arith), lt-leb d 0xDF (omega arith), le-leb 0xE0 d (omega arith), lt-leb d 0xE0 (omega arith), le-leb 0xE1 d (omega arith), lt-leb d 0xEC (omega arith), le-leb 0xED d (omega arith), lt-leb d 0xED (omega arith), le-leb 0xEE d (omega arith), lt-leb d 0xEF (omega arith), le-leb 0xF0 d h, lt-leb d 0xF0 (omega arith), le-leb 0xF1 d l, le-leb d 0xF3 (omega arith));
+      is = past-six d h ∙ simp (le-leb 0xF0 d h, lt-leb d 0xF0 (omega arith), le-leb 0xF1 d l, le-leb d 0xF3 (omega arith));
       can = inRange-in 0x80 0xBF e (q .0) (q .1);
     })
     (λ m.
