@@ -6,7 +6,7 @@ use Prim.Native.Nat.{ℕ, suc, _+_, _-_, _<_, _≤_, zero-le}
 use native.Mathlib.Numerals.{add-one}
 use native.Mathlib.Omega.{arith}
 use lib.Dec.{ltb}
-use lib.ListN.{length, take, drop, getD, length-drop}
+use lib.ListN.{length, take, drop, getD, length-drop, take-append-drop, drop-of-length-le}
 use lib.Seq.{drop-cons, take-add, take-suc}
 use borrow.Author.Tests.{ltb-true, lt-ltb}
 use Rattle.utf8.specs.Text.{isUtf8}
@@ -14,7 +14,7 @@ use Rattle.utf8.specs.Inner.{ascii, AsciiTo}
 use Rattle.answer.proofs.Output.{lent-tail}
 use Rattle.answer.proofs.Cases.{both-true}
 use Rattle.utf8.proofs.Stepping.{step-ascii}
-use Rattle.utf8.proofs.Lossy.{isUtf8-none, isUtf8-char}
+use Rattle.utf8.proofs.Lossy.{isUtf8-none, isUtf8-char, isUtf8-front}
 
 pub ascii-well : (s : List ℕ) → ascii s ≡ true → isUtf8 s ≡ true
 unfolding ascii
@@ -107,3 +107,12 @@ ascii-to-end s n from k a h e are =
 -- so are few bytes whose first four and last four are
 pub ascii-few : (s : List ℕ) (from : ℕ) → from ≤ 4 → from + 4 ≡ length s → ascii (take 4 s) ≡ true → ascii (take 4 (drop from s)) ≡ true → AsciiTo s (length s)
 ascii-few s from h e first last = ascii-to-end s 4 from 4 (record { there = omega arith; are = first }) h e last
+
+-- ---- behind it
+
+-- what stands behind ASCII decides, and nothing is well-formed
+pub ascii-behind : (s : List ℕ) (n : ℕ) → AsciiTo s n → isUtf8 s ≡ isUtf8 (drop n s)
+ascii-behind s n a = ap isUtf8 (sym (take-append-drop n s)) ∙ isUtf8-front (drop n s) (take n s) (ascii-well (take n s) (a .are))
+
+pub ascii-all : (s : List ℕ) (n : ℕ) → AsciiTo s n → n ≡ length s → isUtf8 s ≡ true
+ascii-all s n a e = ascii-behind s n a ∙ ap isUtf8 (drop-of-length-le s {i = n} (omega arith)) ∙ isUtf8-none

@@ -4,6 +4,7 @@ pub mod Table
 pub mod Stepping
 pub mod Lossy
 pub mod Ascii
+pub mod Fitting
 pub mod Same
 pub mod Advance
 pub mod Walk

@@ -1,11 +1,11 @@
 -- Walking over two texts at once: what the walk needs of each turn.
 use mathlib.Core.Path.{_≡_, sym, ap, ap₂, _∙_}
 use mathlib.Core.Bool.{Bool, true, false, _&&_, and-assoc, and-true}
-use mathlib.Core.List.{List, []}
-use Prim.Native.Nat.{ℕ, suc, _≤_, _<_}
+use mathlib.Core.List.{List, [], _++_}
+use Prim.Native.Nat.{ℕ, suc, _+_, _≤_, _<_}
 use native.Mathlib.Omega.{arith}
 use lib.Dec.{eqb}
-use lib.Seq.{drop-cons}
+use lib.Seq.{drop-cons, take-add, take-take, take-length}
 use lib.ListN.{length, take, drop, getD, length-drop, take-append-drop, drop-of-length-le}
 use mathlib.Core.Logic.{⊎-elim}
 use borrow.Author.Tests.{eq-eqb, ne-eqb}
@@ -65,3 +65,20 @@ walks-eight s t h g e = (front, h, g, λ p. omega arith)
         ap₂ same (ap lossy (sym (take-append-drop 8 s)) ∙ lossy-front (drop 8 s) (take 8 s) well)
         (ap lossy (sym (take-append-drop 8 t)) ∙ rw (sym q) (lossy-front (drop 8 t) (take 8 s) well))
         ∙ same-front (take 8 s) (lossy (drop 8 s)) (lossy (drop 8 t))
+
+-- ---- the same bytes, in eights
+
+module _ (s t : List ℕ) (at : ℕ) (e : take at s ≡ take at t) where
+  pub equal-less : (last : ℕ) → last ≤ at → take last s ≡ take last t
+  equal-less last h = sym (take-take last at s h) ∙ ap (take last) e ∙ take-take last at t h
+
+  pub equal-on : same (take 8 (drop at s)) (take 8 (drop at t)) ≡ true → take (at + 8) s ≡ take (at + 8) t
+  equal-on q = take-add at 8 s ∙ ap₂ _++_ e (same-true (take 8 (drop at s)) (take 8 (drop at t)) q) ∙ sym (take-add at 8 t)
+
+  pub equal-all : at + 8 ≡ length s → at + 8 ≡ length t → same (take 8 (drop at s)) (take 8 (drop at t)) ≡ true → s ≡ t
+  equal-all h g q =
+      sym (take-length s)
+      ∙ ap (λ (k : ℕ). take k s) (sym h)
+      ∙ equal-on q
+      ∙ ap (λ (k : ℕ). take k t) g
+      ∙ take-length t

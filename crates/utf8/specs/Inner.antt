@@ -2,10 +2,11 @@
 -- No public promise rests on anything in this file.
 use mathlib.Core.Path.{_≡_}
 use mathlib.Core.Bool.{Bool, true, false, _&&_}
+use mathlib.Core.Logic.{_⊎_}
 use mathlib.Core.List.{List, [], _∷_, _++_}
-use Prim.Native.Nat.{ℕ, _≤_}
+use Prim.Native.Nat.{ℕ, _+_, _-_, _≤_, _<_}
 use lib.Dec.{ltb}
-use lib.ListN.{length, take, drop}
+use lib.ListN.{length, take, drop, getD}
 use Rattle.utf8.specs.declared.Range as g
 use Rattle.utf8.specs.declared.Row as r
 use Rattle.utf8.specs.declared.Step as t
@@ -59,6 +60,40 @@ abbrev pub textSize : Step → ℕ
 textSize ends = 0
 textSize (char n) = n
 textSize (mark n) = 3
+
+-- ---- each byte beside the three before it
+
+-- What d has to be behind a, b and c: a byte of its own where none of them wants one of 80 to BF, and else such a one, in the
+-- narrower range that some first bytes want.
+pub record Fits (a b c d : ℕ) : Type 0 where
+  pub lead : a < 0xF0 → b < 0xE0 → c < 0xC0 → (d < 0x80) ⊎ ((0xC2 ≤ d) × (d ≤ 0xF4))
+  pub second : 0xC0 ≤ c → (0x80 ≤ d) × (d ≤ 0xBF)
+  pub third : 0xE0 ≤ b → (0x80 ≤ d) × (d ≤ 0xBF)
+  pub fourth : 0xF0 ≤ a → (0x80 ≤ d) × (d ≤ 0xBF)
+  pub after·E0 : c ≡ 0xE0 → 0xA0 ≤ d
+  pub after·ED : c ≡ 0xED → d ≤ 0x9F
+  pub after·F0 : c ≡ 0xF0 → 0x90 ≤ d
+  pub after·F4 : c ≡ 0xF4 → d ≤ 0x8F
+
+-- the fourth byte from i on fits the three before it
+abbrev pub FitsAt : List ℕ → ℕ → Type 0
+FitsAt s i = Fits (getD s i 0) (getD s (i + 1) 0) (getD s (i + 2) 0) (getD s (i + 3) 0)
+
+-- so does each from an i below n on
+abbrev pub FitTo : List ℕ → ℕ → Type 0
+FitTo s n = (i : ℕ) → i < n → FitsAt s i
+
+-- the first three fit, with nothing before them
+pub record FirstFit (s : List ℕ) : Type 0 where
+  pub one : Fits 0 0 0 (getD s 0 0)
+  pub two : Fits 0 0 (getD s 0 0) (getD s 1 0)
+  pub three : Fits 0 (getD s 0 0) (getD s 1 0) (getD s 2 0)
+
+-- and none of the last three wants a byte behind them
+pub record EndsWhole (s : List ℕ) : Type 0 where
+  pub one : getD s (length s - 1) 0 < 0xC0
+  pub two : getD s (length s - 2) 0 < 0xE0
+  pub three : getD s (length s - 3) 0 < 0xF0
 
 -- ---- two texts
 

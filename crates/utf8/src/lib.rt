@@ -6,13 +6,13 @@ use answer::Refusal;
 use answer::Written;
 ghost use mathlib.Core.Path.{_≡_};
 ghost use mathlib.Core.Bool.{true, _&&_};
-ghost use Prim.Native.Nat.{suc, _-_, _≤_};
+ghost use Prim.Native.Nat.{suc, _+_, _-_, _≤_};
 ghost use lib.ListN.{length, take, drop};
 ghost use lib.Dec.{leb};
 ghost use Rattle.answer.specs.Answer.{written, leaves};
-ghost use Rattle.utf8.specs.Text.{rows, rowFor, follow, front, taken, step, stepSize, becomes, lossy, same};
+ghost use Rattle.utf8.specs.Text.{rows, rowFor, follow, front, taken, step, stepSize, becomes, isUtf8, lossy, same, sameText};
 ghost use Rattle.utf8.specs.Promise.{IsUtf8, LossyText, SameText};
-ghost use Rattle.utf8.specs.Inner.{asRange, seen, ledBy, ascii, AsciiTo, Advances, textSize, Walks};
+ghost use Rattle.utf8.specs.Inner.{asRange, seen, ledBy, ascii, AsciiTo, Advances, textSize, Walks, Fits, FitTo, FirstFit, EndsWhole};
 
 // The bytes from the first to the last.
 struct Range {
@@ -343,6 +343,16 @@ fn eight_ascii(s: &[u8]) -> bool
 pub fn is_utf8(bytes: &[u8]) -> bool
     ensures { λ r. ⌜ IsUtf8 (now (bytes .entry)) r ⌝ }
 {
+    if surely_utf8(bytes) {
+        return true;
+    }
+    steps_whole(bytes)
+}
+
+// The same, step by step.
+fn steps_whole(bytes: &[u8]) -> bool
+    ensures { λ r. ⌜ r ≡ isUtf8 (now (bytes .entry)) ⌝ }
+{
     let mut at = 0;
     while at < bytes.len() {
         let Step::Char(n) = stride(&bytes[at..]) else {
@@ -353,8 +363,113 @@ pub fn is_utf8(bytes: &[u8]) -> bool
     true
 }
 
+// Whether the bytes are well-formed, without a step. A yes is sure, and a no may be of bytes that are too few.
+fn surely_utf8(bytes: &[u8]) -> bool
+    ensures { λ r. ⌜ (r ≡ true → isUtf8 (now (bytes .entry)) ≡ true) ⌝ }
+{
+    let n = ascii_front(bytes);
+    if n == bytes.len() {
+        return true;
+    }
+    all_fit(&bytes[n..])
+}
+
+// The same by each byte and the three before it: what a byte may be follows from them alone, so the compiler can take many
+// together. The last block may test some twice.
+fn all_fit(s: &[u8]) -> bool
+    ensures { λ r. ⌜ (r ≡ true → isUtf8 (now (s .entry)) ≡ true) ⌝ }
+{
+    let len = s.len();
+    if len < 19 {
+        return false;
+    }
+    if !first_fit(s) {
+        return false;
+    }
+    if !ends_whole(s) {
+        return false;
+    }
+    let last = len - 19;
+    if !blocks_fit(s, last) {
+        return false;
+    }
+    block_fits(&s[last..])
+}
+
+// Whether the first three bytes fit, where nothing stands before them.
+fn first_fit(s: &[u8]) -> bool
+    requires { ⌜ 3 ≤ length (now s) ⌝ }
+    ensures { λ r. ⌜ (r ≡ true → FirstFit (now (s .entry))) ⌝ }
+{
+    fits(0, 0, 0, s[0]) & fits(0, 0, s[0], s[1]) & fits(0, s[0], s[1], s[2])
+}
+
+// Whether none of the last three bytes wants one behind the end.
+fn ends_whole(s: &[u8]) -> bool
+    requires { ⌜ 3 ≤ length (now s) ⌝ }
+    ensures { λ r. ⌜ (r ≡ true → EndsWhole (now (s .entry))) ⌝ }
+{
+    let end = s.len();
+    (s[end - 1] < 0xC0) & (s[end - 2] < 0xE0) & (s[end - 3] < 0xF0)
+}
+
+// Whether all bytes fit that stand three behind the first `last`, in blocks of 16. More may be tested.
+fn blocks_fit(s: &[u8], last: usize) -> bool
+    requires { ⌜ last + 19 ≤ length (now s) ⌝ }
+    ensures { λ r. ⌜ (r ≡ true → FitTo (now (s .entry)) last) ⌝ }
+{
+    let mut at = 0;
+    while at < last {
+        if !block_fits(&s[at..]) {
+            return false;
+        }
+        at += 16;
+    }
+    true
+}
+
+// Whether 16 bytes fit, from the fourth on. The loop has no way out before its end.
+fn block_fits(s: &[u8]) -> bool
+    requires { ⌜ 19 ≤ length (now s) ⌝ }
+    ensures { λ r. ⌜ (r ≡ true → FitTo (now (s .entry)) 16) ⌝ }
+{
+    let mut all = true;
+    let mut i = 0;
+    while i < 16 {
+        all = all & fits(s[i], s[i + 1], s[i + 2], s[i + 3]);
+        i += 1;
+    }
+    all
+}
+
+// Whether d can stand behind a, b and c in a text: from 80 to BF exactly where one of them wants it, and as narrow as the
+// table's second bytes are.
+fn fits(a: u8, b: u8, c: u8, d: u8) -> bool
+    ensures { λ r. ⌜ (r ≡ true → Fits a b c d) ⌝ }
+{
+    ((0xC0 <= c) | (0xE0 <= b) | (0xF0 <= a) | (d < 0x80) | ((0xC2 <= d) & (d <= 0xF4)))
+        & (((c < 0xC0) & (b < 0xE0) & (a < 0xF0)) | ((0x80 <= d) & (d <= 0xBF)))
+        & ((c != 0xE0) | (0xA0 <= d))
+        & ((c != 0xED) | (d <= 0x9F))
+        & ((c != 0xF0) | (0x90 <= d))
+        & ((c != 0xF4) | (d <= 0x8F))
+}
+
 // Writes the lossy text of the bytes at the front of `out`.
 pub fn lossy_text(bytes: &[u8], out: &mut [u8]) -> Written
+    ensures { λ r. ⌜ LossyText (now (bytes .entry)) r (now (out .entry)) (now (out .exit)) ⌝ }
+{
+    if bytes.len() <= out.len() {
+        if surely_utf8(bytes) {
+            copy(bytes, out);
+            return Written::Done(bytes.len());
+        }
+    }
+    lossy_steps(bytes, out)
+}
+
+// The same, step by step.
+fn lossy_steps(bytes: &[u8], out: &mut [u8]) -> Written
     ensures { λ r. ⌜ LossyText (now (bytes .entry)) r (now (out .entry)) (now (out .exit)) ⌝ }
 {
     if !has_room(bytes, out.len()) {
@@ -369,6 +484,17 @@ pub fn lossy_text(bytes: &[u8], out: &mut [u8]) -> Written
 
 // Whether so many bytes are enough for the lossy text.
 fn has_room(bytes: &[u8], room: usize) -> bool
+    ensures { λ r. ⌜ r ≡ leb (length (lossy (now (bytes .entry)))) room ⌝ }
+{
+    // A byte becomes at most three.
+    if bytes.len() <= room / 3 {
+        return true;
+    }
+    steps_room(bytes, room)
+}
+
+// The same, step by step.
+fn steps_room(bytes: &[u8], room: usize) -> bool
     ensures { λ r. ⌜ r ≡ leb (length (lossy (now (bytes .entry)))) room ⌝ }
 {
     let mut at = 0;
@@ -451,9 +577,20 @@ fn copy(s: &[u8], out: &mut [u8])
     }
 }
 
-// Whether the lossy texts are the same, by walking both at once.
+// Whether the lossy texts are the same.
 pub fn same_text(a: &[u8], b: &[u8]) -> bool
     ensures { λ r. ⌜ SameText (now (a .entry)) (now (b .entry)) r ⌝ }
+{
+    // Texts that are asked about are mostly the same bytes.
+    if surely_same(a, b) {
+        return true;
+    }
+    same_steps(a, b)
+}
+
+// The same, by walking both at once.
+fn same_steps(a: &[u8], b: &[u8]) -> bool
+    ensures { λ r. ⌜ r ≡ sameText (now (a .entry)) (now (b .entry)) ⌝ }
 {
     let mut i = 0;
     let mut j = 0;
@@ -465,6 +602,56 @@ pub fn same_text(a: &[u8], b: &[u8]) -> bool
         j += n;
     }
     j == b.len()
+}
+
+// Whether both have the same bytes. A yes is sure, and a no may be of bytes that are too few. The last eight may be tested twice.
+fn surely_same(a: &[u8], b: &[u8]) -> bool
+    ensures { λ r. ⌜ (r ≡ true → now (a .entry) ≡ now (b .entry)) ⌝ }
+{
+    let len = a.len();
+    if len != b.len() {
+        return false;
+    }
+    if len < 8 {
+        return false;
+    }
+    let last = len - 8;
+    if !eights_equal(a, b, last) {
+        return false;
+    }
+    eight_equal(&a[last..], &b[last..])
+}
+
+// Whether the first `last` bytes are the same, in eights. More may be tested.
+fn eights_equal(a: &[u8], b: &[u8], last: usize) -> bool
+    requires { ⌜ last + 8 ≤ length (now a) ⌝ }
+    requires { ⌜ last + 8 ≤ length (now b) ⌝ }
+    ensures { λ r. ⌜ (r ≡ true → take last (now (a .entry)) ≡ take last (now (b .entry))) ⌝ }
+{
+    let mut at = 0;
+    while at < last {
+        if !eight_equal(&a[at..], &b[at..]) {
+            return false;
+        }
+        at += 8;
+    }
+    true
+}
+
+// Whether the first eight bytes are the same.
+fn eight_equal(a: &[u8], b: &[u8]) -> bool
+    requires { ⌜ 8 ≤ length (now a) ⌝ }
+    requires { ⌜ 8 ≤ length (now b) ⌝ }
+    ensures { λ r. ⌜ r ≡ same (take 8 (now (a .entry))) (take 8 (now (b .entry))) ⌝ }
+{
+    (a[0] == b[0])
+        & (a[1] == b[1])
+        & (a[2] == b[2])
+        & (a[3] == b[3])
+        & (a[4] == b[4])
+        & (a[5] == b[5])
+        & (a[6] == b[6])
+        & (a[7] == b[7])
 }
 
 // How far one can go on at once in two texts that start in the same way.
@@ -492,15 +679,7 @@ fn eight_same(a: &[u8], b: &[u8]) -> bool
     requires { ⌜ 8 ≤ length (now b) ⌝ }
     ensures { λ r. ⌜ r ≡ ascii (take 8 (now (a .entry))) && same (take 8 (now (a .entry))) (take 8 (now (b .entry))) ⌝ }
 {
-    eight_ascii(a)
-        & (a[0] == b[0])
-        & (a[1] == b[1])
-        & (a[2] == b[2])
-        & (a[3] == b[3])
-        & (a[4] == b[4])
-        & (a[5] == b[5])
-        & (a[6] == b[6])
-        & (a[7] == b[7])
+    eight_ascii(a) & eight_equal(a, b)
 }
 
 // A step of each.

@@ -1,37 +1,43 @@
--- `utf8::lossy_text` meets its contract: with no room nothing is written, and else the whole text is.
+-- `utf8::lossy_text` meets its contract: a text that is surely well-formed is its own lossy text, and else the steps write it.
 -- Assumes nothing.
-use Prim.Native.Nat.{_≤_, _<_}
-use mathlib.Core.Path.{sym, _∙_}
-use lib.ListN.{length}
-use borrow.Author.Tests.{leb-true, leb-false, not-true, not-false}
-use Rattle.answer.proofs.Output.{writes-none, writes-all}
-use Rattle.utf8.specs.Text.{lossy}
+use mathlib.Core.Path.{refl}
+use Rattle.answer.proofs.Output.{writes-all}
+use Rattle.utf8.proofs.Lossy.{lossy-same}
 use borrow.Author.Needs.{needs}
 use Rattle.utf8.proofs.lossy_text.Statement.{statement}
 use Rattle.utf8.proofs.lossy_text.Tie as tie
 
-no-room : (c : tie.Then1) → length (c .before .before .before .before .args .out .now) < length (lossy (c .before .before .before .before .args .bytes .now))
-no-room c = leb-false _ _ (sym (c .before .has-room .ensures) ∙ not-true _ (c .if1 .taken))
+surely-utf8-requires : tie.Need-surely-utf8-requires
+surely-utf8-requires c κs = search needs
 
-room : (c : tie.Else1) → length (lossy (c .before .before .before .before .args .bytes .now)) ≤ length (c .before .before .before .before .args .out .now)
-room c = leb-true _ _ (sym (c .before .has-room .ensures) ∙ not-false _ (c .if1 .left))
-
-has-room-requires : tie.Need-has-room-requires
-has-room-requires c κs = search needs
-
-returns : tie.Need-returns
-returns c = writes-none (lossy (c .before .before .before .before .args .bytes .now)) _ (no-room c)
-
-write-lossy-requires : tie.Need-write-lossy-requires
-write-lossy-requires c κs = room (c .before)
+copy-requires : tie.Need-copy-requires
+copy-requires c κs = search needs
 
 same-length : tie.Need-same-length
 same-length c = search needs
 
+returns : tie.Need-returns
+returns c =
+    let bytes = c .before .before .before .before .before .before .before .before .before .args .bytes .now in
+    rw (lossy-same bytes (c .before .before .before .before .before .surely-utf8 .ensures (c .before .before .before .before .if2 .taken))) (writes-all bytes _ _ _ (c .before .before .before .before .before .before .if1 .taken) refl (c .before .before .copy .ensures))
+
+lossy-steps-requires : tie.Need-lossy-steps-requires
+lossy-steps-requires c κs = search needs
+
+same-length-2 : tie.Need-same-length-2
+same-length-2 c = search needs
+
 returns-2 : tie.Need-returns-2
-returns-2 c = let e = c .before .before .before .before in
-    writes-all (lossy (e .before .before .before .before .args .bytes .now)) _ _ _ (room e) (c .before .before .write-lossy .ensures .0) (c .before .before .write-lossy .ensures .1)
+returns-2 c = search needs
 
 pub lossy-text-spec : {M : Type 1} → statement M
 lossy-text-spec =
-    tie.close (tie.spec has-room-requires returns write-lossy-requires same-length returns-2)
+    tie.close
+    (tie.spec
+    surely-utf8-requires
+    copy-requires
+    same-length
+    returns
+    lossy-steps-requires
+    same-length-2
+    returns-2)
