@@ -3,6 +3,7 @@
 mod answers;
 mod both;
 mod counts;
+mod growth;
 mod inputs;
 mod listing;
 mod parts;

@@ -1,6 +1,9 @@
 //! Times the two sides on the same inputs.
 
-use std::time::{Duration, Instant};
+use std::{
+    hint::black_box,
+    time::{Duration, Instant},
+};
 
 /// Timed runs of each side. The best counts, since anything else on the machine only adds time.
 const RUNS: usize = 60;
@@ -10,8 +13,8 @@ const RUN: Duration = Duration::from_millis(4);
 
 pub fn head() {
     println!(
-        "{:<32} {:>9} {:>9} {:>9}",
-        "ns per call", "port", "rust", "port/rust"
+        "{:<32} {:>9} {:>9} {:>9} {:>9} {:>10}",
+        "ns per call", "port", "rust", "port/rust", "floor", "port/floor"
     );
 }
 
@@ -22,6 +25,40 @@ pub fn race(name: &str, calls: usize, port: impl FnMut(), rust: impl FnMut()) ->
     port
 }
 
+/// The same beside a floor, which is the least that anyone could do with the same bytes: to copy them, or to look at each. How many
+/// times the floor the port's time is stands behind it.
+pub fn race_above(
+    name: &str,
+    calls: usize,
+    port: impl FnMut(),
+    rust: impl FnMut(),
+    floor: impl FnMut(),
+) -> f64 {
+    let [port, rust] = best(calls, port, rust);
+    let floor = best_alone(floor) / calls as f64;
+    let (ratio, multiple) = (port / rust, port / floor);
+    println!("{name:<32} {port:>9.2} {rust:>9.2} {ratio:>9.2} {floor:>9.2} {multiple:>10.2}");
+    port
+}
+
+/// The floor of what reads or writes these bytes: a copy of them.
+pub fn copying(bytes: Vec<u8>) -> impl FnMut() {
+    let mut copy = vec![0; bytes.len()];
+    move || {
+        copy.copy_from_slice(black_box(&bytes));
+        black_box(&copy);
+    }
+}
+
+/// The floor of what tests these texts: a look at each byte.
+pub fn looking(texts: &[Vec<u8>]) -> impl FnMut() {
+    move || {
+        for text in texts {
+            black_box(black_box(text).iter().fold(0, |all, byte| all | byte));
+        }
+    }
+}
+
 /// Prints the port's best time for one call of the first kind, of the second, and the first divided by the second.
 pub fn compare(name: &str, calls: usize, first: impl FnMut(), second: impl FnMut()) {
     let [first, second] = best(calls, first, second);
@@ -30,14 +67,19 @@ pub fn compare(name: &str, calls: usize, first: impl FnMut(), second: impl FnMut
 }
 
 /// Prints the port's best time for a call that the Rust is not asked.
-pub fn alone(name: &str, mut port: impl FnMut()) {
-    let passes = passes_for_a_run(&mut port);
-    let times = (0..RUNS).map(|_| time(passes, &mut port));
-    let best = times.min().unwrap_or_default().as_nanos() as f64 / passes as f64;
+pub fn alone(name: &str, port: impl FnMut()) {
+    let best = best_alone(port);
     println!(
         "{name:<32} {best:>9.2}, or {:.1} microseconds",
         best / 1000.0
     );
+}
+
+/// The best time of a pass.
+pub fn best_alone(mut side: impl FnMut()) -> f64 {
+    let passes = passes_for_a_run(&mut side);
+    let times = (0..RUNS).map(|_| time(passes, &mut side));
+    times.min().unwrap_or_default().as_nanos() as f64 / passes as f64
 }
 
 /// Prints the best time of so many processes.

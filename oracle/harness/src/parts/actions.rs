@@ -293,7 +293,7 @@ fn time(name: &str, count: usize, value: fn(usize) -> TypedData) {
         actions.push(records::set_var(name, value));
     }
     let (mut lent, mut at) = (vec![0; 16_384], 0);
-    let port = || {
+    let mut port = || {
         black_box(port::write_actions(
             [true, false],
             [1, 2],
@@ -305,8 +305,11 @@ fn time(name: &str, count: usize, value: fn(usize) -> TypedData) {
             &mut at,
         ));
         black_box((&lent, &at));
+        at
     };
-    timing::race(name, 1, port, Frame::ack(1, 2, actions).race());
+    let floor = timing::copying(vec![1; port() as usize]);
+    let ack = Frame::ack(1, 2, actions);
+    timing::race_above(name, 1, || _ = port(), ack.race(), floor);
 }
 
 /// The refusals are the paper's, and the bytes are compared here.

@@ -4,6 +4,7 @@
 use crate::{
     answers::{self, Answer},
     counts::ENOUGH,
+    growth,
     inputs::{self, Random},
     port::{self, MESSAGE_WIDTH, PAIR_WIDTH},
     reader::{
@@ -365,10 +366,13 @@ pub fn bench(_: &mut Random) {
     time_records("as records, 200 arguments", &long_notify());
     time_records("as records, 50 messages", &messages());
     time_records("as records, HAPROXY-HELLO", &hello());
+    growth::bench();
 }
 
 fn time(name: &str, frame: &[u8]) {
-    let nanoseconds = timing::race(name, 1, port_reads(frame, 1), rust_reads(frame, 1));
+    let sides = (port_reads(frame, 1), rust_reads(frame, 1));
+    let floor = timing::copying(frame.to_vec());
+    let nanoseconds = timing::race_above(name, 1, sides.0, sides.1, floor);
     timing::rate(frame.len() as u64, nanoseconds);
 }
 

@@ -373,7 +373,8 @@ pub fn bench(_: &mut Random) {
         },
         payload: Payload::Pairs(map),
     };
-    timing::race("write_kv, AGENT-HELLO", 1, port, frame.race());
+    let floor = timing::copying(call.expected().expect("this frame is written"));
+    timing::race_above("write_kv, AGENT-HELLO", 1, port, frame.race(), floor);
 }
 
 /// The writers' answers are the paper's and the Rust's map has no order, so there is no list of them.

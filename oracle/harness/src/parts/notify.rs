@@ -565,7 +565,7 @@ fn time(name: &str, arguments: Vec<(String, TypedData)>) {
         actions.push(records::set_var(key, value));
     }
     let (mut lent, mut at) = (vec![0; 16_384], 0);
-    let port = || {
+    let mut port = || {
         black_box(port::write_notify(
             [true, false],
             [1, 2],
@@ -579,9 +579,13 @@ fn time(name: &str, arguments: Vec<(String, TypedData)>) {
             &mut at,
         ));
         black_box((&lent, &at));
+        at
     };
-    let nanoseconds = timing::race(name, 1, port, Frame::ack(1, 2, actions).race());
-    timing::rate(at, nanoseconds);
+    let length = port();
+    let floor = timing::copying(vec![1; length as usize]);
+    let ack = Frame::ack(1, 2, actions);
+    let nanoseconds = timing::race_above(name, 1, || _ = port(), ack.race(), floor);
+    timing::rate(length, nanoseconds);
 }
 
 /// The Rust writes no such frame, so it has no answers to list.

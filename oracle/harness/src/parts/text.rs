@@ -258,8 +258,16 @@ pub fn bench(random: &mut Random) {
         time_lossy(&format!("lossy_text, {name}"), texts);
     }
     for (name, texts) in &sets {
-        time_sameness(&format!("same_text, {name}"), texts);
+        time_sameness(&format!("same_text, {name}"), texts, &texts.to_vec());
     }
+    let (name, texts) = &sets[2];
+    let others: Vec<Vec<u8>> = texts.iter().map(|text| other_end(text)).collect();
+    time_sameness(&format!("same_text, {name}, other"), texts, &others);
+}
+
+/// The text with another end, so that both are walked to it and are not the same.
+fn other_end(text: &[u8]) -> Vec<u8> {
+    [&text[..text.len() - 1], b"#"].concat()
 }
 
 fn texts(random: &mut Random, length: usize, add: fn(&mut Random, &mut Vec<u8>)) -> Vec<Vec<u8>> {
@@ -331,7 +339,7 @@ fn time_form(name: &str, texts: &[Vec<u8>]) {
             black_box(rust_form(black_box(text)));
         }
     };
-    timing::race(name, texts.len(), port, rust);
+    timing::race_above(name, texts.len(), port, rust, timing::looking(texts));
 }
 
 fn time_lossy(name: &str, texts: &[Vec<u8>]) {
@@ -350,24 +358,23 @@ fn time_lossy(name: &str, texts: &[Vec<u8>]) {
             black_box(&filled);
         }
     };
-    timing::race(name, texts.len(), port, rust);
+    timing::race_above(name, texts.len(), port, rust, timing::looking(texts));
 }
 
-/// Each text with a copy of it, which has to be walked to its end.
-fn time_sameness(name: &str, texts: &[Vec<u8>]) {
-    let copies = texts.to_vec();
+/// Each text with the other of its number.
+fn time_sameness(name: &str, texts: &[Vec<u8>], others: &[Vec<u8>]) {
     let port = || {
-        for (text, copy) in texts.iter().zip(&copies) {
-            black_box(port::same_text(black_box(text), black_box(copy)));
+        for (text, other) in texts.iter().zip(others) {
+            black_box(port::same_text(black_box(text), black_box(other)));
         }
     };
     let rust_sameness: fn(&[u8], &[u8]) -> bool = black_box(rust_sameness);
     let rust = || {
-        for (text, copy) in texts.iter().zip(&copies) {
-            black_box(rust_sameness(black_box(text), black_box(copy)));
+        for (text, other) in texts.iter().zip(others) {
+            black_box(rust_sameness(black_box(text), black_box(other)));
         }
     };
-    timing::race(name, texts.len(), port, rust);
+    timing::race_above(name, texts.len(), port, rust, timing::looking(texts));
 }
 
 // ---------------------------------------------------------------- the list
