@@ -581,7 +581,7 @@ fn copy(s: &[u8], out: &mut [u8])
 pub fn same_text(a: &[u8], b: &[u8]) -> bool
     ensures { λ r. ⌜ SameText (now (a .entry)) (now (b .entry)) r ⌝ }
 {
-    // Texts that are asked about are mostly the same bytes.
+    // The same bytes have the same lossy text, and a comparison of blocks tells them.
     if surely_same(a, b) {
         return true;
     }
