@@ -556,6 +556,21 @@ static inline uint64_t spop_build_ack(const struct spop_builder *b, struct spop_
     return spop_put_ack(ids, spop_inner_pool(b), b->actions, b->action_count, out, limit, at);
 }
 
+/* Any of the three by the frame's type. A HELLO or a DISCONNECT has both ids 0, and others are 14 at 0. */
+static inline uint64_t spop_write(const struct spop_builder *b, uint64_t type, struct spop_ids ids, struct spop_room out,
+                                  uint32_t limit, uint64_t *at)
+{
+    if (type == SPOP_NOTIFY)
+        return spop_build_notify(b, ids, out, limit, at);
+    if (type == SPOP_ACK)
+        return spop_build_ack(b, ids, out, limit, at);
+    if (ids.stream_id != 0 || ids.frame_id != 0) {
+        *at = 0;
+        return SPOP_NOT_WRITABLE;
+    }
+    return spop_build_kv(b, type, out, limit, at);
+}
+
 /* A frame that is read, with the tables that it is read into. */
 struct spop_frame {
     struct spop_message *messages;

@@ -235,6 +235,42 @@ static void ack_of_every_kind(void)
     give_back(&l);
 }
 
+/* One call for every type: it writes what the type's own call writes. */
+static void by_type(void)
+{
+    struct lent l;
+    uint8_t out[64], other[64];
+    uint64_t at, number;
+
+    lend(&l, 16, 1, 1, 1);
+    spop_add_message(&l.b, "m");
+    spop_add_u32(&l.b, "k", 7);
+    number = spop_write(&l.b, SPOP_NOTIFY, spop_ids_of(1, 2), spop_room_of(out, sizeof out), SPOP_AGREED_FRAME, &at);
+    answered("write of a NOTIFY", number, at, SPOP_DONE, 18);
+    check("write of a NOTIFY writes", is_hex(out, at, "0000000e 03 00000001 01 02 01 6d 01 01 6b 03 07"));
+    number = spop_write(&l.b, SPOP_ACK, spop_ids_of(1, 2), spop_room_of(out, sizeof out), SPOP_AGREED_FRAME, &at);
+    answered("write of an ACK of arguments", number, at, SPOP_NOT_WRITABLE, 0);
+    spop_builder_clear(&l.b);
+    spop_set_u32(&l.b, SPOP_SCOPE_REQUEST, "k", 7);
+    number = spop_write(&l.b, SPOP_ACK, spop_ids_of(1, 2), spop_room_of(out, sizeof out), SPOP_AGREED_FRAME, &at);
+    answered("write of an ACK", number, at, SPOP_DONE, 18);
+    check("write of an ACK writes", is_hex(out, at, "0000000e 67 00000001 01 02 01 03 03 01 6b 03 07"));
+    spop_builder_clear(&l.b);
+    spop_add_u32(&l.b, "k", 7);
+    number = spop_write(&l.b, SPOP_AGENT_HELLO, spop_ids_of(0, 0), spop_room_of(out, sizeof out), SPOP_AGREED_FRAME, &at);
+    answered("write of an AGENT-HELLO", number, at, SPOP_DONE, 15);
+    check("write of an AGENT-HELLO writes", is_hex(out, at, "0000000b 65 00000001 00 00 01 6b 03 07"));
+    memcpy(other, out, sizeof out);
+    number = spop_write(&l.b, SPOP_AGENT_HELLO, spop_ids_of(1, 0), spop_room_of(out, sizeof out), SPOP_AGREED_FRAME, &at);
+    answered("write of an AGENT-HELLO with a stream id", number, at, SPOP_NOT_WRITABLE, 0);
+    number = spop_write(&l.b, SPOP_AGENT_HELLO, spop_ids_of(0, 1), spop_room_of(out, sizeof out), SPOP_AGREED_FRAME, &at);
+    answered("write of an AGENT-HELLO with a frame id", number, at, SPOP_NOT_WRITABLE, 0);
+    number = spop_write(&l.b, 4, spop_ids_of(0, 0), spop_room_of(out, sizeof out), SPOP_AGREED_FRAME, &at);
+    answered("write of type 4", number, at, SPOP_NOT_WRITABLE, 0);
+    check("a refused write changes nothing", memcmp(other, out, sizeof out) == 0);
+    give_back(&l);
+}
+
 /* Each kind of data is what its getter gives back, and a pair's value is what its numbers say. */
 static void data(void)
 {
@@ -502,6 +538,7 @@ int main(void)
     notify_of_every_kind();
     kv_of_every_kind();
     ack_of_every_kind();
+    by_type();
     one_over("a message over the table's room", UPLOAD_POOL, 1, 4, A_MESSAGE, SPOP_TABLE_FULL, 1);
     one_over("a pair over the table's room", UPLOAD_POOL, 1, 4, A_PAIR, SPOP_TABLE_FULL, 4);
     one_over("a key over the pool's room", UPLOAD_POOL, 1, 5, A_KEY, SPOP_NO_ROOM, 4);
