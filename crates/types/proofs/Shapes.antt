@@ -86,14 +86,18 @@ numbered-bit k h =
     one-of (λ (j : ℕ). eqb (828 / 2 ^ j % 2) 1 ≡ numbered (shape j)) 16
     (refl, (refl, (refl, (refl, (refl, (refl, (refl, (refl, (refl, (refl, (refl, (refl, (refl, (refl, (refl, (refl, tt)))))))))))))))) k h
 
--- of the others these are the ones that have a line
-pub unnumbered-left : (k : ℕ) → numbered (shape k) ≡ false → (k ≡ 0 → ⊥) → (k ≡ 1 → ⊥) → (k ≡ 6 → ⊥) → (k ≡ 7 → ⊥) → shape k ≡ reserved
-unnumbered-left k none n0 n1 n6 n7 =
-    shape-cases k (λ e is. absurd (n0 e)) (λ e is. absurd (n1 e)) (λ w l g is. absurd (true≢false (sym (ap numbered is) ∙ none)))
-    (λ n l g is. ⊎-elim (λ h. absurd (n6 (omega arith))) (λ h. absurd (n7 (omega arith))) (lt-or-le k 7))
-    (λ l g is. absurd (true≢false (sym (ap numbered is) ∙ none))) (λ l is. is)
+-- the others are null and a bool, then the addresses, then those that have no line
+pub unnumbered-bool : (k : ℕ) → numbered (shape k) ≡ false → (k ≡ 0 → ⊥) → k < 6 → shape k ≡ flag
+unnumbered-bool k none n0 h =
+    shape-cases k (λ e is. absurd (n0 e)) (λ e is. is) (λ w l g is. absurd (true≢false (sym (ap numbered is) ∙ none)))
+    (λ n l g is. absurd (omega arith)) (λ l g is. absurd (omega arith)) (λ l is. absurd (omega arith))
 
--- and of these the integers are below 6
+pub unnumbered-left : (k : ℕ) → numbered (shape k) ≡ false → 8 ≤ k → shape k ≡ reserved
+unnumbered-left k none h =
+    shape-cases k (λ e is. absurd (omega arith)) (λ e is. absurd (omega arith)) (λ w l g is. absurd (omega arith))
+    (λ n l g is. absurd (omega arith)) (λ l g is. absurd (true≢false (sym (ap numbered is) ∙ none))) (λ l is. is)
+
+-- of the kinds with a number the integers are below 6
 pub numbered-integer : (k : ℕ) → numbered (shape k) ≡ true → k < 6 → 2 ≤ k
 numbered-integer k some h =
     shape-cases k (λ e is. absurd (true≢false (sym some ∙ ap numbered is))) (λ e is. absurd (true≢false (sym some ∙ ap numbered is))) (λ w l g is. l)

@@ -164,12 +164,33 @@ fn bytes_value(kind: u64, flags: u64, n: u64, taken: usize, input: &[u8]) -> Typ
     }
 }
 
-// Reads a value of another kind.
+// How many bytes an address has.
+fn address_len(kind: u64) -> usize
+    requires { ⌜ (6 ≤ kind) × (kind < 8) ⌝ }
+    ensures { λ r. ⌜ shape kind ≡ address r ⌝ }
+{
+    if kind == 6 {
+        return 4;
+    }
+    16
+}
+
+// Reads a value of another kind: null, a bool or an address. They are told apart by their order, since a test for each number becomes
+// a table of jumps, which takes longer.
 fn read_other(kind: u64, flags: u64, input: &[u8]) -> Typed
     requires { ⌜ 0 < length (now input) ⌝ }
     requires { ⌜ numbered (shape kind) ≡ false ⌝ }
     ensures { λ r. ⌜ ReadsKind kind flags (now (input .entry)) (typedRead r) ⌝ }
 {
+    if 8 <= kind {
+        return Typed::Refused(Refusal {
+            number: NO_TYPE,
+            place: 1,
+        });
+    }
+    if 6 <= kind {
+        return read_address(kind, address_len(kind), flags, input);
+    }
     if kind == 0 {
         return Typed::Done {
             value: Value {
@@ -181,25 +202,13 @@ fn read_other(kind: u64, flags: u64, input: &[u8]) -> Typed
             used: 1,
         };
     }
-    if kind == 1 {
-        return Typed::Done {
-            value: Value {
-                kind,
-                a: flags % 2,
-                b: 0,
-                flags: 0,
-            },
-            used: 1,
-        };
+    Typed::Done {
+        value: Value {
+            kind,
+            a: flags % 2,
+            b: 0,
+            flags: 0,
+        },
+        used: 1,
     }
-    if kind == 6 {
-        return read_address(6, 4, flags, input);
-    }
-    if kind == 7 {
-        return read_address(7, 16, flags, input);
-    }
-    Typed::Refused(Refusal {
-        number: NO_TYPE,
-        place: 1,
-    })
 }
