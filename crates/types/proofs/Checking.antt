@@ -1,5 +1,5 @@
 -- Laws about the checks: how they unroll, and that a value which passes them has its written form.
-use mathlib.Core.Path.{_≡_, refl, ap}
+use mathlib.Core.Path.{_≡_, refl, sym, ap, _∙_}
 use mathlib.Core.Bool.{true, false, not, _||_}
 use mathlib.Core.List.{List}
 use Prim.Native.Nat.{ℕ, _+_, _≤_}
@@ -66,6 +66,22 @@ module _ (buffer : List ℕ) (v : Record) where
 
   pub value-part : writableRecord v ≡ true → first (valueChecks buffer v) ≡ first (partChecks buffer v)
   value-part h = first-holds 14 (writableRecord v) (partChecks buffer v) h
+
+-- past the fields a value is not refused with 14, so that number tells of them
+module _ (buffer : List ℕ) (kind a b flags : ℕ) where
+  not-fields : first (partChecks buffer (value kind a b flags)) ≡ 14 → ⊥
+  unfolding inOrder
+  not-fields e =
+      bool-cases (ranged buffer (value kind a b flags))
+      (λ t. bool-cases (not (eqb kind 8) || isUtf8 (part buffer a b)) (λ u. let z = (rw (t, u) at e) in omega arith) (λ u. let z = (rw (t, u) at e) in omega arith))
+      (λ t. let z = (rw t at e) in omega arith)
+
+  pub value-unwritable : first (valueChecks buffer (value kind a b flags)) ≡ 14 → writableRecord (value kind a b flags) ≡ false
+  value-unwritable e =
+      bool-cases (writableRecord (value kind a b flags)) (λ t. absurd (not-fields (sym (value-part buffer (value kind a b flags) t) ∙ e))) (λ t. t)
+
+  pub value-writable : (first (valueChecks buffer (value kind a b flags)) ≡ 14 → ⊥) → writableRecord (value kind a b flags) ≡ true
+  value-writable ne = bool-cases (writableRecord (value kind a b flags)) (λ t. t) (λ t. absurd (ne (value-fields buffer (value kind a b flags) t)))
 
 -- Law: what passes the second check is in range, and a string's text is UTF-8.
 pub part-passed : (buffer : List ℕ) (kind a b flags : ℕ) → first (partChecks buffer (value kind a b flags)) ≡ 0

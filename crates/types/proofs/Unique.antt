@@ -11,7 +11,8 @@ use Rattle.types.specs.declared.Text.the-variants as t
 use Rattle.types.specs.declared.Value.{Value}
 use Rattle.types.specs.declared.Typed.{Typed}
 use Rattle.types.specs.declared.Typed.the-variants as v
-use Rattle.types.specs.Promise.{textRead, typedRead, ReadString, TypedData, Writable, CheckString, CheckPart, CheckValue, ValueLen, WriteString, WriteValue}
+use Rattle.types.specs.declared.Measured.{Measured}
+use Rattle.types.specs.Promise.{textRead, typedRead, ReadString, TypedData, Writable, CheckString, CheckPart, CheckValue, ValueLen, MeasureValue, WriteString, WriteValue}
 
 -- answers that say the same are the same
 pub textRead-same : (a b : Text) → textRead a ≡ textRead b → a ≡ b
@@ -46,6 +47,12 @@ check-part-unique v buffer r q p o = one-only p o
 
 pub check-value-unique : (v : Value) (buffer : List ℕ) (r q : ℕ) → CheckValue v buffer r → CheckValue v buffer q → r ≡ q
 check-value-unique v buffer r q p o = one-only p o
+
+pub measured-same : (a b : Measured) → a .number ≡ b .number → a .len ≡ b .len → a ≡ b
+measured-same a b e f = λ i. record { number = e i; len = f i }
+
+pub measure-value-unique : (v : Value) (buffer : List ℕ) (r q : Measured) → MeasureValue v buffer r → MeasureValue v buffer q → r ≡ q
+measure-value-unique v buffer r q p o = measured-same r q (one-only (p .0) (o .0)) (one-only (p .1) (o .1))
 
 pub value-len-unique : (v : Value) (buffer : List ℕ) (r q : ℕ) → ValueLen v buffer r → ValueLen v buffer q → r ≡ q
 value-len-unique v buffer r q p o = one-only p o

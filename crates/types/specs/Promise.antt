@@ -4,6 +4,7 @@ use Rattle.types.specs.declared.Text.the-variants as t
 use Rattle.types.specs.declared.Value.{Value}
 use Rattle.types.specs.declared.Typed.{Typed}
 use Rattle.types.specs.declared.Typed.the-variants as v
+use Rattle.types.specs.declared.Measured.{Measured}
 use mathlib.Core.Path.{_≡_}
 use mathlib.Core.Bool.{Bool}
 use mathlib.Core.List.{List}
@@ -12,9 +13,9 @@ use lib.ListN.{length}
 use Rattle.answer.specs.declared.Written.{Written}
 use Rattle.answer.specs.Answer.{Answer, done, refused, written, within}
 use Rattle.answer.specs.Writes.{Writes}
-use Rattle.answer.specs.Order.{first}
+use Rattle.answer.specs.Order.{first, after}
 use Rattle.types.specs.Value.{Span, span, string, Record, value, typed}
-use Rattle.types.specs.Form.{stringBytes, writableRecord, valueAnswer, lengthOf}
+use Rattle.types.specs.Form.{stringBytes, valueBytes, writableRecord, valueAnswer, lengthOf}
 use Rattle.types.specs.Check.{stringChecks, partChecks, valueChecks}
 
 -- what the string reader's answer says
@@ -55,6 +56,12 @@ CheckValue v buffer r = r ≡ first (valueChecks buffer (recordOf v))
 
 abbrev pub ValueLen : Value → List ℕ → ℕ → Type 0
 ValueLen v buffer r = r ≡ lengthOf (valueAnswer buffer (recordOf v))
+
+-- both the number and the length, 0 where there is a number
+abbrev pub MeasureValue : Value → List ℕ → Measured → Type 0
+MeasureValue v buffer r =
+    (r .number ≡ first (valueChecks buffer (recordOf v)))
+    × (r .len ≡ lengthOf (after (valueChecks buffer (recordOf v)) (written (valueBytes buffer (recordOf v)))))
 
 -- what is written at the front of old, which is new afterwards
 abbrev pub WriteString : List ℕ → Written → List ℕ → List ℕ → Type 0

@@ -12,6 +12,7 @@ pub use check::check_value;
 pub use check::writable;
 pub use read::read_string;
 pub use read::typed_data;
+pub use write::measure_value;
 pub use write::value_len;
 pub use write::write_string;
 pub use write::write_value;
@@ -45,6 +46,13 @@ pub const VALUE_WIDTH: usize = 4;
 pub enum Typed {
     Done { value: Value, used: usize },
     Refused(Refusal),
+}
+
+// What checking and measuring a value finds: the number it is refused with, 0 for none, and how many bytes its written form has, 0 where it
+// is refused.
+pub struct Measured {
+    pub number: u64,
+    pub len: u64,
 }
 
 // The low 32 bits, the highest of them repeated above: what a reader keeps of an i32, and what its number has to be where one is written.

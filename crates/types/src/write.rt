@@ -1,5 +1,7 @@
 // Strings and values, measured and written at the front of some bytes.
+use crate::Measured;
 use crate::Value;
+use crate::check::check_value;
 use crate::check::in_range;
 use crate::check::part_inside;
 use crate::check::writable;
@@ -18,7 +20,7 @@ ghost use Rattle.answer.specs.Answer.{written, leaves};
 ghost use Rattle.varint.specs.Number.{numberBytes};
 ghost use Rattle.types.specs.Value.{address, shape};
 ghost use Rattle.types.specs.Form.{stringBytes, dataBytes, typeOf, writableRecord};
-ghost use Rattle.types.specs.Promise.{recordOf, ValueLen, WriteString, WriteValue};
+ghost use Rattle.types.specs.Promise.{recordOf, ValueLen, MeasureValue, WriteString, WriteValue};
 ghost use Rattle.types.specs.Inner.{Puts, PutsValue, WhyNot, block};
 
 // How many bytes the written form of a value has; 0 where it has none.
@@ -34,7 +36,21 @@ pub fn value_len(value: Value, buffer: &[u8]) -> usize
     form_len(value)
 }
 
-// The same of a value that has one.
+// Checks a value and measures its written form, so that who needs both looks at its record once.
+pub fn measure_value(value: Value, buffer: &[u8]) -> Measured
+    ensures { λ r. ⌜ MeasureValue value (now (buffer .entry)) r ⌝ }
+{
+    let number = check_value(value, buffer);
+    if number != 0 {
+        return Measured { number, len: 0 };
+    }
+    Measured {
+        number: 0,
+        len: form_len(value) as u64,
+    }
+}
+
+// How many bytes the written form of a value has that has one.
 fn form_len(value: Value) -> usize
     requires { ⌜ writableRecord (recordOf value) ≡ true ⌝ }
     requires { ⌜ value .b < 2 ^ 63 ⌝ }

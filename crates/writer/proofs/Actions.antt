@@ -1,5 +1,5 @@
 -- Laws about actions: how their checks and their written forms unroll.
-use mathlib.Core.Path.{_≡_, refl, ap, _∙_}
+use mathlib.Core.Path.{_≡_, refl, sym, ap, subst, _∙_}
 use mathlib.Core.Bool.{true, false}
 use mathlib.Core.List.{List, _∷_}
 use Prim.Native.Nat.{ℕ, _+_, _≤_, _<_}
@@ -12,11 +12,13 @@ use Rattle.answer.specs.Order.{first}
 use Rattle.answer.proofs.Cases.{bool-cases, true-false}
 use Rattle.answer.proofs.Order.{first-fails, first-holds, first-passed}
 use Rattle.types.specs.Form.{stringBytes}
+use Rattle.types.specs.declared.Measured.{Measured}
 use Rattle.types.specs.Promise.{recordOf}
 use Rattle.frame.specs.declared.Action.{Action}
 use Rattle.frame.specs.Records.{actionAt, keyOf}
 use Rattle.writer.specs.Pair.{pairBytes, pairChecks}
 use Rattle.writer.specs.Action.{noValue, actionWritable, actionBytes, actionChecks, actionRefusal}
+use Rattle.writer.specs.Inner.{capped, Measures}
 use Rattle.types.proofs.Writing.{string-long}
 use Rattle.writer.proofs.Pairs.{formed-passed}
 
@@ -73,3 +75,10 @@ module _ (buffer : List ℕ) (x : Action) where
 pub action-number : (buffer actions : List ℕ) (i : ℕ) → actionRefusal buffer actions i ≡ first (actionChecks buffer (actionAt actions i))
 unfolding actionRefusal
 action-number buffer actions i = refl
+
+-- what measuring action i of a table found
+pub measured-action : (buffer actions : List ℕ) (i : ℕ) {most : ℕ} {r : Measured} (x : Action) → x ≡ actionAt actions i → Measures (actionChecks buffer x) most (actionBytes buffer x) r
+    → (actionRefusal buffer actions i ≡ r .number) × (r .number ≡ 0 → r .len ≡ capped most (length (actionBytes buffer (actionAt actions i))))
+measured-action buffer actions i {most} {r} x e m =
+    let there = subst (λ (y : Action). Measures (actionChecks buffer y) most (actionBytes buffer y) r) e m in
+    (action-number buffer actions i ∙ sym (there .number), there .len)

@@ -1,5 +1,5 @@
 -- Laws about pairs: how their checks and bytes unroll, and what a pair that passes them has.
-use mathlib.Core.Path.{_≡_, refl, sym, ap, _∙_}
+use mathlib.Core.Path.{_≡_, refl, sym, ap, subst, _∙_}
 use mathlib.Core.Bool.{true, false}
 use mathlib.Core.List.{List, [], _++_}
 use Prim.Native.Nat.{ℕ, _+_, _-_, _*_, _≤_, _<_}
@@ -15,20 +15,17 @@ use Rattle.answer.proofs.Order.{Numbered, first-fails, first-holds, first-passe
 use Rattle.answer.proofs.Parts.{room-counted, room-leaves}
 use Rattle.varint.specs.Number.{numberBytes}
 use Rattle.types.specs.Value.{Record, value}
-use Rattle.types.specs.Form.{part, stringBytes, valueBytes, writableRecord, ranged, valueAnswer, lengthOf}
+use Rattle.types.specs.Form.{part, stringBytes, valueBytes, writableRecord, ranged, valueAnswer}
 use Rattle.types.specs.Check.{stringChecks, partChecks}
 use Rattle.types.specs.declared.Value.{Value}
+use Rattle.types.specs.declared.Measured.{Measured}
 use Rattle.types.specs.Promise.{recordOf, WriteString, WriteValue}
 use Rattle.types.proofs.Writing.{part-lent, string-long, form-whole}
 use Rattle.types.proofs.Checking.{string-passed, string-range, part-passed}
 use Rattle.frame.specs.declared.Pair.{Pair}
 use Rattle.frame.specs.Records.{pairWidth, pairAt, keyOf, sameKey}
 use Rattle.writer.specs.Pair.{pairBytes, pairChecks, pairRefusal, newKey, kvRefusal}
-use Rattle.writer.specs.Inner.{Formed, FormedRun}
-
--- a value that passes has its written form's length
-pub value-long : (buffer : List ℕ) (v : Record) → writableRecord v ≡ true → ranged buffer v ≡ true → lengthOf (valueAnswer buffer v) ≡ length (valueBytes buffer v)
-value-long buffer v h r = ap lengthOf (form-whole buffer v h r)
+use Rattle.writer.specs.Inner.{capped, Measures, Formed, FormedRun}
 
 -- ---- a pair's checks, line by line
 
@@ -78,6 +75,13 @@ module _ (buffer pairs : List ℕ) (i : ℕ) where
   pub pair-number : pairRefusal buffer pairs i ≡ first (pairChecks buffer (pairAt pairs i))
   unfolding pairRefusal
   pair-number = refl
+
+  -- what measuring it found
+  pub measured-at : {most : ℕ} {r : Measured} (x : Pair) → x ≡ pairAt pairs i → Measures (pairChecks buffer x) most (pairBytes buffer x) r
+      → (pairRefusal buffer pairs i ≡ r .number) × (r .number ≡ 0 → r .len ≡ capped most (length (pairBytes buffer (pairAt pairs i))))
+  measured-at {most} {r} x e m =
+      let there = subst (λ (y : Pair). Measures (pairChecks buffer y) most (pairBytes buffer y) r) e m in
+      (pair-number ∙ sym (there .number), there .len)
 
   pub formed-at : pairRefusal buffer pairs i ≡ 0 → Formed buffer (pairAt pairs i)
   formed-at e = formed-passed buffer (pairAt pairs i) (sym pair-number ∙ e)

@@ -6,8 +6,9 @@ use Prim.Native.Nat.{ℕ, _+_, _*_, _≤_, _<_}
 use lib.Dec.{leb}
 use lib.ListN.{length}
 use Rattle.answer.specs.Answer.{Answer, written}
-use Rattle.answer.specs.Order.{after, firstRefused}
+use Rattle.answer.specs.Order.{Check, first, after, firstRefused}
 use Rattle.types.specs.Form.{writableRecord, ranged}
+use Rattle.types.specs.declared.Measured.{Measured}
 use Rattle.types.specs.Promise.{recordOf}
 use Rattle.frame.specs.declared.Head.{Head}
 use Rattle.frame.specs.declared.Pair.{Pair}
@@ -20,6 +21,11 @@ use Rattle.writer.specs.Pair.{pairRefusal}
 -- a length as far as it matters: `most` and one more stands for all that is over it
 unfoldable pub capped : ℕ → ℕ → ℕ
 capped most n = cond (leb n most) n (most + 1)
+
+-- What checking and measuring one record found: the number that it is refused with, and where that is 0, how many bytes it has.
+pub record Measures (checks : List Check) (most : ℕ) (bytes : List ℕ) (r : Measured) : Type 0 where
+  pub number : r .number ≡ first checks
+  pub len : r .number ≡ 0 → r .len ≡ capped most (length bytes)
 
 -- What a loop that checks and measures so many records found: the first that is refused, and where none is, how many bytes they have.
 pub record Checks (number : ℕ → ℕ) (count most : ℕ) (bytes : List ℕ) (r : Checked) : Type 0 where

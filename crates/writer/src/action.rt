@@ -3,8 +3,7 @@ use crate::Checked;
 use crate::begin_frame;
 use crate::cap;
 use crate::fin_alone;
-use crate::pair::check_pair;
-use crate::pair::pair_len;
+use crate::pair::measure_pair;
 use crate::pair::put_pair;
 use answer::NOT_WRITABLE;
 use answer::OUTSIDE;
@@ -16,6 +15,7 @@ use frame::Head;
 use frame::Pair;
 use frame::SET_VAR;
 use frame::UNSET_VAR;
+use types::Measured;
 use types::Value;
 ghost use mathlib.Core.Path.{_≡_};
 ghost use mathlib.Core.List.{[], _∷_};
@@ -30,7 +30,7 @@ ghost use Rattle.frame.specs.Records.{actionWidth, actionAt};
 ghost use Rattle.writer.specs.Action.{noValue, actionWritable, actionBytes, actionChecks, actionRefusal};
 ghost use Rattle.writer.specs.Frame.{limited, actionsBytes};
 ghost use Rattle.writer.specs.Promise.{WriteActions};
-ghost use Rattle.writer.specs.Inner.{capped, Checks};
+ghost use Rattle.writer.specs.Inner.{capped, Measures, Checks};
 
 // Record i of a table of actions.
 fn action_at(actions: &[u64], i: usize) -> Action
@@ -86,26 +86,34 @@ fn action_writable(action: Action) -> bool
     no_value(action.pair.value)
 }
 
-// What an action is refused with: 14, 16 or 15, the first that holds; else 0.
-fn check_action(action: Action, buffer: &[u8]) -> u64
-    ensures { λ r. ⌜ r ≡ firstOf (actionChecks (now (buffer .entry)) action) ⌝ }
+// What an action is refused with: 14, 16 or 15, the first that holds; else 0, and how many bytes its written form has, as far as it matters.
+fn measure_action(action: Action, buffer: &[u8], most: u32) -> Measured
+    ensures { λ r. ⌜ Measures (actionChecks (now (buffer .entry)) action) most (actionBytes (now (buffer .entry)) action) r ⌝ }
 {
     if !action_writable(action) {
-        return NOT_WRITABLE;
+        return Measured {
+            number: NOT_WRITABLE,
+            len: 0,
+        };
     }
-    check_pair(action.pair, buffer)
-}
-
-// How many bytes the written form of an action has, as far as it matters.
-fn action_len(action: Action, buffer: &[u8], most: u32) -> u64
-    requires { ⌜ firstOf (actionChecks (now buffer) action) ≡ 0 ⌝ }
-    ensures { λ r. ⌜ r ≡ capped most (length (actionBytes (now (buffer .entry)) action)) ⌝ }
-{
+    let pair = measure_pair(action.pair, buffer, most);
+    if pair.number != 0 {
+        return Measured {
+            number: pair.number,
+            len: 0,
+        };
+    }
     if action.verb == SET_VAR {
-        return cap(3 + pair_len(action.pair, buffer, most), most);
+        return Measured {
+            number: 0,
+            len: cap(3 + pair.len, most),
+        };
     }
-    let len = action.pair.len;
-    cap(3 + (varint::varint_len(len) as u64 + len), most)
+    let name = action.pair.len;
+    Measured {
+        number: 0,
+        len: cap(3 + (varint::varint_len(name) as u64 + name), most),
+    }
 }
 
 // The first action that is refused, or how many bytes all have.
@@ -117,14 +125,15 @@ fn check_actions(actions: &[u64], count: usize, buffer: &[u8], most: u32) -> Che
     let mut i = 0;
     while i < count {
         let action = action_at(actions, i);
-        let number = check_action(action, buffer);
+        let own = measure_action(action, buffer, most);
+        let number = own.number;
         if number != 0 {
             return Checked {
                 refusal: Refusal { number, place: i },
                 len: 0,
             };
         }
-        len = cap(len + action_len(action, buffer, most), most);
+        len = cap(len + own.len, most);
         i += 1;
     }
     Checked {

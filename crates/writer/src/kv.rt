@@ -3,9 +3,8 @@ use crate::Checked;
 use crate::begin_frame;
 use crate::cap;
 use crate::fin_alone;
-use crate::pair::check_pair;
+use crate::pair::measure_pair;
 use crate::pair::pair_at;
-use crate::pair::pair_len;
 use crate::pair::put_pairs;
 use answer::MET_TWICE;
 use answer::NOT_WRITABLE;
@@ -67,7 +66,8 @@ fn check_pairs(pairs: &[u64], count: usize, buffer: &[u8], most: u32) -> Checked
     let mut i = 0;
     while i < count {
         let pair = pair_at(pairs, i);
-        let number = check_pair(pair, buffer);
+        let own = measure_pair(pair, buffer, most);
+        let number = own.number;
         if number != 0 {
             return Checked {
                 refusal: Refusal { number, place: i },
@@ -83,7 +83,7 @@ fn check_pairs(pairs: &[u64], count: usize, buffer: &[u8], most: u32) -> Checked
                 len: 0,
             };
         }
-        len = cap(len + pair_len(pair, buffer, most), most);
+        len = cap(len + own.len, most);
         i += 1;
     }
     Checked {

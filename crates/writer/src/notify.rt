@@ -5,9 +5,8 @@ use crate::Checked;
 use crate::begin_frame;
 use crate::cap;
 use crate::fin_alone;
-use crate::pair::check_pair;
+use crate::pair::measure_pair;
 use crate::pair::pair_at;
-use crate::pair::pair_len;
 use crate::pair::put_pairs;
 use answer::NOT_WRITABLE;
 use answer::OUTSIDE;
@@ -131,14 +130,15 @@ fn check_arguments(pairs: &[u64], count: usize, buffer: &[u8], most: u32) -> Che
     let mut i = 0;
     while i < count {
         let pair = pair_at(pairs, i);
-        let number = check_pair(pair, buffer);
+        let own = measure_pair(pair, buffer, most);
+        let number = own.number;
         if number != 0 {
             return Checked {
                 refusal: Refusal { number, place: i },
                 len: 0,
             };
         }
-        len = cap(len + pair_len(pair, buffer, most), most);
+        len = cap(len + own.len, most);
         i += 1;
     }
     Checked {

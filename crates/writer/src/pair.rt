@@ -3,16 +3,16 @@ use crate::cap;
 use answer::NOT_WRITABLE;
 use frame::PAIR_WIDTH;
 use frame::Pair;
+use types::Measured;
 use types::Value;
 ghost use mathlib.Core.Path.{_≡_};
 ghost use Prim.Native.Nat.{_+_, _*_, _≤_};
 ghost use lib.ListN.{length};
 ghost use Rattle.answer.specs.Answer.{written, leaves};
-ghost use Rattle.answer.specs.Order.{first as firstOf};
 ghost use Rattle.answer.specs.Table.{records, joined};
 ghost use Rattle.frame.specs.Records.{pairWidth, pairAt};
 ghost use Rattle.writer.specs.Pair.{pairBytes, pairChecks};
-ghost use Rattle.writer.specs.Inner.{capped, Formed, FormedRun};
+ghost use Rattle.writer.specs.Inner.{Measures, Formed, FormedRun};
 
 // Record i of a table of pairs.
 pub(crate) fn pair_at(pairs: &[u64], i: usize) -> Pair
@@ -32,27 +32,31 @@ pub(crate) fn pair_at(pairs: &[u64], i: usize) -> Pair
     }
 }
 
-// What a pair on its own is refused with: 14, 16 or 15, the first that holds; else 0.
-pub(crate) fn check_pair(pair: Pair, buffer: &[u8]) -> u64
-    ensures { λ r. ⌜ r ≡ firstOf (pairChecks (now (buffer .entry)) pair) ⌝ }
+// What a pair on its own is refused with: 14, 16 or 15, the first that holds; else 0, and how many bytes its written form has, as far as it
+// matters.
+pub(crate) fn measure_pair(pair: Pair, buffer: &[u8], most: u32) -> Measured
+    ensures { λ r. ⌜ Measures (pairChecks (now (buffer .entry)) pair) most (pairBytes (now (buffer .entry)) pair) r ⌝ }
 {
-    if !types::writable(pair.value) {
-        return NOT_WRITABLE;
+    let value = types::measure_value(pair.value, buffer);
+    let number = value.number;
+    if number == NOT_WRITABLE {
+        return Measured { number, len: 0 };
     }
     let key = types::check_string(pair.start, pair.len, buffer);
     if key != 0 {
-        return key;
+        return Measured {
+            number: key,
+            len: 0,
+        };
     }
-    types::check_part(pair.value, buffer)
-}
-
-// How many bytes the written form of a pair has, as far as it matters.
-pub(crate) fn pair_len(pair: Pair, buffer: &[u8], most: u32) -> u64
-    requires { ⌜ Formed (now buffer) pair ⌝ }
-    ensures { λ r. ⌜ r ≡ capped most (length (pairBytes (now (buffer .entry)) pair)) ⌝ }
-{
-    let key = cap(varint::varint_len(pair.len) as u64 + pair.len, most);
-    cap(key + types::value_len(pair.value, buffer) as u64, most)
+    if number != 0 {
+        return Measured { number, len: 0 };
+    }
+    let key_len = cap(varint::varint_len(pair.len) as u64 + pair.len, most);
+    Measured {
+        number: 0,
+        len: cap(key_len + value.len, most),
+    }
 }
 
 // Writes a pair that has a written form, where there is room.

@@ -1,17 +1,15 @@
 -- `writer::action::check_actions` meets its contract: the loop checks and measures one record after the other.
 -- Assumes nothing.
 use borrow.Author.Needs.{needs}
-use mathlib.Core.Path.{_≡_, sym, ap, _∙_}
+use mathlib.Core.Path.{_≡_, _∙_}
 use Prim.Native.Nat.{_-_, _≤_}
 use native.Mathlib.Omega.{arith}
 use lib.ListN.{length}
-use Rattle.answer.specs.Order.{first}
-use Rattle.frame.specs.declared.Action.{Action}
 use Rattle.frame.specs.Records.{actionAt}
-use Rattle.writer.specs.Action.{actionBytes, actionChecks, actionRefusal}
+use Rattle.writer.specs.Action.{actionBytes, actionRefusal}
 use Rattle.writer.specs.Inner.{capped}
 use Rattle.writer.proofs.Capped.{capped-most}
-use Rattle.writer.proofs.Actions.{action-number}
+use Rattle.writer.proofs.Actions.{measured-action}
 use Rattle.writer.proofs.Checking.{Checking, checking-none, checking-small, checking-on, checking-here, checking-all}
 use Rattle.writer.proofs.action.check_actions.Statement.{statement}
 use Rattle.writer.proofs.action.check_actions.Tie as tie
@@ -32,38 +30,34 @@ loop-holds c = (omega arith, checking-none _ _ _ _)
 action-at-requires : tie.Need-action-at-requires Inv-loop μ-loop
 action-at-requires c κs = omega (arith, start c .pre, c .loop-test .taken)
 
-check-action-requires : tie.Need-check-action-requires Inv-loop μ-loop
-check-action-requires c κs = search needs
+measure-action-requires : tie.Need-measure-action-requires Inv-loop μ-loop
+measure-action-requires c κs = search needs
 
--- what the check of action i found
-own : (c : tie.After-check-action Inv-loop μ-loop)
+-- what measuring action i found
+own : (c : tie.After-measure-action Inv-loop μ-loop)
     → let t = c .before .before in
     let a = start t .args in
-    actionRefusal (a .buffer .now) (a .actions .now) (t .before .loop .i) ≡ c .check-action .result
+    let i = t .before .loop .i in
+    let r = c .measure-action .result in
+    (actionRefusal (a .buffer .now) (a .actions .now) i ≡ r .number) × (r .number ≡ 0 → r .len ≡ capped (a .most) (length (actionBytes (a .buffer .now) (actionAt (a .actions .now) i))))
 own c =
     let t = c .before .before in
     let a = start t .args in
-    action-number (a .buffer .now) (a .actions .now) (t .before .loop .i)
-    ∙ sym (c .check-action .ensures ∙ ap (λ (x : Action). first (actionChecks (a .buffer .now) x)) (c .before .action-at .ensures))
+    measured-action (a .buffer .now) (a .actions .now) (t .before .loop .i) (c .before .action-at .result) (c .before .action-at .ensures) (c .measure-action .ensures)
 
 returns : tie.Need-returns Inv-loop μ-loop
 returns c =
     let k = c .before in
     let t = k .before .before in
-    checking-here (t .before .loop .inv .1) _ _ (t .loop-test .taken) (own k) (c .if1 .taken) _
-
-action-len-requires : tie.Need-action-len-requires Inv-loop μ-loop
-action-len-requires c κs = sym (c .before .check-action .ensures) ∙ c .if1 .left
+    checking-here (t .before .loop .inv .1) _ _ (t .loop-test .taken) (own k .0) (c .if1 .taken) _
 
 -- and how long it is
-length-is : (c : tie.After-action-len Inv-loop μ-loop)
-    → let t = c .before .before .before .before in
+length-is : (c : tie.After-struct-known Inv-loop μ-loop)
+    → let m = c .before .before in
+    let t = m .before .before in
     let a = start t .args in
-    c .action-len .result ≡ capped (a .most) (length (actionBytes (a .buffer .now) (actionAt (a .actions .now) (t .before .loop .i))))
-length-is c =
-    let g = c .before .before .before in
-    let a = start (g .before) .args in
-    c .action-len .ensures ∙ ap (λ (x : Action). capped (a .most) (length (actionBytes (a .buffer .now) x))) (g .action-at .ensures)
+    m .measure-action .result .len ≡ capped (a .most) (length (actionBytes (a .buffer .now) (actionAt (a .actions .now) (t .before .loop .i))))
+length-is c = let e = c .before in own (e .before) .1 (e .if1 .left)
 
 add-cap : tie.Need-add-cap Inv-loop μ-loop
 add-cap c =
@@ -86,7 +80,7 @@ loop-again c =
     let e = l .before in
     let t = e .before .before .before in (
       omega (arith, t .loop-test .taken),
-      checking-on (t .before .loop .inv .1) (own (e .before) ∙ e .if1 .left) (l .action-len .result) (c .cap .result) (length-is l) (c .cap .ensures),
+      checking-on (t .before .loop .inv .1) (own (e .before) .0 ∙ e .if1 .left) (e .before .measure-action .result .len) (c .cap .result) (length-is l) (c .cap .ensures),
     )
 
 returns-2 : tie.Need-returns-2 Inv-loop μ-loop
@@ -100,9 +94,8 @@ check-actions-spec =
     μ-loop
     loop-holds
     action-at-requires
-    check-action-requires
+    measure-action-requires
     returns
-    action-len-requires
     add-cap
     cap-requires
     add-i

@@ -1,18 +1,16 @@
 -- `writer::kv::check_pairs` meets its contract: the loop checks and measures one record after the other, each key against those before.
 -- Assumes nothing.
 use borrow.Author.Needs.{needs}
-use mathlib.Core.Path.{_≡_, sym, ap, _∙_}
+use mathlib.Core.Path.{_≡_, sym, _∙_}
 use Prim.Native.Nat.{_-_, _≤_}
 use native.Mathlib.Omega.{arith}
 use lib.ListN.{length}
-use Rattle.answer.specs.Order.{first}
 use Rattle.answer.proofs.Order.{sound-on}
-use Rattle.frame.specs.declared.Pair.{Pair}
 use Rattle.frame.specs.Records.{pairAt}
-use Rattle.writer.specs.Pair.{pairBytes, pairChecks, pairRefusal, kvRefusal}
+use Rattle.writer.specs.Pair.{pairBytes, pairRefusal, kvRefusal}
 use Rattle.writer.specs.Inner.{capped}
 use Rattle.writer.proofs.Capped.{capped-most}
-use Rattle.writer.proofs.Pairs.{pair-number, formed-passed, kv-own, kv-met, kv-new, kv-sound}
+use Rattle.writer.proofs.Pairs.{measured-at, kv-own, kv-met, kv-new, kv-sound}
 use Rattle.writer.proofs.Checking.{Checking, checking-none, checking-small, checking-on, checking-here, checking-all}
 use Rattle.writer.proofs.kv.check_pairs.Statement.{statement}
 use Rattle.writer.proofs.kv.check_pairs.Tie as tie
@@ -33,32 +31,33 @@ loop-holds c = (omega arith, checking-none _ _ _ _)
 pair-at-requires : tie.Need-pair-at-requires Inv-loop μ-loop
 pair-at-requires c κs = omega (arith, start c .pre, c .loop-test .taken)
 
-check-pair-requires : tie.Need-check-pair-requires Inv-loop μ-loop
-check-pair-requires c κs = search needs
+measure-pair-requires : tie.Need-measure-pair-requires Inv-loop μ-loop
+measure-pair-requires c κs = search needs
 
--- what the check of pair i found
-own : (c : tie.After-check-pair Inv-loop μ-loop)
+-- what measuring pair i found
+own : (c : tie.After-measure-pair Inv-loop μ-loop)
     → let t = c .before .before in
     let a = start t .args in
-    pairRefusal (a .buffer .now) (a .pairs .now) (t .before .loop .i) ≡ c .check-pair .result
+    let i = t .before .loop .i in
+    let r = c .measure-pair .result in
+    (pairRefusal (a .buffer .now) (a .pairs .now) i ≡ r .number) × (r .number ≡ 0 → r .len ≡ capped (a .most) (length (pairBytes (a .buffer .now) (pairAt (a .pairs .now) i))))
 own c =
     let t = c .before .before in
     let a = start t .args in
-    pair-number (a .buffer .now) (a .pairs .now) (t .before .loop .i)
-    ∙ sym (c .check-pair .ensures ∙ ap (λ (x : Pair). first (pairChecks (a .buffer .now) x)) (c .before .pair-at .ensures))
+    measured-at (a .buffer .now) (a .pairs .now) (t .before .loop .i) (c .before .pair-at .result) (c .before .pair-at .ensures) (c .measure-pair .ensures)
 
 returns : tie.Need-returns Inv-loop μ-loop
 returns c =
     let k = c .before in
     let t = k .before .before in
-    checking-here (t .before .loop .inv .1) _ _ (t .loop-test .taken) (kv-own _ _ _ _ (own k) (c .if1 .taken)) (c .if1 .taken) _
+    checking-here (t .before .loop .inv .1) _ _ (t .loop-test .taken) (kv-own _ _ _ _ (own k .0) (c .if1 .taken)) (c .if1 .taken) _
 
 -- past the first test it is not refused on its own, and no record before it is
 passed : (e : tie.Else1 Inv-loop μ-loop)
     → let t = e .before .before .before in
     let a = start t .args in
     pairRefusal (a .buffer .now) (a .pairs .now) (t .before .loop .i) ≡ 0
-passed e = own (e .before) ∙ e .if1 .left
+passed e = own (e .before) .0 ∙ e .if1 .left
 
 key-met-requires : tie.Need-key-met-requires Inv-loop μ-loop
 key-met-requires c κs =
@@ -72,18 +71,13 @@ returns-2 c =
     let t = e .before .before .before in
     checking-here (t .before .loop .inv .1) _ 9 (t .loop-test .taken) (kv-met _ _ _ (passed e) (sym (m .key-met .ensures) ∙ c .if2 .taken)) (λ z. omega arith) _
 
-pair-len-requires : tie.Need-pair-len-requires Inv-loop μ-loop
-pair-len-requires c κs = let e = c .before .before in formed-passed _ _ (sym (e .before .check-pair .ensures) ∙ e .if1 .left)
-
 -- and how long it is
-length-is : (c : tie.After-pair-len Inv-loop μ-loop)
-    → let t = c .before .before .before .before .before .before in
+length-is : (c : tie.After-struct-known Inv-loop μ-loop)
+    → let m = c .before .before .before .before in
+    let t = m .before .before in
     let a = start t .args in
-    c .pair-len .result ≡ capped (a .most) (length (pairBytes (a .buffer .now) (pairAt (a .pairs .now) (t .before .loop .i))))
-length-is c =
-    let g = c .before .before .before .before .before in
-    let a = start (g .before) .args in
-    c .pair-len .ensures ∙ ap (λ (x : Pair). capped (a .most) (length (pairBytes (a .buffer .now) x))) (g .pair-at .ensures)
+    m .measure-pair .result .len ≡ capped (a .most) (length (pairBytes (a .buffer .now) (pairAt (a .pairs .now) (t .before .loop .i))))
+length-is c = let e = c .before .before .before in own (e .before) .1 (e .if1 .left)
 
 add-cap : tie.Need-add-cap Inv-loop μ-loop
 add-cap c =
@@ -107,7 +101,7 @@ loop-again c =
     let e = n .before .before in
     let t = e .before .before .before in (
       omega (arith, t .loop-test .taken),
-      checking-on (t .before .loop .inv .1) (kv-new _ _ _ (passed e) (sym (n .before .key-met .ensures) ∙ n .if2 .left)) (l .pair-len .result) (c .cap .result) (length-is l) (c .cap .ensures),
+      checking-on (t .before .loop .inv .1) (kv-new _ _ _ (passed e) (sym (n .before .key-met .ensures) ∙ n .if2 .left)) (e .before .measure-pair .result .len) (c .cap .result) (length-is l) (c .cap .ensures),
     )
 
 returns-3 : tie.Need-returns-3 Inv-loop μ-loop
@@ -121,11 +115,10 @@ check-pairs-spec =
     μ-loop
     loop-holds
     pair-at-requires
-    check-pair-requires
+    measure-pair-requires
     returns
     key-met-requires
     returns-2
-    pair-len-requires
     add-cap
     cap-requires
     add-i

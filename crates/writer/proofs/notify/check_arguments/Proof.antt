@@ -1,17 +1,15 @@
 -- `writer::notify::check_arguments` meets its contract: the loop checks and measures one record after the other.
 -- Assumes nothing.
 use borrow.Author.Needs.{needs}
-use mathlib.Core.Path.{_≡_, sym, ap, _∙_}
+use mathlib.Core.Path.{_≡_, _∙_}
 use Prim.Native.Nat.{_-_, _≤_}
 use native.Mathlib.Omega.{arith}
 use lib.ListN.{length}
-use Rattle.answer.specs.Order.{first}
-use Rattle.frame.specs.declared.Pair.{Pair}
 use Rattle.frame.specs.Records.{pairAt}
-use Rattle.writer.specs.Pair.{pairBytes, pairChecks, pairRefusal}
+use Rattle.writer.specs.Pair.{pairBytes, pairRefusal}
 use Rattle.writer.specs.Inner.{capped}
 use Rattle.writer.proofs.Capped.{capped-most}
-use Rattle.writer.proofs.Pairs.{pair-number, formed-passed}
+use Rattle.writer.proofs.Pairs.{measured-at}
 use Rattle.writer.proofs.Checking.{Checking, checking-none, checking-small, checking-on, checking-here, checking-all}
 use Rattle.writer.proofs.notify.check_arguments.Statement.{statement}
 use Rattle.writer.proofs.notify.check_arguments.Tie as tie
@@ -32,38 +30,34 @@ loop-holds c = (omega arith, checking-none _ _ _ _)
 pair-at-requires : tie.Need-pair-at-requires Inv-loop μ-loop
 pair-at-requires c κs = omega (arith, start c .pre, c .loop-test .taken)
 
-check-pair-requires : tie.Need-check-pair-requires Inv-loop μ-loop
-check-pair-requires c κs = search needs
+measure-pair-requires : tie.Need-measure-pair-requires Inv-loop μ-loop
+measure-pair-requires c κs = search needs
 
--- what the check of pair i found
-own : (c : tie.After-check-pair Inv-loop μ-loop)
+-- what measuring pair i found
+own : (c : tie.After-measure-pair Inv-loop μ-loop)
     → let t = c .before .before in
     let a = start t .args in
-    pairRefusal (a .buffer .now) (a .pairs .now) (t .before .loop .i) ≡ c .check-pair .result
+    let i = t .before .loop .i in
+    let r = c .measure-pair .result in
+    (pairRefusal (a .buffer .now) (a .pairs .now) i ≡ r .number) × (r .number ≡ 0 → r .len ≡ capped (a .most) (length (pairBytes (a .buffer .now) (pairAt (a .pairs .now) i))))
 own c =
     let t = c .before .before in
     let a = start t .args in
-    pair-number (a .buffer .now) (a .pairs .now) (t .before .loop .i)
-    ∙ sym (c .check-pair .ensures ∙ ap (λ (x : Pair). first (pairChecks (a .buffer .now) x)) (c .before .pair-at .ensures))
+    measured-at (a .buffer .now) (a .pairs .now) (t .before .loop .i) (c .before .pair-at .result) (c .before .pair-at .ensures) (c .measure-pair .ensures)
 
 returns : tie.Need-returns Inv-loop μ-loop
 returns c =
     let k = c .before in
     let t = k .before .before in
-    checking-here (t .before .loop .inv .1) _ _ (t .loop-test .taken) (own k) (c .if1 .taken) _
-
-pair-len-requires : tie.Need-pair-len-requires Inv-loop μ-loop
-pair-len-requires c κs = formed-passed _ _ (sym (c .before .check-pair .ensures) ∙ c .if1 .left)
+    checking-here (t .before .loop .inv .1) _ _ (t .loop-test .taken) (own k .0) (c .if1 .taken) _
 
 -- and how long it is
-length-is : (c : tie.After-pair-len Inv-loop μ-loop)
-    → let t = c .before .before .before .before in
+length-is : (c : tie.After-struct-known Inv-loop μ-loop)
+    → let m = c .before .before in
+    let t = m .before .before in
     let a = start t .args in
-    c .pair-len .result ≡ capped (a .most) (length (pairBytes (a .buffer .now) (pairAt (a .pairs .now) (t .before .loop .i))))
-length-is c =
-    let g = c .before .before .before in
-    let a = start (g .before) .args in
-    c .pair-len .ensures ∙ ap (λ (x : Pair). capped (a .most) (length (pairBytes (a .buffer .now) x))) (g .pair-at .ensures)
+    m .measure-pair .result .len ≡ capped (a .most) (length (pairBytes (a .buffer .now) (pairAt (a .pairs .now) (t .before .loop .i))))
+length-is c = let e = c .before in own (e .before) .1 (e .if1 .left)
 
 add-cap : tie.Need-add-cap Inv-loop μ-loop
 add-cap c =
@@ -86,7 +80,7 @@ loop-again c =
     let e = l .before in
     let t = e .before .before .before in (
       omega (arith, t .loop-test .taken),
-      checking-on (t .before .loop .inv .1) (own (e .before) ∙ e .if1 .left) (l .pair-len .result) (c .cap .result) (length-is l) (c .cap .ensures),
+      checking-on (t .before .loop .inv .1) (own (e .before) .0 ∙ e .if1 .left) (e .before .measure-pair .result .len) (c .cap .result) (length-is l) (c .cap .ensures),
     )
 
 returns-2 : tie.Need-returns-2 Inv-loop μ-loop
@@ -100,9 +94,8 @@ check-arguments-spec =
     μ-loop
     loop-holds
     pair-at-requires
-    check-pair-requires
+    measure-pair-requires
     returns
-    pair-len-requires
     add-cap
     cap-requires
     add-i

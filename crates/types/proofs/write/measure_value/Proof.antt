@@ -1,0 +1,59 @@
+-- `types::write::measure_value` meets its contract: a value that passes its checks has its written form, and `form_len` says how long.
+-- Assumes nothing.
+use borrow.Author.Needs.{needs}
+use mathlib.Core.Path.{_≡_, sym, ap, _∙_}
+use mathlib.Core.Bool.{true}
+use native.Mathlib.Omega.{arith}
+use lib.ListN.{length}
+use Rattle.answer.specs.Answer.{written}
+use Rattle.answer.specs.Order.{first}
+use Rattle.answer.proofs.Order.{unless-refused, unless-none}
+use Rattle.types.specs.Form.{part, valueBytes, writableRecord, ranged, lengthOf}
+use Rattle.types.specs.Check.{valueChecks}
+use Rattle.types.specs.Promise.{recordOf}
+use Rattle.types.proofs.Checking.{passed}
+use Rattle.types.proofs.Writing.{value-bytes, part-whole, part-small}
+use Rattle.types.proofs.write.measure_value.Statement.{statement}
+use Rattle.types.proofs.write.measure_value.Tie as tie
+
+check-value-requires : tie.Need-check-value-requires
+check-value-requires c κs = search needs
+
+returns : tie.Need-returns
+returns c =
+    let a = c .before .before .before .args in
+    let is = c .before .check-value .ensures in (
+      is,
+      sym (ap lengthOf (unless-refused (record { number = first (valueChecks (a .buffer .now) (recordOf (a .value))); place = 0 }) (written (valueBytes (a .buffer .now) (recordOf (a .value)))) (λ z. c .if1 .taken (is ∙ z)))),
+    )
+
+-- what the check says
+well : (c : tie.Else1) → let a = c .before .before .before .args in first (valueChecks (a .buffer .now) (recordOf (a .value))) ≡ 0
+well c = sym (c .before .check-value .ensures) ∙ c .if1 .left
+
+fields : (c : tie.Else1) → writableRecord (recordOf (c .before .before .before .args .value)) ≡ true
+fields c = let a = c .before .before .before .args in
+    passed (a .buffer .now) (a .value .kind) (a .value .a) (a .value .b) (a .value .flags) (well c) .0
+
+range : (c : tie.Else1) → ranged (c .before .before .before .args .buffer .now) (recordOf (c .before .before .before .args .value)) ≡ true
+range c = let a = c .before .before .before .args in
+    passed (a .buffer .now) (a .value .kind) (a .value .a) (a .value .b) (a .value .flags) (well c) .1
+
+form-len-requires : tie.Need-form-len-requires
+form-len-requires c κs =
+    let s = c .before .before .before in
+    let v = s .args .value in
+    (fields c, part-small (s .args .buffer .now) (v .kind) (v .a) (v .b) (v .flags) (fields c) (range c) (omega (arith, s .good)))
+
+returns-2 : tie.Need-returns-2
+returns-2 c =
+    let e = c .before in
+    let a = e .before .before .before .args in
+    let v = a .value in (
+      sym (well e),
+      c .form-len .ensures (part (a .buffer .now) (v .a) (v .b)) (part-whole (a .buffer .now) (v .kind) (v .a) (v .b) (v .flags) (fields e) (range e))
+          ∙ sym (ap lengthOf (unless-none (record { number = first (valueChecks (a .buffer .now) (recordOf v)); place = 0 }) (written (valueBytes (a .buffer .now) (recordOf v))) (well e)) ∙ ap length (value-bytes (a .buffer .now) (v .kind) (v .a) (v .b) (v .flags))),
+    )
+
+pub measure-value-spec : {M : Type 1} → statement M
+measure-value-spec = tie.close (tie.spec check-value-requires returns form-len-requires returns-2)
