@@ -131,14 +131,16 @@ static bool built(struct connection *c, uint64_t number, uint64_t at)
 /* Whether 2.0 is a version for a text as "2.0, 1.5". Of a longer one the front is looked at. */
 static bool version_fits(struct spop_bytes announced)
 {
-    struct spop_version versions[8], version;
+    struct spop_announced versions[8];
+    struct spop_version version;
     char text[64] = "", *rest = text, *word;
     size_t count = 0;
 
     memcpy(text, announced.start, announced.len < sizeof text ? announced.len : sizeof text - 1);
     while (count < SPOP_COUNT(versions) && (word = strsep(&rest, ",")) != NULL) {
         versions[count].patch = 0;
-        if (sscanf(word, "%4" SCNu64 ".%4" SCNu64, &versions[count].major, &versions[count].minor) == 2)
+        versions[count].pre_release = word[strcspn(word, "-+")] == '-';
+        if (sscanf(word, "%4" SCNu64 ".%4" SCNu64 ".%4" SCNu64, &versions[count].major, &versions[count].minor, &versions[count].patch) >= 2)
             count++;
     }
     return spop_choose_version(versions, count, &version);

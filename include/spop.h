@@ -126,7 +126,8 @@ enum {
     SPOP_VALUE_WIDTH = 4,
     SPOP_MESSAGE_WIDTH = 4,
     SPOP_PAIR_WIDTH = 6,
-    SPOP_ACTION_WIDTH = 8
+    SPOP_ACTION_WIDTH = 8,
+    SPOP_VERSION_WIDTH = 4
 };
 
 /* The numbers of records by name, in the order of the tables. A table of records is lent as the table of numbers that it is: a
@@ -181,7 +182,15 @@ struct spop_head {
     uint64_t pair_count;
 };
 
-/* The three numbers of a version. */
+/* An announced version's four numbers. The last is 0 exactly where it has no pre-release part: of 2.0.0-rc.1 it is any other. */
+struct spop_announced {
+    uint64_t major;
+    uint64_t minor;
+    uint64_t patch;
+    uint64_t pre_release;
+};
+
+/* The three numbers of the version that is chosen. */
 struct spop_version {
     uint64_t major;
     uint64_t minor;
@@ -200,6 +209,7 @@ SPOP_HOLDS(spop_message_is_four_numbers, sizeof(struct spop_message) == SPOP_MES
 SPOP_HOLDS(spop_pair_is_six_numbers, sizeof(struct spop_pair) == SPOP_PAIR_WIDTH * sizeof(uint64_t));
 SPOP_HOLDS(spop_action_is_eight_numbers, sizeof(struct spop_action) == SPOP_ACTION_WIDTH * sizeof(uint64_t));
 SPOP_HOLDS(spop_head_is_six_numbers, sizeof(struct spop_head) == 6 * sizeof(uint64_t));
+SPOP_HOLDS(spop_announced_is_four_numbers, sizeof(struct spop_announced) == SPOP_VERSION_WIDTH * sizeof(uint64_t));
 SPOP_HOLDS(spop_version_is_three_numbers, sizeof(struct spop_version) == 3 * sizeof(uint64_t));
 #undef SPOP_HOLDS
 
@@ -388,8 +398,9 @@ uint64_t spop_write_notify(bool fin, bool abort, uint64_t stream_id, uint64_t fr
 /* The frame size that both sides can keep to: 0 with *at the smaller one, or 13 where either is under 256. */
 uint64_t spop_negotiate_max_frame_size(uint32_t theirs, uint32_t ours, uint64_t *at);
 
-/* Each three numbers of versions are an announced version (major, minor, patch); one or two left over are not read. True where
- * one of them has the major number 2, and then version is set to 2, 0, 0; else it stays. */
+/* Each four numbers of versions are an announced version, as struct spop_announced has them; one to three left over are not read.
+ * True where one of them has the major number 2 and does not rank below 2.0.0, as 2.0.0-rc.1 does: its last number is 0, or its
+ * minor or patch is above 0. Then version is set to 2, 0, 0; else it stays. */
 bool spop_negotiate_version(const uint64_t *versions, size_t versions_len, uint64_t version[3]);
 
 /* The helpers. Each is one of the calls above, with its answer, and takes the structs: bytes have their length with them, and a
@@ -652,9 +663,9 @@ static inline uint64_t spop_put_notify(struct spop_ids ids, struct spop_bytes bu
 }
 
 /* spop_negotiate_version. */
-static inline bool spop_choose_version(const struct spop_version *versions, size_t version_count, struct spop_version *version)
+static inline bool spop_choose_version(const struct spop_announced *versions, size_t version_count, struct spop_version *version)
 {
-    return spop_negotiate_version(spop_inner_const_numbers(versions), spop_inner_len(versions, version_count, 3),
+    return spop_negotiate_version(spop_inner_const_numbers(versions), spop_inner_len(versions, version_count, SPOP_VERSION_WIDTH),
                                   (uint64_t *)(void *)version);
 }
 

@@ -314,16 +314,18 @@ static void notify(void)
 
 static void hello(void)
 {
-    static const uint64_t announced[] = {1, 0, 0, 2, 5, 1}, old[] = {1, 2, 3, 2, 2};
+    static const uint64_t announced[] = {1, 0, 0, 0, 2, 5, 1, 0}, old[] = {1, 2, 3, 2, 2, 0, 0}, candidates[] = {2, 0, 0, 1, 2, 1, 0, 1};
     uint64_t version[3] = {7, 7, 7}, at, number;
 
     number = spop_negotiate_max_frame_size(SPOP_AGREED_FRAME, 256, &at);
     answered("negotiate_max_frame_size", number, at, SPOP_DONE, 256);
     number = spop_negotiate_max_frame_size(SPOP_AGREED_FRAME, 255, &at);
     answered("negotiate_max_frame_size of 255", number, at, SPOP_SIZE_TOO_SMALL, 0);
-    check("negotiate_version without a 2", !spop_negotiate_version(old, 5, version) && version[0] == 7 && version[2] == 7);
-    check("negotiate_version", spop_negotiate_version(announced, 6, version) && version[0] == 2 && version[1] == 0 &&
+    check("negotiate_version without a 2", !spop_negotiate_version(old, 7, version) && version[0] == 7 && version[2] == 7);
+    check("negotiate_version of a release candidate", !spop_negotiate_version(candidates, 7, version) && version[0] == 7);
+    check("negotiate_version", spop_negotiate_version(announced, 8, version) && version[0] == 2 && version[1] == 0 &&
           version[2] == 0);
+    check("negotiate_version of a candidate above it", spop_negotiate_version(candidates, 8, version) && version[0] == 2);
 }
 
 int main(void)

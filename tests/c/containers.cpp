@@ -22,7 +22,7 @@ static void empty()
     std::vector<spop_message> messages;
     std::vector<spop_pair> pairs;
     std::vector<spop_action> actions;
-    std::vector<spop_version> versions;
+    std::vector<spop_announced> versions;
     spop_head head = spop_head();
     spop_version version = {7, 7, 7};
     spop_builder b;

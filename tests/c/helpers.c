@@ -21,6 +21,8 @@ static void layout(void)
     check("a head", PLACE(spop_head, type) == 0 && PLACE(spop_head, flags) == 1 && PLACE(spop_head, stream_id) == 2 &&
           PLACE(spop_head, frame_id) == 3 && PLACE(spop_head, message_count) == 4 && PLACE(spop_head, pair_count) == 5 &&
           sizeof(struct spop_head) == 48);
+    check("an announced version", PLACE(spop_announced, major) == 0 && PLACE(spop_announced, minor) == 1 &&
+          PLACE(spop_announced, patch) == 2 && PLACE(spop_announced, pre_release) == 3 && sizeof(struct spop_announced) == 32);
     check("a version", PLACE(spop_version, major) == 0 && PLACE(spop_version, minor) == 1 && PLACE(spop_version, patch) == 2 &&
           sizeof(struct spop_version) == 24);
 }
@@ -206,10 +208,11 @@ static void write_frames(void)
 
 static void versions(void)
 {
-    static const struct spop_version announced[] = {{1, 9, 9}, {2, 3, 4}};
+    static const struct spop_announced announced[] = {{1, 9, 9, 0}, {2, 0, 0, 1}, {2, 3, 4, 0}};
     struct spop_version version = {7, 7, 7};
 
     check("choose_version without a 2", !spop_choose_version(announced, 1, &version) && version.major == 7 && version.patch == 7);
+    check("choose_version of a release candidate", !spop_choose_version(announced, 2, &version) && version.major == 7);
     check("choose_version of null", !spop_choose_version(NULL, 0, &version) && version.major == 7);
     check("choose_version", spop_choose_version(announced, SPOP_COUNT(announced), &version) && version.major == 2 &&
           version.minor == 0 && version.patch == 0);

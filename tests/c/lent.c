@@ -190,10 +190,10 @@ static void lent(const char *what, uint64_t answer, uint64_t should, uint64_t a,
 
 /* Each helper, with bytes of 5, room of 6 and tables of so many records. */
 static void lend(struct spop_bytes bytes, struct spop_room room, struct spop_message *messages, struct spop_pair *pairs,
-                 struct spop_action *actions, struct spop_version *versions, bool null)
+                 struct spop_action *actions, struct spop_announced *versions, bool null)
 {
     uint64_t b = null ? 0 : 5, r = null ? 0 : 6;
-    uint64_t m = null ? 0 : 2 * 4, p = null ? 0 : 3 * 6, a = null ? 0 : 4 * 8, v = null ? 0 : 2 * 3;
+    uint64_t m = null ? 0 : 2 * 4, p = null ? 0 : 3 * 6, a = null ? 0 : 4 * 8, v = null ? 0 : 2 * 4;
     struct spop_ids ids = spop_ids_of(81, 82);
     struct spop_value value = {0, 0, 0, 0};
     struct spop_version version;
@@ -225,7 +225,7 @@ int main(void)
     static struct spop_message messages[2];
     static struct spop_pair pairs[3];
     static struct spop_action actions[4];
-    static struct spop_version versions[2];
+    static struct spop_announced versions[2];
 
     lend(spop_bytes_of(memory, 5), spop_room_of(memory, 6), messages, pairs, actions, versions, false);
     lend(spop_bytes_of(NULL, 0), spop_room_of(NULL, 0), NULL, NULL, NULL, NULL, true);

@@ -62,5 +62,6 @@ int main(void)
     SHOW(MESSAGE_WIDTH);
     SHOW(PAIR_WIDTH);
     SHOW(ACTION_WIDTH);
+    SHOW(VERSION_WIDTH);
     return 0;
 }

@@ -259,14 +259,15 @@ def any_cut(scratch):
 def greetings(scratch):
     """HELLO and DISCONNECT by hand, where the agent has nothing against them."""
     agent = Agent(scratch)
-    for versions in (b"2.0", b"1.0, 2.0", b" 2.0 ,1.5", b"2.5"):
+    announced = (b"2.0", b"1.0, 2.0", b" 2.0 ,1.5", b"2.5", b"2.0.0+rc-1", b"2.0.0-rc.1, 2.0.1-rc.1")
+    for versions in announced:
         raw = Raw(agent.port)
         raw.send(wire.hello(versions=versions, healthcheck=(wire.BOOL, False), engine_id=(wire.STRING, b"x")))
         same(f"the answer to versions {versions}", raw.one(), wire.agent_hello(SIZE))
         raw.send(wire.frame(wire.GOODBYE, wire.pair(b"status-code", wire.U32, 2) + wire.pair(b"message", wire.STRING, b"\n")))
         same("the answer to a DISCONNECT", raw.reason(), (0, "normal"))
     said = re.findall(r"^agent: connection \d+: (.*)$", agent.said(), re.M)
-    same("the log", said, ["HAProxy ends it with status 2"] * 4)
+    same("the log", said, ["HAProxy ends it with status 2"] * len(announced))
     raw = Raw(agent.port)
     raw.send(wire.hello(healthcheck=(wire.BOOL, True)))
     same("the answer to a health check, and the end", (raw.one(), raw.one()), (wire.agent_hello(SIZE), None))
@@ -566,6 +567,7 @@ INVALID = [
      "the HELLO has no max-frame-size"),
     ("a HELLO without capabilities", wire.hello(capabilities=None), False, 7, "the HELLO has no capabilities"),
     ("a HELLO of version 1.5", wire.hello(versions=b"1.5"), False, 8, "the HELLO has no version 2"),
+    ("a HELLO of a release candidate", wire.hello(versions=b"2.0.0-rc.1"), False, 8, "the HELLO has no version 2"),
     ("a HELLO of no version", wire.hello(versions=b"two, 2"), False, 8, "the HELLO has no version 2"),
     ("a second HELLO", wire.hello(), True, 4, "a second HELLO"),
     ("a NOTIFY first", wire.frame(wire.NOTIFY, b"", 1, 1), False, 4, "a NOTIFY before the HELLO"),

@@ -80,18 +80,24 @@ class Negotiation(unittest.TestCase):
                 spop.negotiate_max_frame_size(theirs, ours)
 
     def test_the_version(self):
-        self.assertEqual((2, 0, 0), spop.negotiate_version([(1, 0, 0), (2, 3, 4)]))
-        self.assertEqual((2, 0, 0), spop.negotiate_version(iter([[2, 0, 0]])))
-        self.assertIsNone(spop.negotiate_version([(1, 2, 2), (3, 0, 0), (2**64 - 1, 0, 0)]))
+        self.assertEqual((2, 0, 0), spop.negotiate_version([(1, 0, 0, 0), (2, 3, 4, 0)]))
+        self.assertEqual((2, 0, 0), spop.negotiate_version(iter([[2, 0, 0, 0]])))
+        self.assertIsNone(spop.negotiate_version([(1, 2, 2, 2), (3, 0, 0, 0), (2**64 - 1, 0, 0, 0)]))
         self.assertIsNone(spop.negotiate_version([]))
-        self.assertEqual((2, 0, 0), spop.negotiate_version([(1, 0, 0)] * 100 + [(2, 0, 0)]))
+        self.assertEqual((2, 0, 0), spop.negotiate_version([(1, 0, 0, 0)] * 100 + [(2, 0, 0, 0)]))
+
+    def test_a_release_candidate(self):
+        self.assertIsNone(spop.negotiate_version([(2, 0, 0, 1), (2, 0, 0, 2**64 - 1)]))
+        self.assertEqual((2, 0, 0), spop.negotiate_version([(2, 0, 1, 1)]))
+        self.assertEqual((2, 0, 0), spop.negotiate_version([(2, 1, 0, 1)]))
+        self.assertEqual((2, 0, 0), spop.negotiate_version([(2, 0, 0, 1), (2, 0, 0, 0)]))
 
     def test_what_is_no_version(self):
-        for versions in ([(2, 0)], ["2.0"], "2.0", [2, 0, 0]):
+        for versions in ([(2, 0)], [(2, 0, 0)], ["2.0"], "2.0", [2, 0, 0, 0]):
             with self.assertRaises(TypeError):
                 spop.negotiate_version(versions)
         with self.assertRaises(ValueError):
-            spop.negotiate_version([(2**64 + 2, 0, 0)])
+            spop.negotiate_version([(2**64 + 2, 0, 0, 0)])
 
 
 if __name__ == "__main__":

@@ -819,11 +819,15 @@ def negotiate_max_frame_size(theirs: int, ours: int) -> int:
     return at.value
 
 
-def negotiate_version(versions: Iterable[Tuple[int, int, int]]) -> Optional[Tuple[int, int, int]]:
-    """(2, 0, 0) where one of the announced versions, each (major, minor, patch), has the major number 2; else None."""
+def negotiate_version(versions: Iterable[Tuple[int, int, int, int]]) -> Optional[Tuple[int, int, int]]:
+    """(2, 0, 0) where one of the announced versions has the major number 2 and does not rank below 2.0.0; else None.
+
+    Each is (major, minor, patch, pre_release), the last 0 exactly where the version has no pre-release part. With one, its minor or
+    patch is to be above 0: 2.0.0-rc.1 does not count, and 2.1.0-rc.1 does.
+    """
     numbers: List[int] = []
     for announced in _items("versions", versions):
-        parts = _parts("a version is (major, minor, patch)", announced, (3,))
+        parts = _parts("a version is (major, minor, patch, pre_release)", announced, (4,))
         numbers += [_whole("a version's number", part, 64) for part in parts]
     version = (c_uint64 * 3)()
     if not _lib.spop_negotiate_version(_array(_NUMBERS, len(numbers))(*numbers), len(numbers), version):

@@ -464,9 +464,11 @@ pub fn negotiate_max_frame_size(theirs: u32, ours: u32) -> Result<u32, Refusal> 
     told(number, at).map(|size| size as u32)
 }
 
-/// The version to speak, 2.0.0, where one of those that are announced (major, minor, patch) has the major number 2.
+/// The version to speak, 2.0.0, where one of those that are announced has the major number 2 and does not rank below 2.0.0. An
+/// announced version is major, minor, patch, and a number that is 0 exactly where it has no pre-release part; with one, its minor or
+/// patch is to be above 0, so that 2.0.0-rc.1 does not count and 2.1.0-rc.1 does.
 #[inline]
-pub fn negotiate_version(versions: &[[u64; 3]]) -> Option<[u64; 3]> {
+pub fn negotiate_version(versions: &[[u64; sys::VERSION_WIDTH]]) -> Option<[u64; 3]> {
     let (numbers, mut version) = (versions.as_flattened(), [0; 3]);
     // SAFETY: the slice is lent with its length, the version has three numbers, and nothing lent overlaps.
     let chosen = unsafe { sys::spop_negotiate_version(numbers.as_ptr(), numbers.len(), &mut version) };

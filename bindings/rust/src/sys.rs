@@ -9,6 +9,7 @@ pub const VALUE_WIDTH: usize = 4;
 pub const MESSAGE_WIDTH: usize = 4;
 pub const PAIR_WIDTH: usize = 6;
 pub const ACTION_WIDTH: usize = 8;
+pub const VERSION_WIDTH: usize = 4;
 
 /// A pair's six numbers. `kind`, `a`, `b` and `flags` are its value's, as in [`crate::lent::Data`].
 #[repr(C)]

@@ -560,7 +560,10 @@ fn sizes_and_versions_are_negotiated() {
     assert_eq!(lent::negotiate_max_frame_size(256, u32::MAX), Ok(256));
     assert_eq!(lent::negotiate_max_frame_size(255, 256), Err(refused(Refusal::SIZE_TOO_SMALL, 0)));
     assert_eq!(lent::negotiate_max_frame_size(256, 255), Err(refused(Refusal::SIZE_TOO_SMALL, 0)));
-    assert_eq!(lent::negotiate_version(&[[1, 5, 0], [2, 3, 0]]), Some([2, 0, 0]));
-    assert_eq!(lent::negotiate_version(&[[1, 5, 0], [3, 2, 2]]), None);
+    assert_eq!(lent::negotiate_version(&[[1, 5, 0, 0], [2, 3, 0, 0]]), Some([2, 0, 0]));
+    assert_eq!(lent::negotiate_version(&[[1, 5, 0, 0], [3, 2, 2, 2]]), None);
     assert_eq!(lent::negotiate_version(&[]), None);
+    assert_eq!(lent::negotiate_version(&[[2, 0, 0, 1], [2, 0, 0, u64::MAX]]), None, "release candidates of 2.0.0");
+    assert_eq!(lent::negotiate_version(&[[2, 0, 1, 1]]), Some([2, 0, 0]));
+    assert_eq!(lent::negotiate_version(&[[2, u64::MAX, 0, 1]]), Some([2, 0, 0]));
 }

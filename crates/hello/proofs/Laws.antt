@@ -1,14 +1,18 @@
--- Laws about the negotiations: what each test decides, and one announced version after the other.
-use mathlib.Core.Path.{_≡_, refl, sym, ap, _∙_}
-use mathlib.Core.Bool.{Bool, true, false}
-use mathlib.Core.List.{List, [], _∷_}
-use Prim.Native.Nat.{ℕ, _+_, _≤_, _<_, min}
+-- Laws about the negotiations: what each test decides, and what a choice says.
+use mathlib.Core.Path.{_≡_, refl, ap, ap₂, _∙_}
+use mathlib.Core.Bool.{Bool, true, false, cond, _||_}
+use mathlib.Core.List.{List, _∷_}
+use Prim.Native.Nat.{ℕ, suc, _+_, _*_, _/_, _≤_, _<_, min}
 use native.Mathlib.Omega.{arith}
-use lib.ListN.{length, drop, getD, length-drop}
-use lib.Seq.{drop-drop, getD-drop}
+use lib.Dec.{ltb}
+use lib.ListN.{length, getD}
 use borrow.Author.Tests.{le-leb, lt-leb, eq-eqb, ne-eqb}
 use Rattle.answer.specs.Answer.{done, refused}
-use Rattle.hello.specs.Hello.{frameSize, announced, choice, version, none}
+use Rattle.answer.specs.Table.{numberAt, records, some}
+use Rattle.answer.proofs.Cases.{bool-cases}
+use Rattle.answer.proofs.Records.{records-none, records-run, some-none}
+use Rattle.hello.specs.declared.Announced.{Announced}
+use Rattle.hello.specs.Hello.{frameSize, versionWidth, versionAt, covers, announced, choice, version, none}
 
 module _ (theirs ours : ℕ) where
   pub size-theirs : theirs < 256 → frameSize theirs ours ≡ refused 13 0
@@ -23,27 +27,59 @@ module _ (theirs ours : ℕ) where
   unfolding frameSize
   size-both g h = simp (le-leb 256 theirs g, le-leb 256 ours h)
 
--- fewer than three numbers announce nothing
-pub announced-none : (s : List ℕ) → length s < 3 → announced s ≡ false
-unfolding announced
-announced-none [] h = refl
-announced-none (a ∷ []) h = refl
-announced-none (a ∷ b ∷ []) h = refl
-announced-none (a ∷ b ∷ c ∷ s) h = absurd (omega arith)
+-- which announced versions cover 2.0.0
+module _ (v : Announced) where
+  pub covers-other : (v .major ≡ 2 → ⊥) → covers v ≡ false
+  unfolding covers
+  covers-other other = simp (ne-eqb (v .major) 2 other)
 
-pub announced-here : (s : List ℕ) → 3 ≤ length s → getD s 0 0 ≡ 2 → announced s ≡ true
-unfolding announced
-announced-here [] h e = absurd (omega arith)
-announced-here (a ∷ []) h e = absurd (omega arith)
-announced-here (a ∷ b ∷ []) h e = absurd (omega arith)
-announced-here (a ∷ b ∷ c ∷ s) h e = simp (eq-eqb a 2 e)
+  pub covers-normal : v .major ≡ 2 → v .pre ≡ 0 → covers v ≡ true
+  unfolding covers
+  covers-normal two normal = simp (eq-eqb (v .major) 2 two, eq-eqb (v .pre) 0 normal)
 
-pub announced-on : (s : List ℕ) → 3 ≤ length s → (getD s 0 0 ≡ 2 → ⊥) → announced s ≡ announced (drop 3 s)
+  pub covers-candidate : v .major ≡ 2 → (v .pre ≡ 0 → ⊥) → covers v ≡ (ltb 0 (v .minor) || ltb 0 (v .patch))
+  unfolding covers
+  covers-candidate two candidate = simp (eq-eqb (v .major) 2 two, ne-eqb (v .pre) 0 candidate)
+
+-- Law: fewer numbers than a version has announce nothing.
+pub announced-none : (s : List ℕ) → length s < versionWidth → announced s ≡ false
 unfolding announced
-announced-on [] h ne = absurd (omega arith)
-announced-on (a ∷ []) h ne = absurd (omega arith)
-announced-on (a ∷ b ∷ []) h ne = absurd (omega arith)
-announced-on (a ∷ b ∷ c ∷ s) h ne = simp (ne-eqb a 2 ne)
+announced-none s h =
+    let none : length s / versionWidth ≡ 0 = omega arith in
+    ap (λ (n : ℕ). some covers (records (versionAt s) 0 n)) none ∙ ap (some covers) (records-none (versionAt s) 0) ∙ some-none covers
+
+-- Law: the first version is enough, or those behind it decide.
+module _ (v : Announced) (others : List ℕ) where
+  abbrev with-first : List ℕ
+  with-first = v .major ∷ v .minor ∷ v .patch ∷ v .pre ∷ others
+
+  -- a version behind the first stands there without the first too, one earlier
+  number-behind : (i k : ℕ) → numberAt versionWidth with-first (1 + i) k ≡ numberAt versionWidth others i k
+  number-behind i k =
+      let later : (1 + i) * versionWidth + k ≡ suc (suc (suc (suc (i * versionWidth + k)))) = omega arith in
+      ap (λ (n : ℕ). getD with-first n 0) later
+
+  behind-first : (i : ℕ) → versionAt with-first (1 + i) ≡ versionAt others i
+  unfolding versionAt
+  behind-first i =
+      let on = number-behind i in
+      λ j. record { major = on 0 j; minor = on 1 j; patch = on 2 j; pre = on 3 j }
+
+  first-is : versionAt with-first 0 ≡ v
+  unfolding versionAt
+  first-is = refl
+
+  pub announced-on : announced with-first ≡ (covers v || announced others)
+  unfolding announced records some
+  announced-on =
+      let n = length others / versionWidth in
+      let more : length with-first / versionWidth ≡ suc n = omega arith in
+      let same : records (versionAt with-first) 1 n ≡ records (versionAt others) 0 n =
+      records-run (versionAt with-first) 1 n ∙ ap (λ (at : ℕ → Announced). records at 0 n) (λ j i. behind-first i j)
+      in
+      ap (λ (m : ℕ). some covers (records (versionAt with-first) 0 m)) more
+      ∙ ap₂ (λ (x : Announced) (l : List Announced). cond (covers x) true (some covers l)) first-is same
+      ∙ bool-cases (covers v) (λ t. rw t) (λ t. rw t)
 
 pub choice-some : (s : List ℕ) → announced s ≡ true → choice s ≡ version 2 0 0
 unfolding choice
@@ -52,23 +88,6 @@ choice-some s e = simp e
 pub choice-none : (s : List ℕ) → announced s ≡ false → choice s ≡ none
 unfolding choice
 choice-none s e = simp e
-
--- the same of what is left behind `at` numbers
-module _ (s : List ℕ) (at : ℕ) where
-  left-long : at + 3 ≤ length s → 3 ≤ length (drop at s)
-  left-long h = omega (arith, length-drop at s)
-
-  left-first : getD (drop at s) 0 0 ≡ getD s at 0
-  left-first = getD-drop at s 0 0 ∙ ap (λ (k : ℕ). getD s k 0) (omega arith)
-
-  pub left-none : length s < at + 3 → announced (drop at s) ≡ false
-  left-none h = announced-none (drop at s) (omega (arith, length-drop at s))
-
-  pub left-here : at + 3 ≤ length s → getD s at 0 ≡ 2 → announced (drop at s) ≡ true
-  left-here h e = announced-here (drop at s) (left-long h) (left-first ∙ e)
-
-  pub left-on : at + 3 ≤ length s → (getD s at 0 ≡ 2 → ⊥) → announced (drop at s) ≡ announced (drop (at + 3) s)
-  left-on h ne = announced-on (drop at s) (left-long h) (λ e. ne (sym left-first ∙ e)) ∙ ap announced (drop-drop 3 at s)
 
 -- what a choice says of the announced versions
 module _ (s : List ℕ) where

@@ -8,6 +8,7 @@ ghost use lib.ListN.{length};
 use answer::Written;
 use hello::Chosen;
 use hello::Size;
+use hello::VERSION_WIDTH;
 use libc::STDOUT_FILENO;
 use types::Typed;
 use types::Value;
@@ -304,13 +305,13 @@ fn low(n: u64) -> u32 {
     (n % 0x1_0000_0000) as u32
 }
 
-// YES and any count of numbers
+// YES and the numbers of at most five versions, and of a rest
 fn version_line(fields: &[u8]) -> Verdict {
     if fields.len() < 16 {
         return Verdict::Unread;
     }
     let yes = number_of(&fields[0..16]);
-    let mut versions = [0u64; 15];
+    let mut versions = [0u64; 6 * VERSION_WIDTH];
     let n = numbers_of(&fields[16..], &mut versions);
     match hello::negotiate_version(&versions[0..n]) {
         Chosen::Version(v) => agreed(yes == 1 && v.major == 2 && v.minor == 0 && v.patch == 0),

@@ -2,7 +2,7 @@
 //! `muleflurry` has for it, on a copy of what is lent. The two have to answer the same and to leave the same in all memory. What the
 //! crate owns is compared as well: frames that it reads into tables of its own, and frames that it builds.
 
-use crate::port::{self, PAIR_WIDTH, VALUE_WIDTH, calls};
+use crate::port::{self, PAIR_WIDTH, VALUE_WIDTH, VERSION_WIDTH, calls};
 
 /// The number where the crate's safe form does otherwise than the call that it stands on. No side has it.
 pub const PARTED: u64 = u64::MAX;
@@ -86,7 +86,7 @@ calls! {
     pub fn negotiate_version(versions: &[u64], version: &mut [u64; 3]) -> bool {
         let before = *version;
         let chosen = port::negotiate_version(versions, version);
-        let safe = lent::negotiate_version(versions.as_chunks().0);
+        let safe = lent::negotiate_version(versions.as_chunks::<VERSION_WIDTH>().0);
         assert_eq!((safe.is_some(), safe.unwrap_or(before)), (chosen, *version), "the crate's version of {versions:?}");
         chosen
     }

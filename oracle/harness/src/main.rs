@@ -14,6 +14,7 @@ mod shrink;
 mod tenth;
 mod text;
 mod timing;
+mod versions;
 
 use inputs::Random;
 use parts::{PARTS, Part};

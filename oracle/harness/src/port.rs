@@ -9,6 +9,7 @@ pub const VALUE_WIDTH: usize = 4;
 pub const MESSAGE_WIDTH: usize = 4;
 pub const PAIR_WIDTH: usize = 6;
 pub const ACTION_WIDTH: usize = 8;
+pub const VERSION_WIDTH: usize = 4;
 
 /// Gives each call its body. A build without the library gets calls that are never to be reached.
 macro_rules! calls {

@@ -1,51 +1,56 @@
--- `hello::negotiate_version` meets its contract. The loop's invariant: what the whole announces is what is left of it does.
+-- `hello::negotiate_version` meets its contract: the loop looks at one announced version after the other.
 -- Assumes nothing.
-use mathlib.Core.Path.{_≡_, refl, sym, _∙_}
-use Prim.Native.Nat.{_-_, _≤_}
-use borrow.Author.Needs.{needs}
+use mathlib.Core.Path.{_≡_, sym, ap, _∙_}
+use Prim.Native.Nat.{_-_, _/_}
 use native.Mathlib.Omega.{arith}
-use lib.ListN.{length, drop}
-use Rattle.hello.specs.Hello.{announced}
-use Rattle.hello.proofs.Laws.{left-none, left-here, left-on, choice-some, choice-none}
+use lib.ListN.{length}
+use Rattle.answer.proofs.Loops.{Seeking, seeking-none, seeking-here, seeking-on, seeking-all}
+use Rattle.hello.specs.Hello.{versionWidth, versionAt, covers, announced}
+use Rattle.hello.proofs.Laws.{choice-some, choice-none}
 use Rattle.hello.proofs.negotiate_version.Statement.{statement}
 use Rattle.hello.proofs.negotiate_version.Tie as tie
 
 abbrev Inv-loop : tie.InvT-loop
-Inv-loop versions at₀ at = (at ≤ length versions) × (announced versions ≡ announced (drop at versions))
+Inv-loop versions count i₀ i = Seeking covers (versionAt versions) (length versions / versionWidth) i
 
 abbrev μ-loop : tie.MeasureT-loop
-μ-loop versions at₀ at = length versions - at
+μ-loop versions count i₀ i = count - i
 
 loop-holds : tie.Need-loop-holds Inv-loop μ-loop
-loop-holds c = (omega arith, refl)
+loop-holds c = seeking-none _ _ _
 
-sub-loop : tie.Need-sub-loop Inv-loop μ-loop
-sub-loop c = search needs
+version-at-requires : tie.Need-version-at-requires Inv-loop μ-loop
+version-at-requires c κs = omega arith
 
-mul-if1 : tie.Need-mul-if1 Inv-loop μ-loop
-mul-if1 c = search needs
+covers-supported-requires : tie.Need-covers-supported-requires Inv-loop μ-loop
+covers-supported-requires c κs = tt
 
-shared-slice-read-if1 : tie.Need-shared-slice-read-if1 Inv-loop μ-loop
-shared-slice-read-if1 c = search needs
+-- what was asked of version i
+asked : (c : tie.After-covers-supported Inv-loop μ-loop)
+    → let l = c .before .before .before in
+    c .covers-supported .result ≡ covers (versionAt (l .before .before .args .versions .now) (l .loop .i))
+asked c = c .covers-supported .ensures ∙ ap covers (c .before .version-at .ensures)
 
 returns : tie.Need-returns Inv-loop μ-loop
+unfolding announced
 returns c =
-    let l = c .before .before .before in
-    sym (choice-some _ (l .loop .inv .1 ∙ left-here (l .before .args .versions .now) (l .loop .at) (omega (arith, c .before .before .loop-test .taken)) (c .if1 .taken)))
+    let t = c .before .before .before in
+    sym (choice-some _ (seeking-here (t .before .loop .inv) (t .loop-test .taken) (sym (asked (c .before)) ∙ c .if1 .taken)))
 
-add-at : tie.Need-add-at Inv-loop μ-loop
-add-at c = search needs
+add-i : tie.Need-add-i Inv-loop μ-loop
+add-i c = omega arith
 
 loop-less : tie.Need-loop-less Inv-loop μ-loop
-loop-less c = search needs
+loop-less c = omega arith
 
 loop-again : tie.Need-loop-again Inv-loop μ-loop
 loop-again c =
-    let l = c .before .before .before in
-    (omega arith, l .loop .inv .1 ∙ left-on (l .before .args .versions .now) (l .loop .at) (omega (arith, c .before .before .loop-test .taken)) (c .if1 .left))
+    let t = c .before .before .before in
+    seeking-on (t .before .loop .inv) (t .loop-test .taken) (sym (asked (c .before)) ∙ c .if1 .left)
 
 returns-2 : tie.Need-returns-2 Inv-loop μ-loop
-returns-2 c = sym (choice-none _ (c .before .loop .inv .1 ∙ left-none (c .before .before .args .versions .now) (c .before .loop .at) (omega (arith, c .loop-test .left))))
+unfolding announced
+returns-2 c = sym (choice-none _ (seeking-all (c .before .loop .inv) (c .loop-test .left)))
 
 pub negotiate-version-spec : {M : Type 1} → statement M
 negotiate-version-spec =
@@ -54,11 +59,10 @@ negotiate-version-spec =
     Inv-loop
     μ-loop
     loop-holds
-    sub-loop
-    mul-if1
-    shared-slice-read-if1
+    version-at-requires
+    covers-supported-requires
     returns
-    add-at
+    add-i
     loop-less
     loop-again
     returns-2)

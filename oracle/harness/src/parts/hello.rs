@@ -1,12 +1,15 @@
-//! The two negotiations: `HaproxyHello::negotiate_max_frame_size` and `negotiate_version`.
+//! The two negotiations: `HaproxyHello::negotiate_max_frame_size` and `negotiate_version`. Versions are texts, which the Rust reads and
+//! compares as whole versions by `semver`; the port gets the numbers that `versions.rs` makes of them.
 
 use crate::{
     answers::Answer,
     both,
-    inputs::{self, Random},
+    counts::{Counts, ENOUGH},
+    inputs::Random,
     port, shrink,
     text::Difference,
     timing,
+    versions::{self, Announced, Input},
 };
 use semver::Version;
 use spop::frames::HaproxyHello;
@@ -51,11 +54,8 @@ fn version_by_port(numbers: &[u64]) -> (bool, [u64; 3]) {
     (given, version)
 }
 
-fn version_by_rust(numbers: &[u64]) -> (bool, [u64; 3]) {
-    let announced = numbers
-        .chunks_exact(3)
-        .map(|three| Version::new(three[0], three[1], three[2]));
-    match hello(0, announced.collect()).negotiate_version() {
+fn version_by_rust(announced: Vec<Version>) -> (bool, [u64; 3]) {
+    match hello(0, announced).negotiate_version() {
         Some(version) => (true, [version.major, version.minor, version.patch]),
         None => (false, [UNTOUCHED; 3]),
     }
@@ -80,14 +80,54 @@ fn compare_sizes(theirs: u32, ours: u32) -> Result<(), Difference> {
         .row("rust", size_by_rust(theirs, ours)))
 }
 
-fn compare_versions(numbers: &[u64]) -> Result<(), Difference> {
-    if version_by_port(numbers) == version_by_rust(numbers) {
-        return Ok(());
+/// What both sides answer. Nothing where a text is no version.
+fn answers(input: &Input) -> Option<[(bool, [u64; 3]); 2]> {
+    let rust = version_by_rust(input.parsed()?);
+    Some([version_by_port(&input.numbers()?), rust])
+}
+
+/// Answers whether 2.0.0 is given.
+fn compare_versions(input: &Input) -> Result<bool, Difference> {
+    let Some([port, rust]) = answers(input) else {
+        return Err(Difference::in_call("Version::parse").row("versions", input.shown()));
+    };
+    if port == rust {
+        return Ok(rust.0);
     }
+    let input = smaller(input);
+    let [port, rust] = answers(&input).unwrap_or([port, rust]);
     Err(Difference::in_call("negotiate_version")
-        .row("numbers", format!("{numbers:?}"))
-        .row("port", format!("{:?}", version_by_port(numbers)))
-        .row("rust", format!("{:?}", version_by_rust(numbers))))
+        .row("versions", input.shown())
+        .row(
+            "numbers",
+            format!("{:?}", input.numbers().unwrap_or_default()),
+        )
+        .row("port", format!("{port:?}"))
+        .row("rust", format!("{rust:?}")))
+}
+
+/// Versions go first, then numbers of the rest, and then characters of the texts.
+fn smaller(input: &Input) -> Input {
+    let differs = |input: &Input| answers(input).is_some_and(|[port, rust]| port != rust);
+    let mut best = input.clone();
+    let with = |versions: &[Announced], rest: &[u64]| Input {
+        versions: versions.to_vec(),
+        rest: rest.to_vec(),
+    };
+    best.versions = shrink::runs(&best.versions, |fewer| differs(&with(fewer, &best.rest)));
+    best.rest = shrink::runs(&best.rest, |fewer| differs(&with(&best.versions, fewer)));
+    for place in 0..best.versions.len() {
+        let with = |text: &[u8]| {
+            let mut less = best.clone();
+            less.versions[place].text = String::from_utf8(text.to_vec()).ok()?;
+            differs(&less).then_some(less)
+        };
+        let text = shrink::bytes(best.versions[place].text.as_bytes(), |text| {
+            with(text).is_some()
+        });
+        best = with(&text).unwrap_or(best);
+    }
+    best
 }
 
 pub fn diff(random: &mut Random, rounds: u64) -> Result<String, Difference> {
@@ -98,14 +138,39 @@ pub fn diff(random: &mut Random, rounds: u64) -> Result<String, Difference> {
             fixed += 1;
         }
     }
+    let lists = fixed_versions()?;
+    let mut met = Counts::default();
     for _ in 0..rounds {
         compare_sizes(size(random), size(random))?;
-        compare_versions(&versions(random))?;
+        let input = versions::input(random, MOST);
+        let given = compare_versions(&input)?;
+        met.add(&input.classes(given));
     }
+    if rounds >= ENOUGH {
+        met.all("negotiate_version", "random")?;
+    }
+    met.print();
     Ok(format!(
-        "{fixed} fixed pairs of sizes, {} random calls in {rounds} rounds",
+        "{fixed} fixed pairs of sizes, {lists} fixed lists of versions, {} random calls in {rounds} rounds",
         2 * rounds
     ))
+}
+
+/// Answers how many lists there are. Of the named versions it is known what is given.
+fn fixed_versions() -> Result<usize, Difference> {
+    for (text, should) in versions::NAMED {
+        let given = compare_versions(&Input::of(text))?;
+        if given != should {
+            return Err(Difference::in_call("negotiate_version")
+                .row("versions", text)
+                .row("given", given));
+        }
+    }
+    let lists = [versions::grid(), versions::named()].concat();
+    for input in &lists {
+        compare_versions(input)?;
+    }
+    Ok(versions::NAMED.len() + lists.len())
 }
 
 fn size(random: &mut Random) -> u32 {
@@ -114,16 +179,6 @@ fn size(random: &mut Random) -> u32 {
         1 => random.within(0, 2_000_000) as u32,
         _ => random.next() as u32,
     }
-}
-
-/// Versions without a part for pre-releases, and at times one or two numbers more.
-fn versions(random: &mut Random) -> Vec<u64> {
-    let length = random.index(3 * MOST + 1);
-    let draw = || match random.below(4) {
-        0 => inputs::number(random),
-        _ => random.below(4),
-    };
-    std::iter::repeat_with(draw).take(length).collect()
 }
 
 // ---------------------------------------------------------------- timing
@@ -162,9 +217,13 @@ pub fn list(random: &mut Random) -> Result<Vec<String>, String> {
             ));
         }
     }
-    for _ in 0..60 {
-        let numbers = versions(random);
-        let (given, _) = version_by_rust(&numbers);
+    let named = versions::NAMED.map(|(text, _)| Input::of(text));
+    let drawn: Vec<Input> = (0..60).map(|_| versions::input(random, MOST)).collect();
+    for input in named.iter().chain(&drawn) {
+        let (Some(announced), Some(numbers)) = (input.parsed(), input.numbers()) else {
+            return Err(format!("one of these is no version: {}", input.shown()));
+        };
+        let (given, _) = version_by_rust(announced);
         let fields: String = numbers.iter().map(|n| format!(" {n:016x}")).collect();
         lines.push(format!("n {:016x}{fields}", u64::from(given)));
     }
