@@ -106,7 +106,6 @@ static bool version_fits(struct spop_bytes announced)
 static uint64_t answer_hello(struct connection *c, uint64_t *at)
 {
     struct spop_bytes versions, capabilities;
-    uint64_t number;
     uint32_t size;
     bool check;
 
@@ -118,8 +117,8 @@ static uint64_t answer_hello(struct connection *c, uint64_t *at)
         return disconnect(c, NO_CAPABILITIES, "the HELLO has no capabilities");
     if (!version_fits(versions))
         return disconnect(c, BAD_VERSION, "the HELLO has no version 2");
-    if ((number = spop_negotiate_max_frame_size(size, SIZE, at)) != SPOP_DONE)
-        return number;
+    if (spop_negotiate_max_frame_size(size, SIZE, at) != SPOP_DONE)
+        return SPOP_SIZE_TOO_SMALL;
     c->size = (uint32_t)*at;
     c->state = spop_as_bool(spop_frame_get(&frame, "healthcheck"), &check) && check ? ENDING : SERVING;
     spop_builder_clear(&builder);
@@ -289,9 +288,8 @@ static bool start(uint16_t port)
     sigaddset(&signals, SIGTERM);
     sigaddset(&signals, SIGINT);
     sigaddset(&signals, SIGALRM);
-    sigprocmask(SIG_BLOCK, &signals, NULL);
-    return (stop = signalfd(-1, &signals, SFD_NONBLOCK)) >= 0 && (poller = epoll_create1(0)) >= 0 &&
-           (listener = socket(AF_INET, SOCK_STREAM | SOCK_NONBLOCK, 0)) >= 0 &&
+    return sigprocmask(SIG_BLOCK, &signals, NULL) == 0 && (stop = signalfd(-1, &signals, SFD_NONBLOCK)) >= 0 &&
+           (poller = epoll_create1(0)) >= 0 && (listener = socket(AF_INET, SOCK_STREAM | SOCK_NONBLOCK, 0)) >= 0 &&
            setsockopt(listener, SOL_SOCKET, SO_REUSEADDR, &yes, sizeof yes) == 0 &&
            setsockopt(listener, IPPROTO_TCP, TCP_NODELAY, &yes, sizeof yes) == 0 &&
            bind(listener, (const struct sockaddr *)&address, sizeof address) == 0 && listen(listener, SOMAXCONN) == 0 &&
