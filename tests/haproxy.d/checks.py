@@ -277,9 +277,11 @@ def greetings(scratch):
 def slow_reader(scratch):
     """Whoever does not take answers is not read from, and has them all in the end."""
     agent, count = Agent(scratch), 250_000       # more than the kernel's buffers hold
+    frames = b"".join(wire.frame(wire.NOTIFY, upload_message((1, 2), (n, -n)), n, 1) for n in range(count))
+    expected = b"".join(upload_ack(n, 1, (1, 2), (n, -n)) for n in range(count))
     raw = Raw(agent.port)
     raw.greet()
-    frames = b"".join(wire.frame(wire.NOTIFY, upload_message((1, 2), (n, -n)), n, 1) for n in range(count))
+    raw.socket.settimeout(60)                    # for all frames together
     sender = threading.Thread(target=raw.send, args=(frames,), daemon=True)
     sender.start()
     sender.join(1)
@@ -289,7 +291,6 @@ def slow_reader(scratch):
     time.sleep(0.5)
     if agent.work() > worked + 0.1:
         raise Failed("the agent works while there is nothing to do")
-    expected = b"".join(upload_ack(n, 1, (1, 2), (n, -n)) for n in range(count))
     got = bytearray()
     while len(got) < len(expected) and (piece := raw.socket.recv(1 << 20)):
         got += piece
