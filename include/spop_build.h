@@ -682,6 +682,17 @@ static inline bool spop_next_argument(struct spop_walk *w)
     return true;
 }
 
+/* The value of the frame's first argument, or pair of its KV list, with a key; null where there is none. */
+static inline struct spop_data spop_frame_get(const struct spop_frame *f, const char *key)
+{
+    struct spop_walk w = spop_walk_over(f);
+
+    while (spop_next_argument(&w))
+        if (spop_bytes_are(w.key, key))
+            return w.value;
+    return spop_data_null();
+}
+
 #ifdef __cplusplus
 }
 #endif

@@ -174,8 +174,10 @@ static void kv_of_every_kind(void)
     struct spop_pair pairs[KINDS];
     struct spop_frame frame;
     struct spop_walk w;
+    struct spop_bytes bytes = spop_bytes_of(NULL, 1);
     uint8_t out[113];
     uint64_t at, number;
+    uint32_t n = 0;
 
     lend(&l, KINDS_POOL, 0, KINDS, 0);
     add_every_kind(&l.b);
@@ -191,6 +193,9 @@ static void kv_of_every_kind(void)
     w = spop_walk_over(&frame);
     check("a hello has no message", !spop_next_message(&w));
     meets_every_kind(&w);
+    check("frame_get of a hello's pair", spop_as_u32(spop_frame_get(&frame, "u"), &n) && n == UINT32_MAX);
+    check("frame_get of its last pair", spop_as_binary(spop_frame_get(&frame, "y"), &bytes) && bytes.len == 0);
+    check("frame_get without such a pair", spop_is_null(spop_frame_get(&frame, "us")) && spop_is_null(spop_frame_get(&frame, "")));
     give_back(&l);
 }
 
@@ -325,6 +330,25 @@ static void is_upload(const struct spop_builder *b, const char *what)
 
     answered(what, number, at, SPOP_DONE, 59);
     check(what, is_hex(out, at, UPLOAD));
+}
+
+/* The first argument with a key that is met twice, and the keys of no frame. */
+static void get_upload(void)
+{
+    struct spop_message messages[1];
+    struct spop_pair pairs[4];
+    struct spop_frame frame;
+    uint8_t upload[59];
+    int64_t delay = 0;
+    uint32_t slot = 0;
+    uint64_t at, number;
+
+    spop_frame_init(&frame, messages, SPOP_COUNT(messages), pairs, SPOP_COUNT(pairs));
+    check("frame_get without a frame", spop_is_null(spop_frame_get(&frame, "slot")));
+    number = spop_frame_read(&frame, spop_bytes_of(upload, from_hex(UPLOAD, upload)), 55, &at);
+    answered("frame_read of an upload", number, at, SPOP_DONE, 59);
+    check("frame_get of a slot", spop_as_u32(spop_frame_get(&frame, "slot"), &slot) && slot == 3);
+    check("frame_get of a delay", spop_as_i64(spop_frame_get(&frame, "delay"), &delay) && delay == 1250);
 }
 
 /* What one over some room is: the upload fills it, and then comes one more. */
@@ -539,6 +563,7 @@ int main(void)
     kv_of_every_kind();
     ack_of_every_kind();
     by_type();
+    get_upload();
     one_over("a message over the table's room", UPLOAD_POOL, 1, 4, A_MESSAGE, SPOP_TABLE_FULL, 1);
     one_over("a pair over the table's room", UPLOAD_POOL, 1, 4, A_PAIR, SPOP_TABLE_FULL, 4);
     one_over("a key over the pool's room", UPLOAD_POOL, 1, 5, A_KEY, SPOP_NO_ROOM, 4);

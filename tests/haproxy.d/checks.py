@@ -13,7 +13,7 @@ from pathlib import Path
 import listing
 import load
 import wire
-from running import TOP, Agent, Failed, HAProxy, Raw, Relay, end_all, until
+from running import TOP, Agent, Failed, HAProxy, Raw, Relay, announcing, end_all, until
 
 COUNTS = {"pass": 0, "fail": 0}
 SLOTS = range(28)
@@ -63,8 +63,8 @@ def upload_message(slots, delays, data=b""):
 
 
 def upload_ack(stream, ident, slots, delays):
-    return wire.frame(wire.ACK, wire.set_var(b"slot0", wire.U32, slots[0]) + wire.set_var(b"delay0", wire.I64, delays[0])
-                      + wire.set_var(b"slot1", wire.U32, slots[1]) + wire.set_var(b"delay1", wire.I64, delays[1]), stream, ident)
+    return wire.frame(wire.ACK, wire.set_var(b"slot0", wire.I64, slots[0]) + wire.set_var(b"delay0", wire.I64, delays[0])
+                      + wire.set_var(b"slot1", wire.I64, slots[1]) + wire.set_var(b"delay1", wire.I64, delays[1]), stream, ident)
 
 
 def no_errors(haproxy, events, answers):
@@ -267,7 +267,7 @@ def greetings(scratch):
         raw.send(wire.frame(wire.GOODBYE, wire.pair(b"status-code", wire.U32, 2) + wire.pair(b"message", wire.STRING, b"\n")))
         same("the answer to a DISCONNECT", raw.reason(), (0, "normal"))
     said = re.findall(r"^agent: connection \d+: (.*)$", agent.said(), re.M)
-    same("the log", said, ["HAProxy ends it with status 2"] * len(announced))
+    same("the log", said, ["HAProxy ends it with status 2", "ended with status 0: normal"] * len(announced))
     raw = Raw(agent.port)
     raw.send(wire.hello(healthcheck=(wire.BOOL, True)))
     same("the answer to a health check, and the end", (raw.one(), raw.one()), (wire.agent_hello(SIZE), None))
@@ -278,9 +278,11 @@ def greetings(scratch):
 def slow_reader(scratch):
     """Whoever does not take answers is not read from, and has them all in the end."""
     agent, count = Agent(scratch), 250_000       # more than the kernel's buffers hold
+    frames = b"".join(wire.frame(wire.NOTIFY, upload_message((1, 2), (n, -n)), n, 1) for n in range(count))
+    expected = b"".join(upload_ack(n, 1, (1, 2), (n, -n)) for n in range(count))
     raw = Raw(agent.port)
     raw.greet()
-    frames = b"".join(wire.frame(wire.NOTIFY, upload_message((1, 2), (n, -n)), n, 1) for n in range(count))
+    raw.socket.settimeout(60)                    # for all frames together
     sender = threading.Thread(target=raw.send, args=(frames,), daemon=True)
     sender.start()
     sender.join(1)
@@ -290,7 +292,6 @@ def slow_reader(scratch):
     time.sleep(0.5)
     if agent.work() > worked + 0.1:
         raise Failed("the agent works while there is nothing to do")
-    expected = b"".join(upload_ack(n, 1, (1, 2), (n, -n)) for n in range(count))
     got = bytearray()
     while len(got) < len(expected) and (piece := raw.socket.recv(1 << 20)):
         got += piece
@@ -332,7 +333,7 @@ def many_connections(scratch):
 def words(scratch):
     """What the agent says to wrong words, and to a port that is taken."""
     agent = Agent(scratch)
-    for given, status in ((["x"], 2), (["0"], 2), (["65536"], 2), ([agent.port, 255], 2), ([agent.port, 1048577], 2),
+    for given, status in ((["x"], 2), (["0"], 2), (["65536"], 2), (["-1"], 2), (["12345x"], 2), ([agent.port, 256], 2),
                           (["1", "256", "2"], 2), (["--status"], 2), ([""], 2), ([agent.port], 1)):
         done = subprocess.run([scratch / "agent", *map(str, given)], capture_output=True, text=True, timeout=10)
         said = "usage: agent " if status == 2 else "agent: it does not listen: Address already in use"
@@ -352,6 +353,7 @@ def start_of_a_run(scratch):
     if not 9.9 < result.seconds < 10.5:
         raise Failed(f"9000 uploads took {result.seconds:.2f} seconds, and not ten")
     no_errors(haproxy, 9000, 9000)
+    same("the agent's lines but the first", agent.said().splitlines()[1:], [])      # health checks are none to be said
     haproxy.end()
     frames, median, most = agent.stats()
     same("the agent's frames", frames, 9000)
@@ -405,10 +407,17 @@ def largest_data(size, slots, delays):
     return count
 
 
+def sizes(frames):
+    """The sizes in HELLO frames, other than those of health checks."""
+    hellos = [{key: value for key, _, value in frame.pairs} for frame in map(wire.read, frames)]
+    return {hello[b"max-frame-size"] for hello in hellos if b"max-frame-size" in hello and not hello.get(b"healthcheck")}
+
+
 def size_through_haproxy(scratch, size):
-    agent = Agent(scratch, size=size)
+    """HAProxy announces a size, and the smaller of this and the agent's own holds."""
+    agent = Agent(scratch)
     relay = Relay(agent.port)
-    haproxy = HAProxy(scratch, relay.port)
+    haproxy = HAProxy(scratch, relay.port, folder=announcing(scratch, size))
     slots, delays = (3, 17), (1250, -730)
     count = largest_data(min(size, SIZE), slots, delays)
     web = Web(haproxy.port)
@@ -416,10 +425,14 @@ def size_through_haproxy(scratch, size):
     same(f"{count} bytes of data", web.upload(slots, delays, b"d" * count), right(slots, delays))
     same("one more", web.upload(slots, delays, b"d" * (count + 1)), (502, {"x-error": "3"}))
     same("the next upload", web.upload(slots, delays), right(slots, delays))
+    # A health check announces the most that HAProxy can, and so the agent's own size is agreed on.
+    same("the sizes that the engine announces", sizes(relay.from_haproxy), {size})
+    same("the sizes that are agreed on", sizes(relay.from_agent) | {SIZE}, {min(size, SIZE), SIZE})
     longest = max(len(raw) - 4 for raw in relay.from_haproxy)
     relay.close()
     agent.end()
-    return f"{min(size, SIZE)}: HAProxy sends a frame of {longest} bytes, has error 3 (too big) for one byte more, and goes on"
+    return (f"{size} announced and {min(size, SIZE)} agreed: HAProxy sends a frame of {longest} bytes, has error 3 (too big) for one "
+            "byte more, and goes on")
 
 
 TEXTS = {
@@ -433,19 +446,16 @@ TEXTS = {
 
 def refused(agent, what, send, status, reason, greet=SIZE):
     """Sends bytes on a connection of their own. It has to end with this status and reason, and the log has to have the same. A
-    reason is a refusal's number and place, or the agent's own text."""
+    reason is a refusal's number and place, with which its text goes, or the agent's own text."""
     mark, raw = agent.mark(), Raw(agent.port)
     if greet:
         same(f"{what}: the AGENT-HELLO", wire.read(raw.greet(greet)).kind, wire.AGENT_HELLO)
     send(raw) if callable(send) else raw.send(send)
     got = raw.reason()
-    if isinstance(reason, str):
-        text, line = reason, f"ended with status {status}: {reason}"
-    else:
-        text = TEXTS[reason[0]]
-        line = f"refused with status {status}: {reason[0]} at {reason[1]}: {text}"
+    text = reason if isinstance(reason, str) else f"{reason[0]} at {reason[1]}: {TEXTS[reason[0]]}"
     same(what, got, (status, text))
-    same(f"{what}: the log", re.findall(r"^agent: connection \d+: (.*)$", agent.said(mark), re.M), [line])
+    same(f"{what}: the log", re.findall(r"^agent: connection \d+: (.*)$", agent.said(mark), re.M),
+         [f"ended with status {status}: {text}"])
 
 
 OVERSIZE = (2, 4)
@@ -605,7 +615,7 @@ def garbage(scratch):
             status, text = raw.reason()
         except OSError as error:
             raise Failed(f"random bytes, round {turn}: {error}") from None
-        said = re.findall(r"^agent: connection \d+: refused with status (\d+): \d+ at \d+: (.*)$", agent.said(mark), re.M)
+        said = re.findall(r"^agent: connection \d+: ended with status (\d+): (\d+ at \d+: .*)$", agent.said(mark), re.M)
         same(f"the log of random bytes, round {turn}", said, [(str(status), text)])
         if turn % 10 == 0:
             others_go_on()
@@ -631,7 +641,8 @@ def main(folder, long):
         ("2. words", words), ("3. the start of a run", start_of_a_run),
         ("4. many frames", lambda s: many_frames(s, 1_000_000 if long else 50_000)),
         ("5. the agreed size", lambda s: size_through_haproxy(s, SIZE)),
-        ("5. a smaller size", lambda s: size_through_haproxy(s, 4096)), ("5. sizes by hand", sizes_by_hand),
+        ("5. a smaller size", lambda s: size_through_haproxy(s, 4096)),
+        ("5. a larger size", lambda s: size_through_haproxy(s, 65532)), ("5. sizes by hand", sizes_by_hand),
         ("5. HAProxy ends", haproxy_ends), ("5. the agent ends", agent_ends), ("6. garbage", garbage),
     ]
     try:

@@ -2,6 +2,7 @@
 import ctypes
 import os
 import re
+import shutil
 import signal
 import socket
 import subprocess
@@ -80,29 +81,43 @@ class Process:
 
 
 class Agent(Process):
-    def __init__(self, scratch, port=None, size=None, files=None):
-        self.port = port or free_port()
-        words = [scratch / "agent", "--stats", self.port] + ([size] if size else [])
+    def __init__(self, scratch, port=None, files=None):
+        self.port, self.times = port or free_port(), scratch / "times"
+        self.times.unlink(missing_ok=True)
+        words = [scratch / "agent", self.port]
         if files:
             words = ["prlimit", f"--nofile={files}", *words]
-        super().__init__(scratch / "agent.log", words)
+        super().__init__(scratch / "agent.log", words, TIMES=str(self.times))
         until("the agent", lambda: "listening on port" in self.said() or self.process.poll() is not None)
         if self.process.poll() is not None:
             raise Failed(f"the agent does not start: {self.said()}")
 
     def stats(self):
-        """Ends it, and gives frames, median and 99th percentile in nanoseconds."""
+        """Ends it, and gives frames, median and 99th percentile in nanoseconds, as times.c has them."""
         status = self.end()
-        line = re.search(r"^(\d+) frames, median (\d+) ns, 99th percentile (\d+) ns$", self.said(), re.M)
+        text = self.times.read_text() if self.times.exists() else ""
+        line = re.fullmatch(r"(\d+) frames, median (\d+) ns, 99th percentile (\d+) ns\n", text)
         if status != 0 or not line:
-            raise Failed(f"the agent ended with status {status}: {self.said()}")
+            raise Failed(f"the agent ended with status {status} and times {text!r}: {self.said()}")
         return tuple(int(n) for n in line.groups())
 
 
+def announcing(scratch, size):
+    """The folder of a configuration in which HAProxy has another max-frame-size."""
+    folder = scratch / "configuration"
+    folder.mkdir(exist_ok=True)
+    shutil.copy(TOP / "examples/haproxy/haproxy.cfg", folder)
+    text, count = re.subn(r"^( +max-frame-size) \d+$", rf"\1 {size}", (TOP / "examples/haproxy/spoe.cfg").read_text(), flags=re.M)
+    if count != 1:
+        raise Failed(f"spoe.cfg has {count} lines with a max-frame-size")
+    (folder / "spoe.cfg").write_text(text)
+    return folder
+
+
 class HAProxy(Process):
-    def __init__(self, scratch, agent_port, port=None):
+    def __init__(self, scratch, agent_port, port=None, folder=TOP / "examples/haproxy"):
         self.port, self.socket = port or free_port(), scratch / "haproxy.sock"
-        super().__init__(scratch / "haproxy.log", ["haproxy", "-C", TOP / "examples/haproxy", "-f", "haproxy.cfg"],
+        super().__init__(scratch / "haproxy.log", ["haproxy", "-C", folder, "-f", "haproxy.cfg"],
                          HTTP_PORT=str(self.port), AGENT_PORT=str(agent_port), STATS_SOCKET=str(self.socket))
         until("HAProxy", lambda: self.is_up() or self.process.poll() is not None)
         if self.process.poll() is not None:
