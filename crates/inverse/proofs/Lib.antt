@@ -1,3 +1,4 @@
 -- Reading and writing are each other's inverse: the conditions, and the laws from a value up to a frame.
 pub mod Plain
 pub mod Value
+pub mod Pair
