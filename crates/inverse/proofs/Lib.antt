@@ -2,3 +2,4 @@
 pub mod Plain
 pub mod Value
 pub mod Pair
+pub mod Payload
