@@ -3,3 +3,4 @@ pub mod Plain
 pub mod Value
 pub mod Pair
 pub mod Payload
+pub mod Head
