@@ -3,4 +3,5 @@ pub mod Plain
 pub mod Value
 pub mod Pair
 pub mod Payload
+pub mod Listed
 pub mod Head
