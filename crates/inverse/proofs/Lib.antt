@@ -5,3 +5,4 @@ pub mod Pair
 pub mod Payload
 pub mod Listed
 pub mod Head
+pub mod Again
