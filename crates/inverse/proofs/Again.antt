@@ -43,7 +43,7 @@ use Rattle.writer.specs.Frame.{headOf, limited, finAlone, kvAllowed, pairsBytes
 use Rattle.writer.proofs.Pairs.{pair-number, kv-own, kv-new}
 use Rattle.writer.proofs.Messages.{message-name, message-number}
 use Rattle.writer.proofs.Answers.{kv-haproxy-hello, kv-haproxy-disconnect, kv-list, list-refused, list-passed, notify-message, notify-pair, notify-passed}
-use Rattle.inverse.proofs.Plain.{plainPair, wellPair, wellName}
+use Rattle.inverse.proofs.Plain.{plainPair, wellPair, wellName, WellPairs, WellNames, PlainPairs}
 use Rattle.inverse.proofs.Pair.{Plain, run-form, run-only, pair-refuses}
 use Rattle.inverse.proofs.Payload.{Distinct, Messages, kv-stands, messages-stand}
 use Rattle.inverse.proofs.Listed.{messages-form, messages-only, Runs, runs-stand, no-stray}
@@ -135,21 +135,11 @@ module _ (limit : ℕ) (s oldMessages newMessages oldPairs newPairs : List ℕ) 
 
   -- ---- its conditions
 
-  -- all texts of pairs before pair i are UTF-8, and all names before message i; and all values are plain
-  abbrev pub WellPairs : ℕ → Type 0
-  WellPairs n = (i : ℕ) → i < n → wellPair f (pairAt newPairs i) ≡ true
-
-  abbrev pub WellNames : ℕ → Type 0
-  WellNames n = (i : ℕ) → i < n → wellName f (messageAt newMessages i) ≡ true
-
-  abbrev pub PlainPairs : Type 0
-  PlainPairs = (i : ℕ) → i < total → plainPair f (pairAt newPairs i) ≡ true
-
-  each-plain : PlainPairs → Each (Plain f) (c .pairs)
+  each-plain : PlainPairs f newPairs total → Each (Plain f) (c .pairs)
   each-plain p =
       rw hold-pairs at (each-of (Plain f) (pairAt newPairs) total 0 (λ i l. let here : 0 + i ≡ i = omega arith in rw here (p i l)))
 
-  plain-each : Each (Plain f) (c .pairs) → PlainPairs
+  plain-each : Each (Plain f) (c .pairs) → PlainPairs f newPairs total
   plain-each g i l =
       let here : 0 + i ≡ i = omega arith in rw here at (each-at (Plain f) (pairAt newPairs) total 0 (rw hold-pairs g) i l)
 
@@ -202,31 +192,31 @@ module _ (limit : ℕ) (s oldMessages newMessages oldPairs newPairs : List ℕ) 
     kv-bytes : pairsBytes f newPairs total ≡ joined (pairBytes f) (c .pairs)
     kv-bytes = ap (joined (pairBytes f)) hold-pairs
 
-    kv-payload : PlainPairs → pairsBytes f newPairs total ≡ drop (x .start) f
+    kv-payload : PlainPairs f newPairs total → pairsBytes f newPairs total ≡ drop (x .start) f
     kv-payload p =
         kv-bytes
         ∙ sym (run-form f small (x .start) (c .pairs) used (stand .0) (each-plain p) ∙ ap (λ (l : List ℕ). joined (pairBytes f) (c .pairs) ++ l) over ∙ append-nil (joined (pairBytes f) (c .pairs)))
 
-    kv-plain : frameBytes h (pairsBytes f newPairs total) ≡ f → PlainPairs
+    kv-plain : frameBytes h (pairsBytes f newPairs total) ≡ f → PlainPairs f newPairs total
     kv-plain is =
         plain-each
         (run-only f small (x .start) (c .pairs) used (stand .0) []
         (append-nil (joined (pairBytes f) (c .pairs)) ∙ sym kv-bytes ∙ payload-same h (pairsBytes f newPairs total) (drop (x .start) f) (is ∙ x .form)) .0)
 
-    kv-taken : WellPairs total → kvAnswer h limit f newPairs total ≡ limited limit h (pairsBytes f newPairs total)
+    kv-taken : WellPairs f newPairs total → kvAnswer h limit f newPairs total ≡ limited limit h (pairsBytes f newPairs total)
     kv-taken w =
         kv-list h limit f newPairs total
         ∙ list-passed (kvAllowed h) pairWidth newPairs total (kvRefusal f newPairs) (limited limit h (pairsBytes f newPairs total)) allowed pairs-room
         (ap (λ (r : Refusal). r .number) (none-refused (kvRefusal f newPairs) total (record { each = λ i l. kv-well i l (w i l) })))
 
     -- Law: the writer writes exactly the frame's bytes where all texts are UTF-8 and all values plain.
-    pub kv-inverse : WellPairs total → PlainPairs → kvAnswer h limit f newPairs total ≡ written f
+    pub kv-inverse : WellPairs f newPairs total → PlainPairs f newPairs total → kvAnswer h limit f newPairs total ≡ written f
     kv-inverse w p =
         kv-taken w
         ∙ limited-whole limit h (pairsBytes f newPairs total) f (ap (frameBytes h) (kv-payload p) ∙ sym (x .form)) (omega (arith, x .long, x .fits))
 
     -- Law: where a pair has a text that is not UTF-8, and none before it has, the writer refuses with 15 and the pair's index.
-    pub kv-refuses : (i : ℕ) → i < total → wellPair f (pairAt newPairs i) ≡ false → WellPairs i → kvAnswer h limit f newPairs total ≡ refused 15 i
+    pub kv-refuses : (i : ℕ) → i < total → wellPair f (pairAt newPairs i) ≡ false → WellPairs f newPairs i → kvAnswer h limit f newPairs total ≡ refused 15 i
     kv-refuses i l ill w =
         kv-list h limit f newPairs total
         ∙ list-refused (kvAllowed h) pairWidth newPairs total (kvRefusal f newPairs) (limited limit h (pairsBytes f newPairs total)) allowed pairs-room
@@ -235,7 +225,7 @@ module _ (limit : ℕ) (s oldMessages newMessages oldPairs newPairs : List ℕ) 
         fifteen
 
     -- Law: where all texts are UTF-8 and a value is not plain, the writer writes another frame, if that is within the limit.
-    pub kv-differs : WellPairs total → (i : ℕ) → i < total → plainPair f (pairAt newPairs i) ≡ false
+    pub kv-differs : WellPairs f newPairs total → (i : ℕ) → i < total → plainPair f (pairAt newPairs i) ≡ false
         → (kvAnswer h limit f newPairs total ≡ limited limit h (pairsBytes f newPairs total)) × (frameBytes h (pairsBytes f newPairs total) ≡ f → ⊥)
     kv-differs w i l p = (kv-taken w, λ is. true-false (kv-plain is i l) p)
 
@@ -252,7 +242,7 @@ module _ (limit : ℕ) (s oldMessages newMessages oldPairs newPairs : List ℕ) 
         let ps = ap (λ (d : Contents). d .pairs) (x .moved) in
         rw (ms, ps, x .ends) at o
 
-    runs : (i : ℕ) → i < rows → Runs f small newMessages rows total i
+    runs : (i : ℕ) → i < rows → Runs newMessages rows total i
     runs i l =
         let here : 0 + i ≡ i = omega arith in
         rw here at (runs-stand f small newMessages rows 0 (x .start) 0 (c .pairs) used rows total (rw hold-messages lie) refl (omega arith) (omega arith) i l)
@@ -289,34 +279,34 @@ module _ (limit : ℕ) (s oldMessages newMessages oldPairs newPairs : List ℕ) 
     notify-bytes : bytes ≡ joined (messageBytes f newPairs) (c .messages)
     notify-bytes = ap (joined (messageBytes f newPairs)) hold-messages
 
-    notify-payload : PlainPairs → bytes ≡ drop (x .start) f
+    notify-payload : PlainPairs f newPairs total → bytes ≡ drop (x .start) f
     notify-payload p =
         let all = joined (messageBytes f newPairs) (c .messages) in
         notify-bytes
         ∙ sym (messages-form f small newPairs (x .start) 0 (c .messages) (c .pairs) used lie hold-pairs (each-plain p) ∙ ap (λ (l : List ℕ). all ++ l) over ∙ append-nil all)
 
-    notify-plain : frameBytes h bytes ≡ f → PlainPairs
+    notify-plain : frameBytes h bytes ≡ f → PlainPairs f newPairs total
     notify-plain is =
         let all = joined (messageBytes f newPairs) (c .messages) in
         plain-each
         (messages-only f small newPairs (x .start) 0 (c .messages) (c .pairs) used lie hold-pairs []
         (append-nil all ∙ sym notify-bytes ∙ payload-same h bytes (drop (x .start) f) (is ∙ x .form)))
 
-    no-name : WellNames rows → firstRefused (messageRefusal f total newMessages rows) rows .number ≡ 0
+    no-name : WellNames f newMessages rows → firstRefused (messageRefusal f total newMessages rows) rows .number ≡ 0
     no-name w = ap (λ (r : Refusal). r .number) (none-refused (messageRefusal f total newMessages rows) rows (record { each = λ i l. name-well i l (w i l) }))
 
-    notify-taken : WellNames rows → WellPairs total → notifyAnswer h limit f newMessages rows newPairs total ≡ limited limit h bytes
+    notify-taken : WellNames f newMessages rows → WellPairs f newPairs total → notifyAnswer h limit f newMessages rows newPairs total ≡ limited limit h bytes
     notify-taken ws w =
         notify-passed h limit f newMessages rows newPairs total refl messages-room pairs-room no-pair (no-name ws)
         (ap (λ (r : Refusal). r .number) (none-refused (pairRefusal f newPairs) total (record { each = λ i l. pair-well i l (w i l) })))
 
     -- Law: the writer writes exactly the frame's bytes where all texts are UTF-8 and all values plain.
-    pub notify-inverse : WellNames rows → WellPairs total → PlainPairs → notifyAnswer h limit f newMessages rows newPairs total ≡ written f
+    pub notify-inverse : WellNames f newMessages rows → WellPairs f newPairs total → PlainPairs f newPairs total → notifyAnswer h limit f newMessages rows newPairs total ≡ written f
     notify-inverse ws w p =
         notify-taken ws w ∙ limited-whole limit h bytes f (ap (frameBytes h) (notify-payload p) ∙ sym (x .form)) (omega (arith, x .long, x .fits))
 
     -- Law: where a name is not UTF-8, and none before it is, the writer refuses with 15 and the message's index.
-    pub notify-refuses-name : (i : ℕ) → i < rows → wellName f (messageAt newMessages i) ≡ false → WellNames i
+    pub notify-refuses-name : (i : ℕ) → i < rows → wellName f (messageAt newMessages i) ≡ false → WellNames f newMessages i
         → notifyAnswer h limit f newMessages rows newPairs total ≡ refused 15 i
     notify-refuses-name i l ill w =
         notify-message h limit f newMessages rows newPairs total refl messages-room pairs-room no-pair (record { number = 15; place = i })
@@ -324,7 +314,7 @@ module _ (limit : ℕ) (s oldMessages newMessages oldPairs newPairs : List ℕ) 
         fifteen
 
     -- Law: where all names are UTF-8 and a pair has a text that is not, and none before it has, the writer refuses with 15 and the pair's index.
-    pub notify-refuses-pair : WellNames rows → (i : ℕ) → i < total → wellPair f (pairAt newPairs i) ≡ false → WellPairs i
+    pub notify-refuses-pair : WellNames f newMessages rows → (i : ℕ) → i < total → wellPair f (pairAt newPairs i) ≡ false → WellPairs f newPairs i
         → notifyAnswer h limit f newMessages rows newPairs total ≡ refused 15 i
     notify-refuses-pair ws i l ill w =
         notify-pair h limit f newMessages rows newPairs total refl messages-room pairs-room no-pair (no-name ws) (record { number = 15; place = i })
@@ -332,6 +322,6 @@ module _ (limit : ℕ) (s oldMessages newMessages oldPairs newPairs : List ℕ) 
         fifteen
 
     -- Law: where all texts are UTF-8 and a value is not plain, the writer writes another frame, if that is within the limit.
-    pub notify-differs : WellNames rows → WellPairs total → (i : ℕ) → i < total → plainPair f (pairAt newPairs i) ≡ false
+    pub notify-differs : WellNames f newMessages rows → WellPairs f newPairs total → (i : ℕ) → i < total → plainPair f (pairAt newPairs i) ≡ false
         → (notifyAnswer h limit f newMessages rows newPairs total ≡ limited limit h bytes) × (frameBytes h bytes ≡ f → ⊥)
     notify-differs ws w i l p = (notify-taken ws w, λ is. true-false (notify-plain is i l) p)

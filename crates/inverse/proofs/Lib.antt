@@ -6,3 +6,5 @@ pub mod Payload
 pub mod Listed
 pub mod Head
 pub mod Again
+pub mod Apart
+pub mod Inverse

@@ -38,6 +38,13 @@ unfolding records
 records-length at zero first = refl
 records-length at (suc n) first = ap (λ (k : ℕ). suc k) (records-length at n (suc first))
 
+-- What a writer asks of the run of message i of so many, which have all pairs: where it starts, how many arguments it has, and where it ends, if it is the
+-- last.
+pub record Runs (messages : List ℕ) (count total i : ℕ) : Type 0 where
+  pub starts : messageAt messages i .first ≡ runStart messages i
+  pub few : messageAt messages i .count ≤ 255
+  pub ends : i + 1 ≡ count → total ≡ messageAt messages i .first + messageAt messages i .count
+
 -- ---- a message and its arguments
 
 module _ (f : List ℕ) (small : Bytes f) where
@@ -105,13 +112,6 @@ module _ (f : List ℕ) (small : Bytes f) where
         (each-both (Plain f) (x .0 .own) (x .0 .rest) (own .0) (messages-only (x .0 .next) (j + m .count) ms (x .0 .rest) end (x .1) (run .1) t (own .1)))
 
   -- ---- runs, as a writer asks for them
-
-  -- What a writer asks of the run of message i of a table, of which the pairs from its message list on are so many: where it starts, how many arguments it
-  -- has, and where it ends, if it is the last.
-  pub record Runs (messages : List ℕ) (count total i : ℕ) : Type 0 where
-    pub starts : messageAt messages i .first ≡ runStart messages i
-    pub few : messageAt messages i .count ≤ 255
-    pub ends : i + 1 ≡ count → total ≡ messageAt messages i .first + messageAt messages i .count
 
   pub runs-stand : (messages : List ℕ) (n i at j : ℕ) (ps : List Pair) (end count total : ℕ) → Messages f at j (records (messageAt messages) i n) ps end
       → j ≡ runStart messages i → count ≡ i + n → total ≡ j + length ps → (k : ℕ) → k < n → Runs messages count total (i + k)

@@ -102,7 +102,7 @@ module _ (f : List ℕ) (n : ℕ) where
 
 -- ---- to the end
 
-map-both : {A B : Type 0} (g : A → B) (xs ys : List A) → map g (xs ++ ys) ≡ map g xs ++ map g ys
+pub map-both : {A B : Type 0} (g : A → B) (xs ys : List A) → map g (xs ++ ys) ≡ map g xs ++ map g ys
 map-both g [] ys = refl
 map-both g (x ∷ xs) ys = ap (λ (l : List _). g x ∷ l) (map-both g xs ys)
 
