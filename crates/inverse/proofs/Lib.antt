@@ -8,3 +8,4 @@ pub mod Head
 pub mod Again
 pub mod Apart
 pub mod Inverse
+pub mod Examples
