@@ -35,6 +35,7 @@ use Rattle.parser.specs.Frame.{answered, frameRead}
 use Rattle.parser.specs.Inner.{Run}
 use Rattle.parser.specs.Promise.{roomsOf, contentsRead, Fills}
 use Rattle.parser.proofs.Filling.{joined-width}
+use Rattle.records.specs.Inner.{Laid}
 use Rattle.listing.proofs.Accepted.{Each, Named, Whole, Held, whole-held, frame-used}
 use Rattle.listing.proofs.Tables.{table-messages, table-pairs, each-at}
 use Rattle.writer.specs.Pair.{pairBytes, pairRefusal, kvRefusal}
@@ -45,7 +46,7 @@ use Rattle.writer.proofs.Messages.{message-name, message-number}
 use Rattle.writer.proofs.Answers.{kv-haproxy-hello, kv-haproxy-disconnect, kv-list, list-refused, list-passed, notify-message, notify-pair, notify-passed}
 use Rattle.inverse.proofs.Plain.{plainPair, wellPair, wellName, WellPairs, WellNames, PlainPairs}
 use Rattle.inverse.proofs.Pair.{Plain, run-form, run-only, pair-refuses}
-use Rattle.inverse.proofs.Payload.{Distinct, Messages, kv-stands, messages-stand}
+use Rattle.inverse.proofs.Payload.{Distinct, kv-distinct, kv-stands, messages-stand}
 use Rattle.inverse.proofs.Listed.{messages-form, messages-only, Runs, runs-stand, no-stray}
 use Rattle.inverse.proofs.Head.{payload-same, Accepted, frame-accepted}
 
@@ -164,9 +165,11 @@ module _ (limit : ℕ) (s oldMessages newMessages oldPairs newPairs : List ℕ) 
 
     stand : Run f (x .start) (c .pairs) used × Distinct f [] (c .pairs)
     stand =
-        let o = kv-stands (roomsOf oldMessages oldPairs) f (x .start) (x .contents) (x .end) (rw is-list at (x .read)) in
-        let same = ap (λ (d : Contents). d .pairs) (x .moved) in
-        (rw (same, x .ends) at (o .0), rw same at (o .1))
+        let is = rw is-list at (x .read) in
+        let same = ap (λ (d : Contents). d .pairs) (x .moved) in (
+          rw (same, x .ends) at (kv-stands (roomsOf oldMessages oldPairs) f (x .start) (x .contents) (x .end) is),
+          rw same at (kv-distinct (roomsOf oldMessages oldPairs) f (x .start) (x .contents) (x .end) is),
+        )
 
     allowed : kvAllowed h ≡ true
     allowed =
@@ -235,9 +238,9 @@ module _ (limit : ℕ) (s oldMessages newMessages oldPairs newPairs : List ℕ) 
     no-list : not (eqb (m .kind) 3) ≡ false
     no-list = rw (eq-eqb (m .kind) 3 notify)
 
-    lie : Messages f (x .start) 0 (c .messages) (c .pairs) used
+    lie : Laid f (x .start) 0 (c .messages) (c .pairs) used
     lie =
-        let o = messages-stand (roomsOf oldMessages oldPairs) f (x .start) (x .contents) (x .end) (rw no-list at (x .read)) in
+        let o = messages-stand (roomsOf oldMessages oldPairs) f (x .start) (x .there) (x .contents) (x .end) (rw no-list at (x .read)) in
         let ms = ap (λ (d : Contents). d .messages) (x .moved) in
         let ps = ap (λ (d : Contents). d .pairs) (x .moved) in
         rw (ms, ps, x .ends) at o

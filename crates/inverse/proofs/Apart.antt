@@ -29,6 +29,7 @@ use Rattle.parser.specs.declared.Metadata.{Metadata}
 use Rattle.parser.specs.Payload.{Contents}
 use Rattle.parser.specs.Frame.{answered, frameRead}
 use Rattle.parser.proofs.Frames.{length-map}
+use Rattle.records.specs.Inner.{Laid}
 use Rattle.listing.proofs.Accepted.{Each}
 use Rattle.writer.specs.Pair.{pairBytes}
 use Rattle.writer.specs.Message.{nameBytes}
@@ -36,8 +37,8 @@ use Rattle.writer.specs.Frame.{headOf}
 use Rattle.writer.proofs.Pairs.{pair-bytes}
 use Rattle.writer.proofs.Messages.{name-bytes}
 use Rattle.inverse.proofs.Pair.{Plain, run-form}
-use Rattle.inverse.proofs.Payload.{map-both, Messages, kv-stands, messages-stand}
-use Rattle.inverse.proofs.Listed.{own-plain, told-form}
+use Rattle.inverse.proofs.Payload.{map-both, kv-stands, messages-stand}
+use Rattle.inverse.proofs.Listed.{parts-plain, there-form}
 use Rattle.inverse.proofs.Head.{Accepted, frame-accepted}
 
 -- ---- written forms go by meanings
@@ -84,22 +85,23 @@ unfolding listForm
 list-on m ms own rest n =
     ap₂ (λ (x y : List (List ℕ × Meaning)). ((stringBytes (m .0) ++ (m .2 ∷ [])) ++ joined pairForm x) ++ listForm ms y) (take-at own rest (m .2) n) (drop-at own rest (m .2) n)
 
-messages-meant : (f : List ℕ) → Bytes f → (at j : ℕ) (ms : List Message) (ps : List Pair) (end : ℕ) → Messages f at j ms ps end → Each (Plain f) ps
+messages-meant : (f : List ℕ) → Bytes f → (at j : ℕ) (ms : List Message) (ps : List Pair) (end : ℕ) → Laid f at j ms ps end → Each (Plain f) ps
     → drop at f ≡ listForm (map (messageMeaning f) ms) (map (pairMeaning f) ps) ++ drop end f
 messages-meant f small at j [] ps end x h =
     ap (λ (n : ℕ). drop n f) (x .1) ∙ ap (λ (l : List ℕ). l ++ drop end f) (sym (list-none (map (pairMeaning f) ps)))
 messages-meant f small at j (m ∷ ms) ps end x h =
-    let y = x .0 in
-    let own = own-plain f small at j m ps y h in
-    let many : length (map (pairMeaning f) (y .own)) ≡ m .count = length-map (pairMeaning f) (y .own) ∙ y .many in
-    let front = (stringBytes (part f (m .start) (m .len)) ++ (m .count ∷ [])) ++ joined pairForm (map (pairMeaning f) (y .own)) in
-    let rest = listForm (map (messageMeaning f) ms) (map (pairMeaning f) (y .rest)) in
-    told-form f small at j m ps y (own .0)
-    ∙ ap₂ _++_ (ap₂ _++_ (name-bytes f m) (pairs-meant f (y .own))) (messages-meant f small (y .next) (j + m .count) ms (y .rest) end (x .1) (own .1))
+    let own = x .0 in
+    let others = x .1 in
+    let plain = parts-plain f small ps own others (x .3) h in
+    let many : length (map (pairMeaning f) own) ≡ m .count = length-map (pairMeaning f) own ∙ x .5 .many in
+    let front = (stringBytes (part f (m .start) (m .len)) ++ (m .count ∷ [])) ++ joined pairForm (map (pairMeaning f) own) in
+    let rest = listForm (map (messageMeaning f) ms) (map (pairMeaning f) others) in
+    there-form f small at m own (x .2) (x .5) (plain .0)
+    ∙ ap₂ _++_ (ap₂ _++_ (name-bytes f m) (pairs-meant f own)) (messages-meant f small (x .2) (j + m .count) ms others end (x .6) (plain .1))
     ∙ sym (append-assoc front rest (drop end f))
     ∙ ap (λ (l : List ℕ). l ++ drop end f)
-    (sym (list-on (messageMeaning f m) (map (messageMeaning f) ms) (map (pairMeaning f) (y .own)) (map (pairMeaning f) (y .rest)) many)
-    ∙ ap (λ (l : List (List ℕ × Meaning)). listForm (map (messageMeaning f) (m ∷ ms)) l) (sym (map-both (pairMeaning f) (y .own) (y .rest)) ∙ ap (map (pairMeaning f)) (sym (y .parts))))
+    (sym (list-on (messageMeaning f m) (map (messageMeaning f) ms) (map (pairMeaning f) own) (map (pairMeaning f) others) many)
+    ∙ ap (λ (l : List (List ℕ × Meaning)). listForm (map (messageMeaning f) (m ∷ ms)) l) (sym (map-both (pairMeaning f) own others) ∙ ap (map (pairMeaning f)) (sym (x .3))))
 
 -- ---- a frame goes by them
 
@@ -128,11 +130,11 @@ module _ (limit : ℕ) (rooms : Rooms) (s : List ℕ) (m : Metadata) (c : Conten
       let o = kv-stands rooms f (x .start) (x .contents) (x .end) (rw t at (x .read)) in
       let same = ap (λ (d : Contents). d .pairs) (x .moved) in
       rw t
-      (run-form f small (x .start) (c .pairs) used (rw (same, x .ends) at (o .0)) plain
+      (run-form f small (x .start) (c .pairs) used (rw (same, x .ends) at o) plain
       ∙ ap₂ _++_ (pairs-meant f (c .pairs)) over
       ∙ append-nil (joined pairForm (map (pairMeaning f) (c .pairs)))))
       (λ t.
-      let o = messages-stand rooms f (x .start) (x .contents) (x .end) (rw t at (x .read)) in
+      let o = messages-stand rooms f (x .start) (x .there) (x .contents) (x .end) (rw t at (x .read)) in
       let ms = ap (λ (d : Contents). d .messages) (x .moved) in
       let ps = ap (λ (d : Contents). d .pairs) (x .moved) in
       let all = listForm (map (messageMeaning f) (c .messages)) (map (pairMeaning f) (c .pairs)) in

@@ -9,7 +9,7 @@ use lib.Dec.{eqb}
 use lib.ListN.{length, take, drop, getD, length-drop, take-append-drop}
 use lib.Seq.{drop-cons, drop-drop, length-take-le}
 use borrow.Author.Tests.{eqb-true, eqb-false, ne-eqb}
-use Rattle.answer.specs.Answer.{Answer, done, refused}
+use Rattle.answer.specs.Answer.{done}
 use Rattle.answer.specs.Table.{some}
 use Rattle.answer.proofs.Cases.{lt-or-le, bool-cases, true-false, answer-cases, not-both}
 use Rattle.varint.specs.Number.{number, numberBytes}
@@ -20,11 +20,12 @@ use Rattle.frame.proofs.Laws.{four-kept}
 use Rattle.parser.specs.declared.Rooms.{Rooms}
 use Rattle.parser.specs.declared.Metadata.{Metadata}
 use Rattle.parser.specs.Payload.{Contents, payload, movedContents}
-use Rattle.parser.specs.Frame.{frameTypes, ids, metadata, wholeFrame, answered, frameRead}
+use Rattle.parser.specs.Frame.{frameTypes, ids, metadata, answered, frameRead}
 use Rattle.parser.proofs.Pairs.{done-same}
-use Rattle.parser.proofs.Frames.{last-refused, last-agent, last-done, ids-refused, ids-on, metadata-none, metadata-type, metadata-short, metadata-flags, metadata-abort, metadata-ids, whole-refused, whole-payload, frame-start, frame-over, frame-wait, frame-whole, inFrame}
+use Rattle.parser.proofs.Frames.{last-refused, last-agent, last-done, ids-refused, ids-on, metadata-none, metadata-type, metadata-short, metadata-flags, metadata-abort, metadata-ids, metadata-start, frame-start, frame-over, frame-wait, frame-whole}
 use Rattle.parser.proofs.Kept.{by-cut, wait-answered, answered-same}
 use Rattle.parser.proofs.Exact.{bytes-drop}
+use Rattle.walker.proofs.Walking.{frame-holds}
 use Rattle.listing.proofs.Accepted.{whole-held, frame-used}
 use Rattle.writer.specs.Frame.{headOf}
 use Rattle.inverse.proofs.Value.{form-rest}
@@ -164,7 +165,7 @@ pub record Accepted (limit : ℕ) (rooms : Rooms) (s : List ℕ) (m : Metadata) 
   pub end : ℕ
   pub long : length (take used s) ≡ used
   pub fits : used ≤ 4 + limit
-  pub least : 4 ≤ used
+  pub there : start ≤ length (take used s)
   pub kinds : (1 ≤ m .kind) × (m .kind ≤ 3)
   pub form : take used s ≡ frameBytes (headOf (m .kind) true false (m .stream) (m .frame)) (drop start (take used s))
   pub read : payload (not (eqb (m .kind) 3)) rooms (drop start (take used s)) ≡ done contents end
@@ -189,8 +190,8 @@ module _ (limit : ℕ) (rooms : Rooms) (s : List ℕ) (m : Metadata) (c : Conten
   abbrev f : List ℕ
   f = take used s
 
-  there : (4 ≤ used) × (used ≤ length s) × (wholeFrame rooms f ≡ done (m, c) used)
-  there = frame-used limit rooms s m c used e
+  there : (4 ≤ used) × (used ≤ length s)
+  there = let o = frame-used limit rooms s m c used e in (o .0, o .1)
 
   says : (used ≡ 4 + fourNumber s) × (fourNumber s ≤ limit)
   says = frame-says limit rooms s m c used e
@@ -209,30 +210,21 @@ module _ (limit : ℕ) (rooms : Rooms) (s : List ℕ) (m : Metadata) (c : Conten
       form-rest (fourBytes (fourNumber f)) f 4 (four-exact f small (omega (arith, long, there .0)))
       ∙ ap₂ (λ (k : ℕ) (l : List ℕ). fourBytes k ++ l) (four ∙ ap length behind) behind
 
-  by-payload : (n : Metadata) (start : ℕ) → metadata f ≡ done n start → (a : Answer Contents) → payload (not (eqb (n .kind) 3)) rooms (drop start f) ≡ a
-      → Accepted limit rooms s m c used
-  by-payload n start g (done d end) is =
-      let q = done-same (sym (whole-payload rooms f n start g ∙ ap (inFrame n start) is) ∙ there .2) in
-      let same : n ≡ m = ap (λ (x : Metadata × Contents). x .0) (q .0) in
-      let p = parts f m start (g ∙ ap (λ (x : Metadata). done x start) same) in
-      record {
-        start = start;
-        contents = d;
-        end = end;
-        long = long;
-        fits = omega (arith, says);
-        least = there .0;
-        kinds = p .kinds;
-        form = whole (headOf (m .kind) true false (m .stream) (m .frame)) start (head-form f m start small p);
-        read = rw (sym same) is;
-        moved = ap (λ (x : Metadata × Contents). x .1) (q .0);
-        ends = q .1;
-      }
-  by-payload n start g (refused k place) is = not-both (there .2) (whole-payload rooms f n start g ∙ ap (inFrame n start) is)
-
   -- Law: every accepted frame of types 1 to 3 is so.
   pub frame-accepted : Accepted limit rooms s m c used
   frame-accepted =
-      answer-cases (metadata f)
-      (λ n start g. by-payload n start g (payload (not (eqb (n .kind) 3)) rooms (drop start f)) refl)
-      (λ n place r. not-both (there .2) (whole-refused rooms f n place r))
+      let h = frame-holds limit rooms s m c used e in
+      let p = parts f m (h .start) (h .head) in
+      record {
+        start = h .start;
+        contents = h .held;
+        end = h .end;
+        long = long;
+        fits = omega (arith, says);
+        there = metadata-start f m (h .start) (h .head);
+        kinds = p .kinds;
+        form = whole (headOf (m .kind) true false (m .stream) (m .frame)) (h .start) (head-form f m (h .start) small p);
+        read = h .is;
+        moved = h .moved;
+        ends = h .all;
+      }
