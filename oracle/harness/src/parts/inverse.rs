@@ -18,7 +18,8 @@ use crate::{
 use spop::varint::encode_varint_into;
 
 pub fn diff(random: &mut Random, rounds: u64) -> Result<String, Difference> {
-    let stored = stored()?;
+    let [haproxy, listed] = STORED.map(stored);
+    let [haproxy, listed] = [haproxy?, listed?];
     let mut met = Met::default();
     for _ in 0..rounds {
         met.add(&drawn(random))?;
@@ -29,15 +30,15 @@ pub fn diff(random: &mut Random, rounds: u64) -> Result<String, Difference> {
     met.print();
     let [same, refused, other] = [&met.same, &met.refused, &met.other].map(|counts| counts.inputs);
     Ok(format!(
-        "{} stored frames that came out as they went in and {} answered 15; {rounds} rounds, {same} frames that came out \
-         as they went in, {refused} answered 15, {other} with other bytes",
-        stored.same, stored.refused
+        "{} frames of HAProxy and {} of the listing's input that came out as they went in, {} and {} answered 15; {rounds} \
+         rounds, {same} frames that came out as they went in, {refused} answered 15, {other} with other bytes",
+        haproxy.same, listed.same, haproxy.refused, listed.refused
     ))
 }
 
 // ---------------------------------------------------------------- stored frames
 
-/// Frames that a HAProxy sent, and what the program of the listing is run on, which has some of them and others, in front of
+/// Frames that a HAProxy sent, and what the program of the listing is run on, which has the same ones and others, in front of
 /// a frame that is refused. Behind each is how many bytes are left then.
 const STORED: [(&[u8], usize); 2] = [
     (include_bytes!("../../../../examples/haproxy/frames.bin"), 0),
@@ -48,31 +49,28 @@ const STORED: [(&[u8], usize); 2] = [
 const LIMIT: u32 = 65_532;
 const ROOMY: [usize; 2] = [64 * MESSAGE_WIDTH, 1_024 * PAIR_WIDTH];
 
-/// Of stored frames, how many came out as they went in, and how many have a text that is not UTF-8, which is 15. HAProxy
-/// writes no other value, so there is no third kind.
+/// Of stored frames, how many came out as they went in, and how many have a text that is not UTF-8, which is 15. None of them
+/// has a value that gives other bytes.
 #[derive(Default)]
 struct Stored {
     same: u64,
     refused: u64,
 }
 
-fn stored() -> Result<Stored, Difference> {
-    let mut met = Stored::default();
-    for (stored, left) in STORED {
-        let mut rest = stored;
-        while let Some(seen) = again(rest)? {
-            match (seen.told.is_well(), unchanged(&seen)) {
-                (true, true) => met.same += 1,
-                (false, false) => met.refused += 1,
-                _ => return Err(not_the_same(&seen)),
-            }
-            rest = &rest[seen.frame.len()..];
+fn stored((bytes, left): (&[u8], usize)) -> Result<Stored, Difference> {
+    let (mut met, mut rest) = (Stored::default(), bytes);
+    while let Some(seen) = again(rest)? {
+        match (seen.told.is_well(), unchanged(&seen)) {
+            (true, true) => met.same += 1,
+            (false, false) => met.refused += 1,
+            _ => return Err(not_the_same(&seen)),
         }
-        if rest.len() != left {
-            return Err(Difference::in_call("read_frame of stored frames").row("left", rest.len()));
-        }
+        rest = &rest[seen.frame.len()..];
     }
-    Ok(met)
+    match rest.len() == left {
+        true => Ok(met),
+        false => Err(Difference::in_call("read_frame of stored frames").row("left", rest.len())),
+    }
 }
 
 /// The frame at the front, written again into just enough bytes.
