@@ -1,34 +1,28 @@
 -- What a writer answers to the records that the frame reader left of an accepted frame, with the frame's own bytes as its buffer: the frame's bytes, where
 -- its texts are UTF-8 and its values plain; 15 at the first record with another text; and else other bytes.
-use mathlib.Core.Path.{_≡_, refl, sym, ap, ap₂, _∙_}
-use mathlib.Core.Bool.{Bool, true, false, cond, not, _||_}
-use mathlib.Core.Logic.{⊎-elim}
+use mathlib.Core.Path.{_≡_, refl, sym, ap, _∙_}
+use mathlib.Core.Bool.{true, false, cond, not, _||_}
 use mathlib.Core.List.{List, [], _∷_, _++_, append-nil}
 use Prim.Native.Nat.{ℕ, zero, suc, _+_, _*_, _≤_, _<_}
 use native.Mathlib.Omega.{arith}
-use lib.Dec.{eqb, leb}
+use lib.Dec.{eqb}
 use lib.ListN.{length, take, drop, length-append, drop-of-length-le}
 use borrow.Author.Tests.{le-leb, eq-eqb, ne-eqb, eqb-true, eqb-false}
-use Rattle.answer.specs.Answer.{Answer, done, refused, written}
+use Rattle.answer.specs.Answer.{done, refused, written}
 use Rattle.answer.specs.Order.{inOrder, first, firstRefused}
 use Rattle.answer.specs.declared.Refusal.{Refusal}
 use Rattle.answer.specs.Table.{records, joined, some}
-use Rattle.answer.specs.Inner.{Sound}
 use Rattle.answer.proofs.Cases.{bool-cases, true-false}
 use Rattle.answer.proofs.Order.{none-refused, refused-here}
 use Rattle.answer.proofs.Records.{records-none, records-snoc}
 use Rattle.varint.proofs.Reading.{Bytes}
-use Rattle.utf8.specs.Text.{isUtf8}
-use Rattle.types.specs.Form.{part}
 use Rattle.types.specs.Check.{stringChecks}
 use Rattle.types.proofs.Checking.{string-ill, string-well}
 use Rattle.frame.specs.declared.Head.{Head}
 use Rattle.frame.specs.declared.Pair.{Pair}
-use Rattle.frame.specs.declared.Message.{Message}
 use Rattle.frame.specs.Head.{fourBytes, headBytes, frameBytes}
 use Rattle.frame.specs.Records.{messageWidth, messageAt, messageNumbers, pairWidth, pairAt, pairNumbers, sameKey}
 use Rattle.frame.proofs.Laws.{four-long}
-use Rattle.parser.specs.declared.Rooms.{Rooms}
 use Rattle.parser.specs.declared.Metadata.{Metadata}
 use Rattle.parser.specs.Payload.{Contents}
 use Rattle.parser.specs.Frame.{answered, frameRead}
@@ -40,7 +34,7 @@ use Rattle.listing.proofs.Accepted.{Each, Named, Whole, Held, whole-held, frame
 use Rattle.listing.proofs.Tables.{table-messages, table-pairs, each-at}
 use Rattle.writer.specs.Pair.{pairBytes, pairRefusal, kvRefusal}
 use Rattle.writer.specs.Message.{messageBytes, runStart, messageRefusal}
-use Rattle.writer.specs.Frame.{headOf, limited, finAlone, kvAllowed, pairsBytes, kvAnswer, messagesBytes, notifyAnswer}
+use Rattle.writer.specs.Frame.{headOf, limited, kvAllowed, pairsBytes, kvAnswer, messagesBytes, notifyAnswer}
 use Rattle.writer.proofs.Pairs.{pair-number, kv-own, kv-new}
 use Rattle.writer.proofs.Messages.{message-name, message-number}
 use Rattle.writer.proofs.Answers.{kv-haproxy-hello, kv-haproxy-disconnect, kv-list, list-refused, list-passed, notify-message, notify-pair, notify-passed}

@@ -3,12 +3,11 @@
 use mathlib.Core.Path.{_≡_, refl, sym, ap, ap₂, _∙_}
 use mathlib.Core.Bool.{Bool, true, false, cond, not}
 use mathlib.Core.List.{List, [], _∷_, _++_, map, append-assoc, append-nil}
-use Prim.Native.Nat.{ℕ, suc, _+_, _≤_, _<_}
+use Prim.Native.Nat.{ℕ, _+_}
 use native.Mathlib.Omega.{arith}
 use lib.Dec.{eqb}
 use lib.ListN.{length, take, drop, drop-of-length-le}
 use lib.Seq.{take-at, drop-at}
-use borrow.Author.Tests.{eqb-true, eqb-false, eq-eqb, ne-eqb}
 use Rattle.answer.specs.Answer.{done}
 use Rattle.answer.specs.Table.{joined}
 use Rattle.answer.proofs.Cases.{bool-cases}
@@ -19,7 +18,6 @@ use Rattle.types.specs.Form.{part, stringBytes, dataBytes, typeOf, valueBytes}
 use Rattle.types.specs.Promise.{recordOf}
 use Rattle.types.proofs.Writing.{value-bytes}
 use Rattle.types.proofs.Roundtrip.{Meaning, means, meaning}
-use Rattle.frame.specs.declared.Head.{Head}
 use Rattle.frame.specs.declared.Pair.{Pair}
 use Rattle.frame.specs.declared.Message.{Message}
 use Rattle.frame.specs.Head.{frameBytes}
@@ -32,7 +30,6 @@ use Rattle.parser.proofs.Frames.{length-map}
 use Rattle.records.specs.Inner.{Laid}
 use Rattle.listing.proofs.Accepted.{Each}
 use Rattle.writer.specs.Pair.{pairBytes}
-use Rattle.writer.specs.Message.{nameBytes}
 use Rattle.writer.specs.Frame.{headOf}
 use Rattle.writer.proofs.Pairs.{pair-bytes}
 use Rattle.writer.proofs.Messages.{name-bytes}

@@ -1,9 +1,9 @@
 -- The one law about a frame around its payload: an accepted frame is its head, as it is written, and behind it its payload.
 use mathlib.Core.Path.{_≡_, refl, sym, ap, ap₂, _∙_}
-use mathlib.Core.Bool.{Bool, true, false, not}
+use mathlib.Core.Bool.{true, false, not}
 use mathlib.Core.Logic.{⊎-elim}
 use mathlib.Core.List.{List, [], _∷_, _++_, append-assoc}
-use Prim.Native.Nat.{ℕ, zero, suc, _+_, _-_, _*_, _/_, _%_, _^_, _≤_, _<_}
+use Prim.Native.Nat.{ℕ, _+_, _-_, _*_, _/_, _%_, _^_, _≤_, _<_}
 use native.Mathlib.Omega.{arith}
 use lib.Dec.{eqb}
 use lib.ListN.{length, take, drop, getD, length-drop, take-append-drop}
@@ -15,7 +15,7 @@ use Rattle.answer.proofs.Cases.{lt-or-le, bool-cases, true-false, answer-cases,
 use Rattle.varint.specs.Number.{number, numberBytes}
 use Rattle.varint.proofs.Reading.{Bytes, number-exact}
 use Rattle.frame.specs.declared.Head.{Head}
-use Rattle.frame.specs.Head.{fourBytes, fourNumber, flagsOf, headBytes, frameBytes}
+use Rattle.frame.specs.Head.{fourBytes, fourNumber, headBytes, frameBytes}
 use Rattle.frame.proofs.Laws.{four-kept}
 use Rattle.parser.specs.declared.Rooms.{Rooms}
 use Rattle.parser.specs.declared.Metadata.{Metadata}

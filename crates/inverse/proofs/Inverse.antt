@@ -7,8 +7,8 @@ use mathlib.Core.List.{List, _++_}
 use Prim.Native.Nat.{ℕ, zero, suc, _≤_, _<_}
 use native.Mathlib.Omega.{arith}
 use lib.Dec.{leb}
-use lib.ListN.{length, take, drop, getD}
-use lib.Seq.{take-at, getD-take, length-take-le}
+use lib.ListN.{length, take, drop}
+use lib.Seq.{getD-take, length-take-le}
 use borrow.Author.Tests.{le-leb}
 use Rattle.answer.specs.declared.Refusal.{Refusal}
 use Rattle.answer.specs.declared.Written.{Written}
@@ -16,7 +16,7 @@ use Rattle.answer.specs.declared.Written.the-variants as w
 use Rattle.answer.specs.Answer.{Answer, done, refused, written, within}
 use Rattle.answer.specs.Writes.{said, Writes}
 use Rattle.answer.specs.Order.{inOrder}
-use Rattle.answer.proofs.Cases.{lt-or-le, bool-cases, true-false, not-both}
+use Rattle.answer.proofs.Cases.{lt-or-le, bool-cases, not-both}
 use Rattle.answer.proofs.Output.{writes-done}
 use Rattle.answer.proofs.Same.{said-same}
 use Rattle.varint.proofs.Reading.{Bytes}

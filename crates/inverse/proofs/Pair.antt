@@ -1,13 +1,13 @@
 -- Laws about pairs and names that stand at a place: the bytes from there on are what each is written as, and the rest; of a pair exactly where its value is
 -- plain. And what a writer refuses of them.
 use mathlib.Core.Path.{_≡_, refl, sym, ap, ap₂, _∙_}
-use mathlib.Core.Bool.{Bool, true, false, cond, not, _||_}
+use mathlib.Core.Bool.{true, cond, not, _||_}
 use mathlib.Core.List.{List, [], _∷_, _++_, append-assoc}
-use Prim.Native.Nat.{ℕ, suc, _+_, _≤_, _<_}
+use Prim.Native.Nat.{ℕ, _+_, _<_}
 use native.Mathlib.Numerals.{add-one}
 use native.Mathlib.Omega.{arith}
 use lib.Dec.{eqb}
-use lib.ListN.{length, take, drop, getD, length-drop}
+use lib.ListN.{length, drop, getD}
 use lib.Seq.{drop-cons, drop-drop, drop-at}
 use borrow.Author.Tests.{le-leb}
 use Rattle.answer.specs.Answer.{Answer, done, refused, behind}
@@ -20,7 +20,7 @@ use Rattle.utf8.specs.Text.{isUtf8}
 use Rattle.types.specs.Value.{Span, span, string, Record, value, points, shape, moved, typed}
 use Rattle.types.specs.Form.{part, inside, stringBytes, valueBytes, ranged}
 use Rattle.types.specs.Promise.{recordOf}
-use Rattle.types.proofs.Reading.{string-accepted, typed-accepted}
+use Rattle.types.proofs.Reading.{string-accepted}
 use Rattle.frame.specs.declared.Pair.{Pair}
 use Rattle.frame.specs.declared.Message.{Message}
 use Rattle.frame.specs.Records.{keyOf}

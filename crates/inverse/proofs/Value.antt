@@ -1,12 +1,11 @@
 -- Laws about a string and a value that were read: the bytes that they took are those that they are written as, of a value exactly where it is plain.
 use mathlib.Core.Path.{_≡_, refl, sym, ap, ap₂, _∙_}
-use mathlib.Core.Bool.{Bool, true, false, cond}
+use mathlib.Core.Bool.{true, cond}
 use mathlib.Core.Logic.{⊎-elim}
 use mathlib.Core.List.{List, [], _∷_, _++_}
-use Prim.Native.Nat.{ℕ, suc, _+_, _*_, _/_, _%_, _^_, _≤_, _<_}
+use Prim.Native.Nat.{ℕ, suc, _+_, _*_, _%_, _^_, _≤_, _<_}
 use native.Mathlib.Nat.{mod-eq-of-lt}
 use native.Mathlib.Omega.{arith}
-use lib.Dec.{ltb, eqb}
 use lib.ListN.{length, take, drop, take-append-drop}
 use lib.Seq.{take-add, drop-at, length-take-le}
 use borrow.Author.Tests.{ltb-true, lt-ltb, eqb-true, eq-eqb}
@@ -23,7 +22,7 @@ use Rattle.types.proofs.Exact.{string-exact}
 use Rattle.parser.proofs.Pairs.{done-same}
 use Rattle.parser.proofs.Exact.{bytes-drop}
 use Rattle.parser.proofs.Back.{part-moved}
-use Rattle.inverse.proofs.Plain.{plainNumber, plainData, plainValue}
+use Rattle.inverse.proofs.Plain.{plainData, plainValue}
 
 -- ---- a form at the front of some bytes
 
