@@ -22,16 +22,21 @@ pub fn diff(random: &mut Random, rounds: u64) -> Result<String, Difference> {
     let [haproxy, listed] = [haproxy?, listed?];
     let mut met = Met::default();
     for _ in 0..rounds {
-        met.add(&drawn(random))?;
+        let call = drawn(random);
+        if let Some(seen) = met.add(&call)? {
+            met.add_twin(&seen, &twin(random, &call, &seen))?;
+        }
     }
     if rounds >= ENOUGH {
         met.all()?;
     }
     met.print();
-    let [same, refused, other] = [&met.same, &met.refused, &met.other].map(|counts| counts.inputs);
+    let [same, refused, other, twins] =
+        [&met.same, &met.refused, &met.other, &met.twins].map(|counts| counts.inputs);
     Ok(format!(
         "{} frames of HAProxy and {} of the listing's input that came out as they went in, {} and {} answered 15; {rounds} \
-         rounds, {same} frames that came out as they went in, {refused} answered 15, {other} with other bytes",
+         rounds, {same} frames that came out as they went in, {refused} answered 15, {other} with other bytes, {twins} frames \
+         with some bits changed",
         haproxy.same, listed.same, haproxy.refused, listed.refused
     ))
 }
@@ -120,6 +125,26 @@ fn drawn(random: &mut Random) -> Rewritten {
     Rewritten { read, spare }
 }
 
+/// The frame with one to three bits changed behind its length field, in tables with room for everything. Half of the bits would
+/// be flags that a boolean loses, if they were in its type byte.
+fn twin(random: &mut Random, call: &Rewritten, seen: &Seen) -> Rewritten {
+    let mut input = seen.frame.clone();
+    for _ in 0..[1, 1, 1, 2, 3][random.index(5)] {
+        let place = random.within(4, input.len() as u64 - 1) as usize;
+        let bit = match random.below(2) {
+            0 => random.within(5, 7),
+            _ => random.below(8),
+        };
+        input[place] ^= 1 << bit;
+    }
+    let read = Call {
+        input,
+        limit: call.read.limit,
+        lengths: ROOMY,
+    };
+    Rewritten { read, spare: 0 }
+}
+
 /// A list with an i32 beyond its range, of which the sign's bits make more bytes.
 fn lengthened(random: &mut Random) -> Vec<u8> {
     let mut bytes = vec![0, 0, 0, 0, 2, 0, 0, 0, 1, 0, 0];
@@ -137,18 +162,45 @@ struct Met {
     same: Counts,
     refused: Counts,
     other: Counts,
+    twins: Counts,
 }
 
 impl Met {
-    fn add(&mut self, call: &Rewritten) -> Result<(), Difference> {
+    fn add(&mut self, call: &Rewritten) -> Result<Option<Seen>, Difference> {
         let Some(seen) = call.checked()? else {
-            return Ok(());
+            return Ok(None);
         };
         match (seen.told.is_well(), seen.told.is_plain()) {
             (false, _) => self.refused.add(&refused(&seen)),
             (true, true) => self.same.add(&same(call, &seen)),
             (true, false) => self.other.add(&other(&seen)),
         }
+        Ok(Some(seen))
+    }
+
+    /// Two frames with plain values that are other bytes are read as something else.
+    fn add_twin(&mut self, seen: &Seen, call: &Rewritten) -> Result<(), Difference> {
+        let Some(twin) = call.checked()? else {
+            return Ok(());
+        };
+        let plain = [seen, &twin].map(|seen| seen.told.is_plain());
+        let (other, same) = (twin.frame != seen.frame, twin.meaning == seen.meaning);
+        if other && same && plain == [true, true] {
+            return Err(Difference::in_call("read_frame of two frames")
+                .row("one", hex(&seen.frame))
+                .row("other", hex(&twin.frame)));
+        }
+        self.twins.add(&[
+            ("both with plain values", other && plain == [true, true]),
+            (
+                "both with plain values, and a text that is not UTF-8",
+                other && plain == [true, true] && !twin.told.is_well(),
+            ),
+            (
+                "with another value, and read as the same",
+                other && same && plain.contains(&false),
+            ),
+        ]);
         Ok(())
     }
 
@@ -156,7 +208,9 @@ impl Met {
         self.same.all("a frame written again as it was", "random")?;
         self.refused
             .all("a frame written again, refused", "random")?;
-        self.other.all("a frame written again as another", "random")
+        self.other
+            .all("a frame written again as another", "random")?;
+        self.twins.all("two frames that are read", "random")
     }
 
     fn print(&self) {
@@ -166,6 +220,8 @@ impl Met {
         self.refused.print();
         println!("frames with another value, written as other bytes:");
         self.other.print();
+        println!("frames with some bits changed, and read again:");
+        self.twins.print();
     }
 }
 

@@ -10,7 +10,8 @@ use super::{
 use crate::{
     answers::DONE,
     both,
-    records::{NOT_TEXT, Wrote},
+    port::{MESSAGE_WIDTH, PAIR_WIDTH},
+    records::{self, NOT_TEXT, Wrote},
     text::{Difference, hex},
 };
 use spop::varint::encode_varint_into;
@@ -22,11 +23,21 @@ pub struct Rewritten {
     pub spare: usize,
 }
 
-/// A frame that was accepted, what its bytes say, and what the port wrote.
+/// A frame that was accepted, what its bytes say, what the port read it as, and what it wrote.
 pub struct Seen {
     pub frame: Vec<u8>,
     pub told: Told,
+    pub meaning: Meaning,
     pub wrote: Wrote,
+}
+
+/// What a frame is read as, starts aside: type, flags and ids; each message's name, first pair and count; and each pair's key,
+/// kind, flags, and number or bytes.
+#[derive(PartialEq)]
+pub struct Meaning {
+    head: [u64; 4],
+    messages: Vec<(Vec<u8>, [u64; 2])>,
+    pairs: Vec<(Vec<u8>, [u64; 3], Vec<u8>)>,
 }
 
 /// What does not hold, in the words of a difference.
@@ -53,10 +64,16 @@ impl Rewritten {
             return Err(DIFFERS);
         }
         let wrote = self.by_port(&reading, &frame).ok_or(WRITTEN)?;
-        match wrote == self.expected(&told, &frame) {
-            true => Ok(Some(Seen { frame, told, wrote })),
-            false => Err(WRITTEN),
+        if wrote != self.expected(&told, &frame) {
+            return Err(WRITTEN);
         }
+        let meaning = Meaning::of(&reading, &frame).ok_or(WRITTEN)?;
+        Ok(Some(Seen {
+            frame,
+            told,
+            meaning,
+            wrote,
+        }))
     }
 
     /// The frame's own bytes, by its length field.
@@ -122,6 +139,34 @@ impl Rewritten {
             Some(wrote) => rows.row("port", wrote.answer).row("", hex(&wrote.area)),
             None => rows.row("port", "records that were not written whole"),
         }
+    }
+}
+
+impl Meaning {
+    /// Where each start and length point into the frame.
+    fn of(reading: &Reading, frame: &[u8]) -> Option<Self> {
+        let [messages, pairs] = reading.records()?;
+        let part = |start, length| Some(records::part(frame, start, length).ok()?.to_vec());
+        let message = |row: &[u64]| Some((part(row[0], row[1])?, [row[2], row[3]]));
+        let pair = |row: &[u64]| {
+            let [kind, a, b, flags] = [row[2], row[3], row[4], row[5]];
+            let (number, bytes) = match kind {
+                6..=9 => (0, part(a, b)?),
+                _ => (a, Vec::new()),
+            };
+            Some((part(row[0], row[1])?, [kind, number, flags], bytes))
+        };
+        Some(Self {
+            head: *reading.head.first_chunk()?,
+            messages: messages
+                .chunks_exact(MESSAGE_WIDTH)
+                .map(message)
+                .collect::<Option<_>>()?,
+            pairs: pairs
+                .chunks_exact(PAIR_WIDTH)
+                .map(pair)
+                .collect::<Option<_>>()?,
+        })
     }
 }
 
