@@ -65,7 +65,7 @@ module _ {A : Type 0} (numbers : A → List ℕ) (at : List ℕ → ℕ → A)
       ∙ records-first (at (numbers x ++ rest)) (length xs)
       ∙ ap₂ _∷_ (here x rest) (records-later (at (numbers x ++ rest)) (at rest) (later x rest) (length xs) 0 ∙ table-holds xs t)
 
-table-messages : (ms : List Message) (t : List ℕ) → records (messageAt (joined messageNumbers ms ++ t)) 0 (length ms) ≡ ms
+pub table-messages : (ms : List Message) (t : List ℕ) → records (messageAt (joined messageNumbers ms ++ t)) 0 (length ms) ≡ ms
 unfolding messageAt
 table-messages = table-holds messageNumbers messageAt here later
   where
@@ -77,7 +77,7 @@ table-messages = table-holds messageNumbers messageAt here later
         let on = number-later messageWidth (messageNumbers m) t refl i in
         λ j. record { start = on 0 j; len = on 1 j; first = on 2 j; count = on 3 j }
 
-table-pairs : (ps : List Pair) (t : List ℕ) → records (pairAt (joined pairNumbers ps ++ t)) 0 (length ps) ≡ ps
+pub table-pairs : (ps : List Pair) (t : List ℕ) → records (pairAt (joined pairNumbers ps ++ t)) 0 (length ps) ≡ ps
 unfolding pairAt
 table-pairs = table-holds pairNumbers pairAt here later
   where
@@ -88,7 +88,7 @@ table-pairs = table-holds pairNumbers pairAt here later
     later p t i = λ j. pairIn (λ k. number-later pairWidth (pairNumbers p) t refl i k j) 0
 
 -- each of them
-each-at : {A : Type 0} (P : A → Type 0) (at : ℕ → A) (n j : ℕ) → Each P (records at j n) → (i : ℕ) → i < n → P (at (j + i))
+pub each-at : {A : Type 0} (P : A → Type 0) (at : ℕ → A) (n j : ℕ) → Each P (records at j n) → (i : ℕ) → i < n → P (at (j + i))
 unfolding records
 each-at P at zero j e i h = absurd (omega arith)
 each-at P at (suc n) j e zero h = let here : j + 0 ≡ j = omega arith in rw here (e .0)

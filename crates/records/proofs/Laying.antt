@@ -109,7 +109,7 @@ there-moved s n at m qs end le h =
       run = subst (λ (k : ℕ). Run s k (map (movedPair n) qs) (n + end)) {x = n + (h .place + 1)} {y = n + h .place + 1} (omega arith) (run-moved s n (h .place + 1) qs end (h .run));
     }
 
-laid-moved : (s : List ℕ) (n at before : ℕ) (ms : List Message) (ps : List Pair) (end : ℕ) → n ≤ length s → Laid (drop n s) at before ms ps end
+pub laid-moved : (s : List ℕ) (n at before : ℕ) (ms : List Message) (ps : List Pair) (end : ℕ) → n ≤ length s → Laid (drop n s) at before ms ps end
     → Laid s (n + at) before (map (movedMessage n) ms) (map (movedPair n) ps) (n + end)
 laid-moved s n at before [] ps end le l = (ap (map (movedPair n)) (l .0), ap (λ (k : ℕ). n + k) (l .1))
 laid-moved s n at before (m ∷ ms) ps end le l = (
@@ -229,7 +229,7 @@ module _ (rooms : Rooms) (s : List ℕ) where
   unfolding payload
   whole-rest d end e = rest-on (length s) 0 _ d end e
 
-  messages-laid : (d : Contents) (end : ℕ) → payload false rooms s ≡ done d end → Laid s 0 0 (d .messages) (d .pairs) end
+  pub messages-laid : (d : Contents) (end : ℕ) → payload false rooms s ≡ done d end → Laid s 0 0 (d .messages) (d .pairs) end
   messages-laid d end e =
       let r = whole-rest d end e in
       by-none (r .rest) (r .ms) (r .next) (r .qs) (r .many) (r .run) (r .pairs) (r .messages) (r .laid)

@@ -40,6 +40,7 @@ parts! {
     notify,
     frames,
     laws,
+    inverse,
     listing at most 1_000,
     hello,
 }

@@ -186,13 +186,13 @@ impl Tables {
 // ---------------------------------------------------------------- bytes
 
 /// Some bytes, of which those before `at` have been read. Starts and places count from the first one.
-struct Bytes<'a> {
-    all: &'a [u8],
-    at: usize,
+pub struct Bytes<'a> {
+    pub all: &'a [u8],
+    pub at: usize,
 }
 
 impl<'a> Bytes<'a> {
-    fn at_end(&self) -> bool {
+    pub fn at_end(&self) -> bool {
         self.at == self.all.len()
     }
 
@@ -200,7 +200,7 @@ impl<'a> Bytes<'a> {
         Err((number, self.at as u64))
     }
 
-    fn byte(&mut self) -> Result<u8, Refusal> {
+    pub fn byte(&mut self) -> Result<u8, Refusal> {
         let Some(byte) = self.all.get(self.at) else {
             return self.refuse(TOO_SOON);
         };
@@ -209,7 +209,7 @@ impl<'a> Bytes<'a> {
     }
 
     /// The start and the length of that many bytes.
-    fn take(&mut self, length: u64) -> Result<[u64; 2], Refusal> {
+    pub fn take(&mut self, length: u64) -> Result<[u64; 2], Refusal> {
         if length > (self.all.len() - self.at) as u64 {
             return self.refuse(TOO_SOON);
         }
@@ -218,7 +218,7 @@ impl<'a> Bytes<'a> {
         Ok([start, length])
     }
 
-    fn number(&mut self) -> Result<u64, Refusal> {
+    pub fn number(&mut self) -> Result<u64, Refusal> {
         let first = self.byte()?;
         if first < 240 {
             return Ok(u64::from(first));
@@ -240,7 +240,7 @@ impl<'a> Bytes<'a> {
         Ok(sum as u64)
     }
 
-    fn string(&mut self) -> Result<[u64; 2], Refusal> {
+    pub fn string(&mut self) -> Result<[u64; 2], Refusal> {
         let length = self.number()?;
         self.take(length)
     }
@@ -276,7 +276,7 @@ impl<'a> Bytes<'a> {
     }
 
     /// Type, flags and ids.
-    fn head(&mut self) -> Result<[u64; 4], Refusal> {
+    pub fn head(&mut self) -> Result<[u64; 4], Refusal> {
         let kind = self.byte()?;
         if !matches!(kind, 1..=3 | 101..=103) {
             return Err((UNKNOWN, FRAME));

@@ -1,0 +1,160 @@
+-- Non-malleable: an accepted frame whose values are plain is told by its type, its ids and what its messages and pairs mean. For the bytes that these are written
+-- as go by their meaning alone, and are the frame's.
+use mathlib.Core.Path.{_≡_, refl, sym, ap, ap₂, _∙_}
+use mathlib.Core.Bool.{Bool, true, false, cond, not}
+use mathlib.Core.List.{List, [], _∷_, _++_, map, append-assoc, append-nil}
+use Prim.Native.Nat.{ℕ, _+_}
+use native.Mathlib.Omega.{arith}
+use lib.Dec.{eqb}
+use lib.ListN.{length, take, drop, drop-of-length-le}
+use lib.Seq.{take-at, drop-at}
+use Rattle.answer.specs.Answer.{done}
+use Rattle.answer.specs.Table.{joined}
+use Rattle.answer.proofs.Cases.{bool-cases}
+use Rattle.answer.proofs.Records.{joined-none, joined-on}
+use Rattle.varint.proofs.Reading.{Bytes}
+use Rattle.types.specs.Value.{Shape, nothing, flag, integer, address, text, reserved, shape, Record, value, points}
+use Rattle.types.specs.Form.{part, stringBytes, dataBytes, typeOf, valueBytes}
+use Rattle.types.specs.Promise.{recordOf}
+use Rattle.types.proofs.Writing.{value-bytes}
+use Rattle.types.proofs.Roundtrip.{Meaning, means, meaning}
+use Rattle.frame.specs.declared.Pair.{Pair}
+use Rattle.frame.specs.declared.Message.{Message}
+use Rattle.frame.specs.Head.{frameBytes}
+use Rattle.frame.proofs.Meaning.{pairMeaning, messageMeaning}
+use Rattle.parser.specs.declared.Rooms.{Rooms}
+use Rattle.parser.specs.declared.Metadata.{Metadata}
+use Rattle.parser.specs.Payload.{Contents}
+use Rattle.parser.specs.Frame.{answered, frameRead}
+use Rattle.parser.proofs.Frames.{length-map}
+use Rattle.records.specs.Inner.{Laid}
+use Rattle.listing.proofs.Accepted.{Each}
+use Rattle.writer.specs.Pair.{pairBytes}
+use Rattle.writer.specs.Frame.{headOf}
+use Rattle.writer.proofs.Pairs.{pair-bytes}
+use Rattle.writer.proofs.Messages.{name-bytes}
+use Rattle.inverse.proofs.Pair.{Plain, run-form}
+use Rattle.inverse.proofs.Payload.{map-both, kv-stands, messages-stand}
+use Rattle.inverse.proofs.Listed.{parts-plain, there-form}
+use Rattle.inverse.proofs.Head.{Accepted, frame-accepted}
+
+-- ---- written forms go by meanings
+
+abbrev valueForm : Meaning → List ℕ
+valueForm (means kind a flags bytes) = dataBytes (shape kind) (typeOf kind flags) a bytes
+
+abbrev pairForm : List ℕ × Meaning → List ℕ
+pairForm x = stringBytes (x .0) ++ valueForm (x .1)
+
+-- each message, and behind it as many pairs as it has arguments
+unfoldable listForm : List (List ℕ × ℕ × ℕ) → List (List ℕ × Meaning) → List ℕ
+listForm [] ps = []
+listForm (m ∷ ms) ps = ((stringBytes (m .0) ++ (m .2 ∷ [])) ++ joined pairForm (take (m .2) ps)) ++ listForm ms (drop (m .2) ps)
+
+value-meant : (f : List ℕ) (v : Record) → valueBytes f v ≡ valueForm (meaning f v)
+value-meant f (value kind a b flags) = value-bytes f kind a b flags ∙ by-shape (shape kind)
+  where
+    by-shape : (sh : Shape) → dataBytes sh (typeOf kind flags) a (part f a b) ≡ dataBytes sh (typeOf kind flags) (cond (points sh) 0 a) (cond (points sh) (part f a b) [])
+    by-shape nothing = refl
+    by-shape flag = refl
+    by-shape (integer w) = refl
+    by-shape (address n) = refl
+    by-shape text = refl
+    by-shape reserved = refl
+
+pair-meant : (f : List ℕ) (p : Pair) → pairBytes f p ≡ pairForm (pairMeaning f p)
+pair-meant f p = pair-bytes f p ∙ ap (λ (l : List ℕ). stringBytes (part f (p .start) (p .len)) ++ l) (value-meant f (recordOf (p .value)))
+
+pairs-meant : (f : List ℕ) (ps : List Pair) → joined (pairBytes f) ps ≡ joined pairForm (map (pairMeaning f) ps)
+pairs-meant f [] = joined-none (pairBytes f) ∙ sym (joined-none pairForm)
+pairs-meant f (p ∷ ps) =
+    joined-on (pairBytes f) p ps ∙ ap₂ _++_ (pair-meant f p) (pairs-meant f ps) ∙ sym (joined-on pairForm (pairMeaning f p) (map (pairMeaning f) ps))
+
+-- ---- a payload goes by them
+
+list-none : (ps : List (List ℕ × Meaning)) → listForm [] ps ≡ []
+unfolding listForm
+list-none ps = refl
+
+list-on : (m : List ℕ × ℕ × ℕ) (ms : List (List ℕ × ℕ × ℕ)) (own rest : List (List ℕ × Meaning)) → length own ≡ m .2
+    → listForm (m ∷ ms) (own ++ rest) ≡ ((stringBytes (m .0) ++ (m .2 ∷ [])) ++ joined pairForm own) ++ listForm ms rest
+unfolding listForm
+list-on m ms own rest n =
+    ap₂ (λ (x y : List (List ℕ × Meaning)). ((stringBytes (m .0) ++ (m .2 ∷ [])) ++ joined pairForm x) ++ listForm ms y) (take-at own rest (m .2) n) (drop-at own rest (m .2) n)
+
+messages-meant : (f : List ℕ) → Bytes f → (at j : ℕ) (ms : List Message) (ps : List Pair) (end : ℕ) → Laid f at j ms ps end → Each (Plain f) ps
+    → drop at f ≡ listForm (map (messageMeaning f) ms) (map (pairMeaning f) ps) ++ drop end f
+messages-meant f small at j [] ps end x h =
+    ap (λ (n : ℕ). drop n f) (x .1) ∙ ap (λ (l : List ℕ). l ++ drop end f) (sym (list-none (map (pairMeaning f) ps)))
+messages-meant f small at j (m ∷ ms) ps end x h =
+    let own = x .0 in
+    let others = x .1 in
+    let plain = parts-plain f small ps own others (x .3) h in
+    let many : length (map (pairMeaning f) own) ≡ m .count = length-map (pairMeaning f) own ∙ x .5 .many in
+    let front = (stringBytes (part f (m .start) (m .len)) ++ (m .count ∷ [])) ++ joined pairForm (map (pairMeaning f) own) in
+    let rest = listForm (map (messageMeaning f) ms) (map (pairMeaning f) others) in
+    there-form f small at m own (x .2) (x .5) (plain .0)
+    ∙ ap₂ _++_ (ap₂ _++_ (name-bytes f m) (pairs-meant f own)) (messages-meant f small (x .2) (j + m .count) ms others end (x .6) (plain .1))
+    ∙ sym (append-assoc front rest (drop end f))
+    ∙ ap (λ (l : List ℕ). l ++ drop end f)
+    (sym (list-on (messageMeaning f m) (map (messageMeaning f) ms) (map (pairMeaning f) own) (map (pairMeaning f) others) many)
+    ∙ ap (λ (l : List (List ℕ × Meaning)). listForm (map (messageMeaning f) (m ∷ ms)) l) (sym (map-both (pairMeaning f) own others) ∙ ap (map (pairMeaning f)) (sym (x .3))))
+
+-- ---- a frame goes by them
+
+-- the payload of a frame of a type, by what it means
+abbrev payloadForm : Bool → List (List ℕ × ℕ × ℕ) → List (List ℕ × Meaning) → List ℕ
+payloadForm kv ms ps = cond kv (joined pairForm ps) (listForm ms ps)
+
+abbrev frameForm : Metadata → List (List ℕ × ℕ × ℕ) → List (List ℕ × Meaning) → List ℕ
+frameForm m ms ps = frameBytes (headOf (m .kind) true false (m .stream) (m .frame)) (payloadForm (not (eqb (m .kind) 3)) ms ps)
+
+module _ (limit : ℕ) (rooms : Rooms) (s : List ℕ) (m : Metadata) (c : Contents) (used : ℕ) (small : Bytes (take used s))
+    (e : frameRead limit rooms s ≡ answered (done (m, c) used)) (plain : Each (Plain (take used s)) (c .pairs)) where
+  abbrev f : List ℕ
+  f = take used s
+
+  x : Accepted limit rooms s m c used
+  x = frame-accepted limit rooms s m c used small e
+
+  over : drop used f ≡ []
+  over = drop-of-length-le f {i = used} (omega (arith, x .long))
+
+  payload-meant : drop (x .start) f ≡ payloadForm (not (eqb (m .kind) 3)) (map (messageMeaning f) (c .messages)) (map (pairMeaning f) (c .pairs))
+  payload-meant =
+      bool-cases (not (eqb (m .kind) 3))
+      (λ t.
+      let o = kv-stands rooms f (x .start) (x .contents) (x .end) (rw t at (x .read)) in
+      let same = ap (λ (d : Contents). d .pairs) (x .moved) in
+      rw t
+      (run-form f small (x .start) (c .pairs) used (rw (same, x .ends) at o) plain
+      ∙ ap₂ _++_ (pairs-meant f (c .pairs)) over
+      ∙ append-nil (joined pairForm (map (pairMeaning f) (c .pairs)))))
+      (λ t.
+      let o = messages-stand rooms f (x .start) (x .there) (x .contents) (x .end) (rw t at (x .read)) in
+      let ms = ap (λ (d : Contents). d .messages) (x .moved) in
+      let ps = ap (λ (d : Contents). d .pairs) (x .moved) in
+      let all = listForm (map (messageMeaning f) (c .messages)) (map (pairMeaning f) (c .pairs)) in
+      rw t
+      (messages-meant f small (x .start) 0 (c .messages) (c .pairs) used (rw (ms, ps, x .ends) at o) plain
+      ∙ ap (λ (l : List ℕ). all ++ l) over
+      ∙ append-nil all))
+
+  -- a frame whose values are plain is the bytes that go by its type, its ids and its meanings
+  frame-meant : f ≡ frameForm m (map (messageMeaning f) (c .messages)) (map (pairMeaning f) (c .pairs))
+  frame-meant = x .form ∙ ap (frameBytes (headOf (m .kind) true false (m .stream) (m .frame))) payload-meant
+
+-- Law: so two accepted frames whose values are plain, of one type and with the same ids and the same meanings, are the same bytes.
+pub frames-apart : (limit other : ℕ) (rooms others : Rooms) (s t : List ℕ) (m k : Metadata) (c d : Contents) (used taken : ℕ)
+    → Bytes (take used s) → Bytes (take taken t)
+    → frameRead limit rooms s ≡ answered (done (m, c) used) → frameRead other others t ≡ answered (done (k, d) taken)
+    → Each (Plain (take used s)) (c .pairs) → Each (Plain (take taken t)) (d .pairs)
+    → m .kind ≡ k .kind → m .stream ≡ k .stream → m .frame ≡ k .frame
+    → map (messageMeaning (take used s)) (c .messages) ≡ map (messageMeaning (take taken t)) (d .messages)
+    → map (pairMeaning (take used s)) (c .pairs) ≡ map (pairMeaning (take taken t)) (d .pairs)
+    → take used s ≡ take taken t
+frames-apart limit other rooms others s t m k c d used taken small smalls e g plain plains kind stream frame messages pairs =
+    frame-meant limit rooms s m c used small e plain
+    ∙ ap₂ (frameForm m) messages pairs
+    ∙ rw (kind, stream, frame) refl
+    ∙ sym (frame-meant other others t k d taken smalls g plains)

@@ -1,0 +1,11 @@
+-- Reading and writing are each other's inverse: the conditions, and the laws from a value up to a frame.
+pub mod Plain
+pub mod Value
+pub mod Pair
+pub mod Payload
+pub mod Listed
+pub mod Head
+pub mod Again
+pub mod Apart
+pub mod Inverse
+pub mod Examples
