@@ -297,7 +297,7 @@ pub fn bench(random: &mut Random) {
     let others: Vec<Vec<u8>> = texts.iter().map(|text| other_end(text)).collect();
     time_sameness(&format!("same_text, {name}, other"), texts, &others);
     plain::time(
-        &format!("same_text_plain, {name}, other"),
+        "same_text_plain, mixed, other",
         texts,
         &others,
         rust_sameness,
