@@ -259,6 +259,13 @@ bool spop_is_utf8(const uint8_t *bytes, size_t len);
  * are compared so. For well-formed texts it is equality of bytes. */
 bool spop_same_text(const uint8_t *a, size_t a_len, const uint8_t *b, size_t b_len);
 
+/* The same the plain way: writes the lossy text of a at the front of a_text and that of b at the front of b_text, and compares
+ * their bytes. 0 with *at 0 and *same set to what spop_same_text answers, or 11 where either text has no room; 3 * a_len and
+ * 3 * b_len bytes always are enough. After 11 neither buffer has changed, and *same has not. */
+uint64_t spop_same_text_plain(const uint8_t *a, size_t a_len, const uint8_t *b, size_t b_len,
+                              uint8_t *a_text, size_t a_text_len, uint8_t *b_text, size_t b_text_len,
+                              bool *same, uint64_t *at);
+
 /* Writes the lossy text of the bytes at the front of out. 0 with its length, at most 3 * len, or 11. */
 uint64_t spop_lossy_text(const uint8_t *bytes, size_t len, uint8_t *out, size_t out_len, uint64_t *at);
 
@@ -561,6 +568,16 @@ static inline bool spop_texts_equal(struct spop_bytes a, struct spop_bytes b)
     struct spop_bytes x = spop_inner_bytes(a), y = spop_inner_bytes(b);
 
     return spop_same_text(x.start, x.len, y.start, y.len);
+}
+
+/* spop_same_text_plain. */
+static inline uint64_t spop_put_both_texts(struct spop_bytes a, struct spop_bytes b, struct spop_room a_text,
+                                           struct spop_room b_text, bool *same, uint64_t *at)
+{
+    struct spop_bytes x = spop_inner_bytes(a), y = spop_inner_bytes(b);
+    struct spop_room p = spop_inner_room(a_text), q = spop_inner_room(b_text);
+
+    return spop_same_text_plain(x.start, x.len, y.start, y.len, p.start, p.len, q.start, q.len, same, at);
 }
 
 /* spop_lossy_text. */

@@ -43,6 +43,7 @@ static void texts(void)
 {
     uint8_t surrogate[4], cut[4], one[4], two[4], out[16];
     uint64_t at, number;
+    bool same = false;
 
     from_hex("ed a0 80", surrogate);
     from_hex("e2 82", cut);
@@ -52,6 +53,22 @@ static void texts(void)
     check("is_utf8 of a surrogate", !spop_is_utf8(surrogate, 3));
     check("same_text where both are ill-formed alike", spop_same_text(one, 2, two, 2));
     check("same_text of others", !spop_same_text(one, 2, one, 1));
+
+    memset(out, MARK, sizeof out);
+    number = spop_same_text_plain(one, 2, two, 2, out, 5, out + 8, 4, &same, &at);
+    answered("same_text_plain", number, at, SPOP_DONE, 0);
+    check("same_text_plain where both are ill-formed alike", same);
+    check("same_text_plain writes both", is_hex(out, 4, "41 efbfbd") && is_hex(out + 8, 4, "41 efbfbd"));
+    check("same_text_plain keeps the rest", is_all(out + 4, 4, MARK) && is_all(out + 12, 4, MARK));
+    memset(out, MARK, sizeof out);
+    number = spop_same_text_plain(one, 2, two, 2, out, 4, out + 8, 3, &same, &at);
+    answered("same_text_plain without room for the second", number, at, SPOP_NO_ROOM, 0);
+    number = spop_same_text_plain(one, 1, two, 2, out, 0, out + 8, 4, &same, &at);
+    answered("same_text_plain without room for the first", number, at, SPOP_NO_ROOM, 0);
+    check("same_text_plain refused changes nothing", same && is_all(out, sizeof out, MARK));
+    number = spop_same_text_plain(one, 1, two, 2, out, 1, out + 8, 4, &same, &at);
+    answered("same_text_plain of others", number, at, SPOP_DONE, 0);
+    check("same_text_plain says that they are others", !same);
 
     memset(out, MARK, sizeof out);
     number = spop_lossy_text(surrogate, 3, out, 9, &at);

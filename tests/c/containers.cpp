@@ -27,6 +27,7 @@ static void empty()
     spop_version version = {7, 7, 7};
     spop_builder b;
     uint64_t value = 0, at, number;
+    bool same = false;
 
     check("an empty vector is null here, so that null is tried", bytes.data() == nullptr);
     number = read(bytes, messages, pairs, head, at);
@@ -39,6 +40,9 @@ static void empty()
     answered("put_lossy_text", number, at, SPOP_DONE, 0);
     check("bytes_are_text", spop_bytes_are_text(lent(bytes)));
     check("texts_equal", spop_texts_equal(lent(bytes), lent(std::string())));
+    number = spop_put_both_texts(lent(bytes), lent(bytes), room(out), room(out), &same, &at);
+    answered("put_both_texts", number, at, SPOP_DONE, 0);
+    check("put_both_texts says the same", same);
     check("choose_version", !spop_choose_version(versions.data(), versions.size(), &version));
     number = spop_put_kv(SPOP_AGENT_HELLO, lent(bytes), pairs.data(), pairs.size(), room(out), 256, &at);
     answered("put_kv", number, at, SPOP_NO_ROOM, 0);

@@ -59,6 +59,7 @@ static void numbers_and_texts(void)
 {
     uint8_t out[16];
     uint64_t value = 5, at, number;
+    bool same = false;
 
     number = spop_put_number(2288, spop_room_of(out, sizeof out), &at);
     answered("put_number", number, at, SPOP_DONE, 3);
@@ -77,6 +78,14 @@ static void numbers_and_texts(void)
     check("texts_equal", spop_texts_equal(spop_bytes_of("\xff", 1), spop_bytes_of("\xfe", 1)) &&
           spop_texts_equal(spop_bytes_of(NULL, 0), spop_text_of("")) &&
           !spop_texts_equal(spop_bytes_of(NULL, 0), spop_text_of("a")));
+    number = spop_put_both_texts(spop_bytes_of("a\xff", 2), spop_text_of("ab"), spop_room_of(out, 4), spop_room_of(out + 4, 2),
+                                 &same, &at);
+    answered("put_both_texts", number, at, SPOP_DONE, 0);
+    check("put_both_texts writes", !same && is_hex(out, 6, "61 efbfbd 6162"));
+    number = spop_put_both_texts(spop_bytes_of(NULL, 0), spop_text_of(""), spop_room_of(NULL, 0), spop_room_of(NULL, 0), &same,
+                                 &at);
+    answered("put_both_texts of nothing into nothing", number, at, SPOP_DONE, 0);
+    check("put_both_texts of nothing", same);
     number = spop_put_lossy_text(spop_bytes_of("a\xff", 2), spop_room_of(out, 4), &at);
     answered("put_lossy_text", number, at, SPOP_DONE, 4);
     check("put_lossy_text writes", is_hex(out, 4, "61 efbfbd"));

@@ -58,6 +58,19 @@ bool spop_same_text(const uint8_t *a, size_t a_len, const uint8_t *b, size_t b_l
     return true;
 }
 
+uint64_t spop_same_text_plain(const uint8_t *a, size_t a_len, const uint8_t *b, size_t b_len, uint8_t *a_text, size_t a_text_len,
+                              uint8_t *b_text, size_t b_text_len, bool *same, uint64_t *at)
+{
+    begin();
+    look(a, a_len);
+    look(b, b_len);
+    look(a_text, a_text_len);
+    look(b_text, b_text_len);
+    look(same, 1);
+    look(at, 1);
+    return 53;
+}
+
 uint64_t spop_lossy_text(const uint8_t *bytes, size_t len, uint8_t *out, size_t out_len, uint64_t *at)
 {
     begin();
@@ -199,13 +212,19 @@ static void lend(struct spop_bytes bytes, struct spop_room room, struct spop_mes
     struct spop_version version;
     struct spop_pair pair;
     struct spop_head head;
+    uint8_t other[2];
     uint64_t n, at;
+    bool same;
 
     lent("put_number", spop_put_number(77, room, &at), 41, 77, r, 1, 0, 0, 0, 0, 0);
     lent("get_number", spop_get_number(bytes, &n, &at), 42, b, 1, 1, 0, 0, 0, 0, 0);
     lent("bytes_are_text", spop_bytes_are_text(bytes), 1, b, 0, 0, 0, 0, 0, 0, 0);
     lent("texts_equal", spop_texts_equal(bytes, spop_text_of("abc")), 1, b, 3, 0, 0, 0, 0, 0, 0);
     lent("texts_equal, the second", spop_texts_equal(spop_text_of("abc"), bytes), 1, 3, b, 0, 0, 0, 0, 0, 0);
+    lent("put_both_texts", spop_put_both_texts(bytes, spop_text_of("abc"), room, spop_room_of(other, 2), &same, &at), 53, b, 3, r,
+         2, 1, 1, 0, 0);
+    lent("put_both_texts, the second", spop_put_both_texts(spop_text_of("abc"), bytes, spop_room_of(other, 2), room, &same, &at),
+         53, 3, b, 2, r, 1, 1, 0, 0);
     lent("put_lossy_text", spop_put_lossy_text(bytes, room, &at), 43, b, r, 1, 0, 0, 0, 0, 0);
     lent("get_value", spop_get_value(bytes, &value, &at), 44, b, 1, 1, 0, 0, 0, 0, 0);
     lent("value_bytes", spop_value_bytes(&value, bytes), 45, 1, b, 0, 0, 0, 0, 0, 0);

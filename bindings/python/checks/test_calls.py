@@ -22,7 +22,7 @@ HEADER = (TOP / "include/spop.h").read_text("utf-8")
 TYPES = {
     "bool": c_bool, "uint32_t": c_uint32, "uint64_t": c_uint64, "size_t": c_size_t, "const uint8_t *": c_char_p,
     "uint8_t *": POINTER(c_uint8), "uint64_t *": POINTER(c_uint64), "const uint64_t *": POINTER(c_uint64),
-    "struct spop_pair *": POINTER(_calls.spop_pair),
+    "bool *": POINTER(c_bool), "struct spop_pair *": POINTER(_calls.spop_pair),
 }
 
 
@@ -42,7 +42,7 @@ def parameter(text, widths):
 class Table(unittest.TestCase):
     def test_it_has_each_call_of_the_header_with_its_parameters_in_order(self):
         found = list(prototypes())
-        self.assertEqual(18, len(found))
+        self.assertEqual(19, len(found))
         self.assertEqual(found, list(_calls.CALLS.items()))
 
     def test_the_pair_by_name(self):

@@ -29,17 +29,19 @@ class Texts(unittest.TestCase):
                 self.fail(data.hex())
 
     def test_the_same_text(self):
-        self.assertTrue(spop.same_text(b"slot", b"slot"))
-        self.assertFalse(spop.same_text(b"slot", b"slot "))
-        self.assertFalse(spop.same_text(b"slot", b"Slot"))
-        self.assertTrue(spop.same_text(b"A\xff", b"A\xfe"))
-        self.assertTrue(spop.same_text(b"A\xff", "A\ufffd".encode()))
-        self.assertTrue(spop.same_text(b"", b""))
-        self.assertFalse(spop.same_text(b"", b"\x00"))
+        for same in (spop.same_text, spop.same_text_plain):
+            self.assertTrue(same(b"slot", b"slot"))
+            self.assertFalse(same(b"slot", b"slot "))
+            self.assertFalse(same(b"slot", b"Slot"))
+            self.assertTrue(same(b"A\xff", b"A\xfe"))
+            self.assertTrue(same(b"A\xff", "A\ufffd".encode()))
+            self.assertTrue(same(b"", b""))
+            self.assertFalse(same(b"", b"\x00"))
 
     def test_bytes_are_asked_for(self):
         for call in (spop.is_utf8, spop.lossy_text, lambda text: spop.same_text(text, b""),
-                     lambda text: spop.same_text(b"", text)):
+                     lambda text: spop.same_text(b"", text), lambda text: spop.same_text_plain(text, b""),
+                     lambda text: spop.same_text_plain(b"", text)):
             with self.assertRaises(TypeError):
                 call("text")
 

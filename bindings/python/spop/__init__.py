@@ -11,7 +11,7 @@ TypeError or a ValueError. No call keeps any state, so threads need no lock.
 """
 import io
 import operator
-from ctypes import c_uint8, c_uint64, string_at
+from ctypes import c_bool, c_uint8, c_uint64, string_at
 from enum import IntEnum
 from ipaddress import IPv4Address, IPv6Address
 from typing import (Any, Callable, ClassVar, Dict, Iterable, Iterator, List, Mapping, NamedTuple, Optional, Sequence, Tuple, Type,
@@ -25,8 +25,8 @@ __all__ = [
     "Message", "MessageRecord", "Pair", "PairRecord", "Records", "Refusal", "Refused", "Scope", "SetVar", "Text", "U32", "U64",
     "UnsetVar", "Value", "check_value", "decode_varint", "encode_varint", "frames", "is_utf8", "kind_of", "lossy_text",
     "negotiate_max_frame_size", "negotiate_version", "read_frame", "read_frame_records", "read_pair", "refusal_text",
-    "same_text", "typed_data", "value_len", "varint_len", "write_ack", "write_disconnect", "write_hello", "write_kv",
-    "write_notify", "write_value",
+    "same_text", "same_text_plain", "typed_data", "value_len", "varint_len", "write_ack", "write_disconnect", "write_hello",
+    "write_kv", "write_notify", "write_value",
 ]
 
 _lib = _calls.load()
@@ -801,6 +801,16 @@ def same_text(a: Buffer, b: Buffer) -> bool:
     """Whether the two have the same lossy text. Keys of a KV list are compared so."""
     lent_a, lent_b = _lent(a), _lent(b)
     return bool(_lib.spop_same_text(lent_a, len(lent_a), lent_b, len(lent_b)))
+
+
+def same_text_plain(a: Buffer, b: Buffer) -> bool:
+    """The same the plain way: both lossy texts are written out, and their bytes compared."""
+    lent_a, lent_b = _lent(a), _lent(b)
+    longest_a, longest_b = 3 * len(lent_a), 3 * len(lent_b)
+    text_a, text_b, same, at = _array(_BYTES, longest_a)(), _array(_BYTES, longest_b)(), c_bool(), c_uint64()
+    number = _lib.spop_same_text_plain(lent_a, len(lent_a), lent_b, len(lent_b), text_a, longest_a, text_b, longest_b, same, at)
+    _tell(number, at.value)
+    return same.value
 
 
 def lossy_text(data: Buffer) -> str:

@@ -59,6 +59,29 @@ pub fn same_text(a: &[u8], b: &[u8]) -> bool {
     unsafe { sys::spop_same_text(a.as_ptr(), a.len(), b.as_ptr(), b.len()) }
 }
 
+/// The same the plain way: writes both lossy texts, each at the front of its own buffer, and compares their bytes. Three times the
+/// bytes of each are always room enough.
+#[inline]
+pub fn same_text_plain(a: &[u8], b: &[u8], a_text: &mut [u8], b_text: &mut [u8]) -> Result<bool, Refusal> {
+    let (mut same, mut at) = (false, 0);
+    // SAFETY: each slice is lent with its length, and nothing lent overlaps.
+    let number = unsafe {
+        sys::spop_same_text_plain(
+            a.as_ptr(),
+            a.len(),
+            b.as_ptr(),
+            b.len(),
+            a_text.as_mut_ptr(),
+            a_text.len(),
+            b_text.as_mut_ptr(),
+            b_text.len(),
+            &mut same,
+            &mut at,
+        )
+    };
+    told(number, at).map(|_| same)
+}
+
 /// Writes the lossy text of the bytes at the front of `out`, and answers its length, which is at most three times theirs.
 #[inline]
 pub fn lossy_text(bytes: &[u8], out: &mut [u8]) -> Result<usize, Refusal> {

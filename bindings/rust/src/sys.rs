@@ -58,6 +58,19 @@ extern "C" {
 
     pub fn spop_same_text(a: *const u8, a_len: usize, b: *const u8, b_len: usize) -> bool;
 
+    pub fn spop_same_text_plain(
+        a: *const u8,
+        a_len: usize,
+        b: *const u8,
+        b_len: usize,
+        a_text: *mut u8,
+        a_text_len: usize,
+        b_text: *mut u8,
+        b_text_len: usize,
+        same: *mut bool,
+        at: *mut u64,
+    ) -> u64;
+
     pub fn spop_lossy_text(bytes: *const u8, bytes_len: usize, out: *mut u8, out_len: usize, at: *mut u64) -> u64;
 
     pub fn spop_typed_data(input: *const u8, input_len: usize, value: *mut [u64; VALUE_WIDTH], at: *mut u64) -> u64;

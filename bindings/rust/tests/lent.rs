@@ -136,6 +136,19 @@ fn texts_are_told_and_made_lossy() {
     assert!(!lent::is_utf8(b"\xff") && !lent::is_utf8(b"\xed\xa0\x80"));
     assert!(lent::same_text(b"A\xff", b"A\xfe") && !lent::same_text(b"A", b"B"));
     assert!(lent::same_text(b"", b""));
+    for (a, b) in [(&b"A\xff"[..], &b"A\xfe"[..]), (b"A", b"B"), (b"", b""), (b"slot", b"slots")] {
+        let (mut a_text, mut b_text) = ([FILL; 16], [FILL; 16]);
+        assert_eq!(lent::same_text_plain(a, b, &mut a_text, &mut b_text), Ok(lent::same_text(a, b)));
+        for (bytes, text) in [(a, a_text), (b, b_text)] {
+            let written = Text(bytes).to_string();
+            assert!(text.starts_with(written.as_bytes()) && text[written.len()..].iter().all(|byte| *byte == FILL));
+        }
+    }
+    for (a_room, b_room) in [(3, 16), (16, 3)] {
+        let (mut a_text, mut b_text) = ([FILL; 16], [FILL; 16]);
+        let refusal = lent::same_text_plain(b"A\xff", b"A\xfe", &mut a_text[..a_room], &mut b_text[..b_room]);
+        assert_eq!((refusal, a_text, b_text), (Err(refused(Refusal::NO_ROOM, 0)), [FILL; 16], [FILL; 16]));
+    }
     let lossy: [(&[u8], &str); 4] =
         [(b"slot", "slot"), (b"a\xe2\x82b", "a\u{fffd}b"), (b"\xed\xa0\x80", "\u{fffd}\u{fffd}\u{fffd}"), (b"", "")];
     for (bytes, text) in lossy {

@@ -1,13 +1,17 @@
 -- No second result, and no second content of what is lent, meets the promise of a call.
-use mathlib.Core.Path.{_≡_}
+use mathlib.Core.Path.{_≡_, sym, ap, _∙_}
 use mathlib.Core.Bool.{Bool}
 use mathlib.Core.List.{List}
-use Prim.Native.Nat.{ℕ}
+use Prim.Native.Nat.{ℕ, _≤_}
+use lib.ListN.{length}
 use Rattle.answer.specs.Answer.{Answer}
 use Rattle.answer.proofs.Same.{one-only}
-use Rattle.spop.specs.Told.{Told}
+use Rattle.utf8.specs.Text.{lossy, sameText}
+use Rattle.plain.proofs.Laws.{both-fit}
+use Rattle.plain.proofs.Unique.{texts-unique}
+use Rattle.spop.specs.Told.{numberOf, atOf, valueOf, Told}
 use Rattle.frame.specs.declared.Pair.{Pair}
-use Rattle.spop.specs.Promise.{SpopVarintLen, SpopEncodeVarint, SpopDecodeVarint, SpopIsUtf8, SpopSameText, SpopLossyText, SpopTypedData, SpopValueLen, SpopCheckValue, SpopWriteValue, SpopReadPair, SpopReadFrame, SpopReadFrameRecords, SpopWriteKv, SpopWriteActions, SpopWriteNotify, SpopNegotiateMaxFrameSize, SpopNegotiateVersion}
+use Rattle.spop.specs.Promise.{SpopVarintLen, SpopEncodeVarint, SpopDecodeVarint, SpopIsUtf8, SpopSameText, SpopSameTextPlain, SpopLossyText, SpopTypedData, SpopValueLen, SpopCheckValue, SpopWriteValue, SpopReadPair, SpopReadFrame, SpopReadFrameRecords, SpopWriteKv, SpopWriteActions, SpopWriteNotify, SpopNegotiateMaxFrameSize, SpopNegotiateVersion}
 
 told-unique : {A : Type 0} {a : Answer A} {r q at also : ℕ} → Told a r at → Told a q also → (r ≡ q) × (at ≡ also)
 told-unique p q = (one-only (p .says) (q .says), one-only (p .where-at) (q .where-at))
@@ -26,6 +30,15 @@ spop-is-utf8-unique bytes r q p s = one-only p s
 pub spop-same-text-unique : (a b : List ℕ) (r q : Bool) → SpopSameText a b r → SpopSameText a b q → r ≡ q
 spop-same-text-unique a b r q p s = one-only p s
 
+-- both calls that compare keys agree, of any two strings whose texts fit
+pub spop-same-text-plain : (a b : List ℕ) (one two before : Bool) (r at : ℕ) (aOld aNew bOld bNew : List ℕ)
+    → length (lossy a) ≤ length aOld → length (lossy b) ≤ length bOld
+    → SpopSameText a b one → SpopSameTextPlain a b r at before two aOld aNew bOld bNew → (r ≡ 0) × (at ≡ 0) × (two ≡ one)
+unfolding sameText
+spop-same-text-plain a b one two before r at aOld aNew bOld bNew h g p s =
+    let e = both-fit a b aOld bOld _ h g in
+    (s .told .says ∙ ap numberOf e, s .told .where-at ∙ ap atOf e, s .value ∙ ap (λ (x : Answer Bool). valueOf x before) e ∙ sym p)
+
 pub spop-value-len-unique : (value buffer : List ℕ) (r q : ℕ) → SpopValueLen value buffer r → SpopValueLen value buffer q → r ≡ q
 spop-value-len-unique value buffer r q p s = one-only p s
 
@@ -41,6 +54,14 @@ pub spop-negotiate-version-unique : (versions : List ℕ) (r q : Bool) (before v
 spop-negotiate-version-unique versions r q before version other p s = (one-only (p .0) (s .0), one-only (p .1) (s .1))
 
 module _ (r q at also : ℕ) where
+  pub spop-same-text-plain-unique : (a b : List ℕ) (before same other : Bool) (aOld aNew aOther bOld bNew bOther : List ℕ)
+      → SpopSameTextPlain a b r at before same aOld aNew bOld bNew → SpopSameTextPlain a b q also before other aOld aOther bOld bOther
+      → (r ≡ q) × (at ≡ also) × (same ≡ other) × (aNew ≡ aOther) × (bNew ≡ bOther)
+  spop-same-text-plain-unique a b before same other aOld aNew aOther bOld bNew bOther p s =
+      let t = told-unique (p .told) (s .told) in
+      let x = texts-unique (p .texts) (s .texts) in
+      (t .0, t .1, one-only (p .value) (s .value), x .0, x .1)
+
   pub spop-decode-varint-unique : (input : List ℕ) (before value other : ℕ)
       → SpopDecodeVarint input r at before value → SpopDecodeVarint input q also before other → (r ≡ q) × (at ≡ also) × (value ≡ other)
   spop-decode-varint-unique input before value other p s = call-unique p s

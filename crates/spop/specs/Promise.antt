@@ -8,6 +8,7 @@ use Rattle.answer.specs.Answer.{written}
 use Rattle.answer.specs.Order.{first}
 use Rattle.varint.specs.Number.{number, numberBytes}
 use Rattle.utf8.specs.Text.{isUtf8, lossy, sameText}
+use Rattle.plain.specs.Promise.{comparison, TextsLeft}
 use Rattle.types.specs.Value.{typed}
 use Rattle.types.specs.Form.{valueAnswer, lengthOf}
 use Rattle.types.specs.Check.{valueChecks}
@@ -35,6 +36,11 @@ SpopIsUtf8 bytes r = r ≡ isUtf8 bytes
 
 abbrev pub SpopSameText : List ℕ → List ℕ → Bool → Type 0
 SpopSameText a b r = r ≡ sameText a b
+
+pub record SpopSameTextPlain (a b : List ℕ) (r at : ℕ) (before same : Bool) (aOld aNew bOld bNew : List ℕ) : Type 0 where
+  pub told : Told (comparison a b aOld bOld) r at
+  pub value : same ≡ valueOf (comparison a b aOld bOld) before
+  pub texts : TextsLeft a b aOld aNew bOld bNew
 
 abbrev pub SpopLossyText : List ℕ → ℕ → ℕ → List ℕ → List ℕ → Type 0
 SpopLossyText bytes r at old new = Left (written (lossy bytes)) r at old new

@@ -12,6 +12,7 @@ use hello::Chosen;
 use hello::Size;
 use parser::FrameRead;
 use parser::PairRead;
+use plain::Compared;
 use types::Typed;
 use types::VALUE_WIDTH;
 use types::Value;
@@ -25,7 +26,7 @@ ghost use Rattle.parser.specs.Frame.{Reading, answerOf};
 ghost use Rattle.parser.specs.Promise.{frameSaid, frameTells};
 ghost use Rattle.spop.specs.Told.{Told};
 ghost use Rattle.spop.specs.Values.{recordIn, headNumbersOf};
-ghost use Rattle.spop.specs.Promise.{SpopVarintLen, SpopEncodeVarint, SpopDecodeVarint, SpopIsUtf8, SpopSameText, SpopLossyText, SpopTypedData, SpopValueLen, SpopCheckValue, SpopWriteValue, SpopReadPair, SpopReadFrame, SpopReadFrameRecords, SpopWriteKv, SpopWriteActions, SpopWriteNotify, SpopNegotiateMaxFrameSize, SpopNegotiateVersion};
+ghost use Rattle.spop.specs.Promise.{SpopVarintLen, SpopEncodeVarint, SpopDecodeVarint, SpopIsUtf8, SpopSameText, SpopSameTextPlain, SpopLossyText, SpopTypedData, SpopValueLen, SpopCheckValue, SpopWriteValue, SpopReadPair, SpopReadFrame, SpopReadFrameRecords, SpopWriteKv, SpopWriteActions, SpopWriteNotify, SpopNegotiateMaxFrameSize, SpopNegotiateVersion};
 
 const DONE: u64 = 0;
 
@@ -70,6 +71,27 @@ pub extern "C" fn spop_same_text(a: &[u8], b: &[u8]) -> bool
     ensures { λ r. ⌜ SpopSameText (now (a .entry)) (now (b .entry)) r ⌝ }
 {
     utf8::same_text(a, b)
+}
+
+#[no_mangle]
+pub extern "C" fn spop_same_text_plain(
+    a: &[u8],
+    b: &[u8],
+    a_text: &mut [u8],
+    b_text: &mut [u8],
+    same: &mut bool,
+    at: &mut u64,
+) -> u64
+    ensures { λ r. ⌜ SpopSameTextPlain (now (a .entry)) (now (b .entry)) r (now (at .exit)) (now (same .entry)) (now (same .exit)) (now («a_text» .entry)) (now («a_text» .exit)) (now («b_text» .entry)) (now («b_text» .exit)) ⌝ }
+{
+    match plain::same_text_plain(a, b, a_text, b_text) {
+        Compared::Done(are) => {
+            *same = are;
+            *at = 0;
+            DONE
+        },
+        Compared::Refused(r) => refuse(r, at),
+    }
 }
 
 #[no_mangle]

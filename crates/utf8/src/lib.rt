@@ -11,7 +11,7 @@ ghost use lib.ListN.{length, take, drop};
 ghost use lib.Dec.{leb};
 ghost use Rattle.answer.specs.Answer.{written, leaves};
 ghost use Rattle.utf8.specs.Text.{rows, rowFor, follow, front, taken, step, stepSize, becomes, isUtf8, lossy, same, sameText};
-ghost use Rattle.utf8.specs.Promise.{IsUtf8, LossyText, SameText};
+ghost use Rattle.utf8.specs.Promise.{IsUtf8, HasRoom, LossyText, SameText};
 ghost use Rattle.utf8.specs.Inner.{asRange, seen, ledBy, ascii, AsciiTo, Advances, textSize, Walks, Fits, FitTo, FirstFit, EndsWhole};
 
 // The bytes from the first to the last.
@@ -483,8 +483,8 @@ fn lossy_steps(bytes: &[u8], out: &mut [u8]) -> Written
 }
 
 // Whether so many bytes are enough for the lossy text.
-fn has_room(bytes: &[u8], room: usize) -> bool
-    ensures { λ r. ⌜ r ≡ leb (length (lossy (now (bytes .entry)))) room ⌝ }
+pub fn has_room(bytes: &[u8], room: usize) -> bool
+    ensures { λ r. ⌜ HasRoom (now (bytes .entry)) room r ⌝ }
 {
     // A byte becomes at most three.
     if bytes.len() <= room / 3 {

@@ -39,6 +39,20 @@ calls! {
         answer
     }
 
+    pub fn same_text_plain(
+        a: &[u8],
+        b: &[u8],
+        a_text: &mut [u8],
+        b_text: &mut [u8],
+        same: &mut bool,
+        at: &mut u64,
+    ) -> u64 {
+        let (mut first, mut second, before) = (Copied::of(a_text), Copied::of(b_text), *same);
+        let number = port::same_text_plain(a, b, a_text, b_text, same, at);
+        let safe = lent::same_text_plain(a, b, first.lent(), second.lent()).map(|same| (same, 0));
+        agreed(number, told_with(safe, before) == (number, *at, *same) && first.is(a_text) && second.is(b_text))
+    }
+
     pub fn lossy_text(bytes: &[u8], out: &mut [u8], at: &mut u64) -> u64 {
         let mut copy = Copied::of(out);
         let number = port::lossy_text(bytes, out, at);

@@ -7,6 +7,7 @@ mod growth;
 mod inputs;
 mod listing;
 mod parts;
+mod plain;
 mod port;
 mod reader;
 mod records;

@@ -56,6 +56,31 @@ calls! {
         unsafe { sys::spop_same_text(a.as_ptr(), a.len(), b.as_ptr(), b.len()) }
     }
 
+    pub fn same_text_plain(
+        a: &[u8],
+        b: &[u8],
+        a_text: &mut [u8],
+        b_text: &mut [u8],
+        same: &mut bool,
+        at: &mut u64,
+    ) -> u64 {
+        // SAFETY: each slice is lent with its length, and nothing lent overlaps.
+        unsafe {
+            sys::spop_same_text_plain(
+                a.as_ptr(),
+                a.len(),
+                b.as_ptr(),
+                b.len(),
+                a_text.as_mut_ptr(),
+                a_text.len(),
+                b_text.as_mut_ptr(),
+                b_text.len(),
+                same,
+                at,
+            )
+        }
+    }
+
     pub fn lossy_text(bytes: &[u8], out: &mut [u8], at: &mut u64) -> u64 {
         // SAFETY: each slice is lent with its length, and nothing lent overlaps.
         unsafe { sys::spop_lossy_text(bytes.as_ptr(), bytes.len(), out.as_mut_ptr(), out.len(), at) }

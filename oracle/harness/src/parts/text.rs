@@ -1,10 +1,10 @@
-//! Text: `std::str::from_utf8`, `String::from_utf8_lossy` and whether two lossy texts are equal.
+//! Text: `std::str::from_utf8`, `String::from_utf8_lossy` and whether two lossy texts are equal, by both calls that compare keys.
 
 use crate::{
     answers::{Answer, TOO_SHORT_OUT},
     both,
     inputs::{self, Random},
-    port, shrink,
+    plain, port, shrink,
     text::{Difference, hex},
     timing,
 };
@@ -105,6 +105,8 @@ fn sameness_difference(a: &[u8], b: &[u8]) -> Difference {
 #[derive(Default)]
 struct Comparer {
     count: u64,
+    /// Of the calls that compare the plain way: how many had room, and how many had not.
+    plain: [u64; 2],
 }
 
 impl Comparer {
@@ -132,11 +134,25 @@ impl Comparer {
         Ok(())
     }
 
-    /// All three calls on one string, which is compared with another.
-    fn all(&mut self, bytes: &[u8], other: &[u8], room: usize) -> Result<(), Difference> {
+    fn plain(&mut self, a: &[u8], b: &[u8], rooms: [usize; 2]) -> Result<(), Difference> {
+        self.count += 1;
+        let done = plain::compare(a, b, rooms)?;
+        self.plain[usize::from(!done)] += 1;
+        Ok(())
+    }
+
+    /// All four calls on one string, which is compared with another.
+    fn all(
+        &mut self,
+        bytes: &[u8],
+        other: &[u8],
+        room: usize,
+        other_room: usize,
+    ) -> Result<(), Difference> {
         self.form(bytes)?;
         self.lossy(bytes, room)?;
-        self.sameness(bytes, other)
+        self.sameness(bytes, other)?;
+        self.plain(bytes, other, [room, other_room])
     }
 }
 
@@ -149,10 +165,11 @@ pub fn diff(random: &mut Random, rounds: u64) -> Result<String, Difference> {
     for _ in 0..rounds {
         round(&mut sides, random)?;
     }
-    let drawn = sides.count;
+    let (drawn, [done, refused]) = (sides.count, sides.plain);
     Ok(format!(
         "{short} calls on every byte string of up to three bytes, {fixed} on every lead and second byte \
-         with the edges of the third and fourth, {drawn} random calls in {rounds} rounds"
+         with the edges of the third and fourth, {drawn} random calls in {rounds} rounds; of all these \
+         {done} compared two texts the plain way, and {refused} had no room for them"
     ))
 }
 
@@ -164,9 +181,12 @@ fn short_strings(sides: &mut Comparer) -> Result<(), Difference> {
         for bits in 0..1u32 << (8 * length) {
             let bytes = &bits.to_be_bytes()[4 - length..];
             let room = String::from_utf8_lossy(bytes).len();
-            sides.all(bytes, &before, room)?;
+            let other_room = String::from_utf8_lossy(&before).len();
+            sides.all(bytes, &before, room, other_room)?;
             if room > 0 && bits % 16 == 0 {
                 sides.lossy(bytes, room - 1)?;
+                sides.plain(bytes, &before, [room - 1, other_room])?;
+                sides.plain(&before, bytes, [other_room, room - 1])?;
             }
             before.clear();
             before.extend_from_slice(bytes);
@@ -187,7 +207,7 @@ fn edges(sides: &mut Comparer) -> Result<(), Difference> {
             for third in EDGES {
                 for fourth in EDGES {
                     let bytes = [first, second, third, fourth];
-                    sides.all(&bytes, &before, AREA - 8)?;
+                    sides.all(&bytes, &before, AREA - 8, AREA - 8)?;
                     before = bytes;
                 }
             }
@@ -198,13 +218,18 @@ fn edges(sides: &mut Comparer) -> Result<(), Difference> {
 
 fn round(sides: &mut Comparer, random: &mut Random) -> Result<(), Difference> {
     let bytes = draw(random);
-    let room = match random.below(3) {
-        0 => random.index(AREA - 8 + 1),
-        1 => String::from_utf8_lossy(&bytes).len(),
-        _ => String::from_utf8_lossy(&bytes).len().saturating_sub(1),
-    };
+    let room = some_room(random, &bytes);
     let other = like(random, &bytes);
-    sides.all(&bytes, &other, room)
+    sides.all(&bytes, &other, room, some_room(random, &other))
+}
+
+/// Any room for a text, or one that is just enough, or just too small.
+fn some_room(random: &mut Random, bytes: &[u8]) -> usize {
+    match random.below(3) {
+        0 => random.index(AREA - 8 + 1),
+        1 => String::from_utf8_lossy(bytes).len(),
+        _ => String::from_utf8_lossy(bytes).len().saturating_sub(1),
+    }
 }
 
 /// Runs of ASCII, well-formed sequences of each length, parts of such and any bytes.
@@ -260,9 +285,23 @@ pub fn bench(random: &mut Random) {
     for (name, texts) in &sets {
         time_sameness(&format!("same_text, {name}"), texts, &texts.to_vec());
     }
+    for (name, texts) in &sets {
+        plain::time(
+            &format!("same_text_plain, {name}"),
+            texts,
+            &texts.to_vec(),
+            rust_sameness,
+        );
+    }
     let (name, texts) = &sets[2];
     let others: Vec<Vec<u8>> = texts.iter().map(|text| other_end(text)).collect();
     time_sameness(&format!("same_text, {name}, other"), texts, &others);
+    plain::time(
+        "same_text_plain, mixed, other",
+        texts,
+        &others,
+        rust_sameness,
+    );
 }
 
 /// The text with another end, so that both are walked to it and are not the same.
