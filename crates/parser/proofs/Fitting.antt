@@ -1,6 +1,6 @@
 -- Laws about room: what is accepted has no more messages and pairs than there is room for.
 use mathlib.Core.Path.{_≡_, refl, sym, ap, _∙_}
-use mathlib.Core.Bool.{Bool, _||_, not}
+use mathlib.Core.Bool.{Bool, false, _||_, not}
 use mathlib.Core.Logic.{⊎-elim}
 use mathlib.Core.List.{List, [], _∷_}
 use Prim.Native.Nat.{ℕ, zero, suc, _+_, _≤_, _<_}
@@ -78,7 +78,7 @@ fit-moved rooms start (refused n place) h = tt
 
 whole-fit : (rooms : Rooms) (f : List ℕ) → Fits rooms (contentsRead (answered (wholeFrame rooms f)))
 whole-fit rooms f =
-    answer-cases (metadata f)
+    answer-cases (metadata false f)
     (λ m start e.
     let p = payload (not (eqb (m .kind) 3)) rooms (drop start f) in
     rw (whole-payload rooms f m start e, frame-contents m (behind movedContents start p)) (fit-moved rooms start p (payload-fit (not (eqb (m .kind) 3)) rooms (drop start f))))
