@@ -82,8 +82,8 @@ listLeft a old = leaves (next a (λ xs used. written (joined actionNumbers xs)))
 
 -- the payload that stands in a frame from a place on, with the metadata of the frame
 abbrev pub restOf : List ℕ → Metadata → ℕ → List ℕ → List ℕ → Answer (Metadata × Sent)
-restOf cut m start pairs actions =
-    next (behind movedSent start (sentOf (length pairs / pairWidth) (length actions / actionWidth) (m .kind) (drop start cut))) (λ x used. done (m, x) used)
+restOf cut m start pairs rows =
+    next (behind movedSent start (sentOf (length pairs / pairWidth) (length rows / actionWidth) (m .kind) (drop start cut))) (λ x used. done (m, x) used)
 
 pub record ReadsRest (cut : List ℕ) (m : Metadata) (start : ℕ) (r : AgentRead) (oldPairs newPairs oldActions newActions : List ℕ) : Type 0 where
   pub says : agentSaid r ≡ agentTells (answered (restOf cut m start oldPairs oldActions))

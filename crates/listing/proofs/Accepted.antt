@@ -23,7 +23,8 @@ use Rattle.parser.specs.declared.Rooms.{Rooms}
 use Rattle.parser.specs.declared.Metadata.{Metadata}
 use Rattle.parser.specs.Pair.{pairOf, movedPair, pair, pairFrom}
 use Rattle.parser.specs.Payload.{Contents, withMessage, movedMessage, movedContents, stringFrom, oneItem, ended, toEnd, payload}
-use Rattle.parser.specs.Frame.{metadata, wholeFrame, wait, answered, frameRead}
+use Rattle.parser.specs.Frame.{metadata, wait, answered, frameRead}
+use Rattle.parser.specs.Inner.{wholeFrame}
 use Rattle.parser.proofs.Pairs.{pair-key, pair-value, pair-whole, done-same}
 use Rattle.parser.proofs.Walk.{pair-says, string-next, message-says, item-pair, item-message, item-next, ended-done, ended-short}
 use Rattle.parser.proofs.Frames.{metadata-start, whole-refused, whole-payload, frame-start, frame-over, frame-wait, frame-whole}

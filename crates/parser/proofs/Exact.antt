@@ -24,7 +24,8 @@ use Rattle.parser.specs.declared.Rooms.{Rooms}
 use Rattle.parser.specs.declared.Metadata.{Metadata}
 use Rattle.parser.specs.Pair.{pairOf, pair}
 use Rattle.parser.specs.Payload.{Contents, payload}
-use Rattle.parser.specs.Frame.{frameTypes, sentBy, ids, metadata, wholeFrame, answered, frameRead}
+use Rattle.parser.specs.Frame.{frameTypes, sentBy, ids, metadata, answered, frameRead}
+use Rattle.parser.specs.Inner.{wholeFrame}
 use Rattle.parser.proofs.Pairs.{done-same, pair-cases, pair-key, pair-value, pair-whole}
 use Rattle.parser.proofs.Frames.{last-refused, last-other, last-done, ids-refused, ids-on, metadata-none, metadata-type, metadata-short, metadata-flags, metadata-abort, metadata-ids, whole-refused, whole-payload, frame-start, frame-over, frame-wait, frame-whole, inFrame}
 use Rattle.parser.proofs.Kept.{by-cut, wait-answered, answered-same}

@@ -16,7 +16,8 @@ use Rattle.parser.specs.declared.Rooms.{Rooms}
 use Rattle.parser.specs.declared.Metadata.{Metadata}
 use Rattle.parser.specs.Pair.{movedPair}
 use Rattle.parser.specs.Payload.{Contents, withMessage, oneItem, ended, toEnd, payload, movedContents, movedMessage}
-use Rattle.parser.specs.Frame.{Reading, answered, metadata, wholeFrame, frameRead}
+use Rattle.parser.specs.Frame.{Reading, answered, metadata, frameRead}
+use Rattle.parser.specs.Inner.{wholeFrame}
 use Rattle.parser.specs.Promise.{contentsRead}
 use Rattle.parser.proofs.Pairs.{done-same}
 use Rattle.parser.proofs.Walk.{pair-says, message-says, item-pair, item-message, ended-done, ended-short}

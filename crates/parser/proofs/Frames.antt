@@ -22,7 +22,8 @@ use Rattle.parser.specs.declared.Rooms.{Rooms}
 use Rattle.parser.specs.declared.Metadata.{Metadata}
 use Rattle.parser.specs.Pair.{pairOf, movedPair}
 use Rattle.parser.specs.Payload.{Contents, payload, movedMessage, movedContents}
-use Rattle.parser.specs.Frame.{frameTypes, same, sentBy, lastId, ids, metadata, Entry, whole, Reading, wait, answered, front, haproxys, wholeFrame, frameRead}
+use Rattle.parser.specs.Frame.{frameTypes, same, sentBy, lastId, ids, metadata, Entry, whole, Reading, wait, answered, front, haproxys, frameRead}
+use Rattle.parser.specs.Inner.{wholeFrame}
 use Rattle.parser.specs.Promise.{Counts, countsOf, payloadTells, frameTells, contentsRead, Fills}
 use Rattle.parser.proofs.Walk.{ends}
 use Rattle.parser.proofs.Pairs.{done-same, refused-same}

@@ -18,7 +18,8 @@ use Rattle.parser.specs.declared.Rooms.{Rooms}
 use Rattle.parser.specs.declared.Metadata.{Metadata}
 use Rattle.parser.specs.Pair.{pairFrom}
 use Rattle.parser.specs.Payload.{Contents, met, stringFrom, onePair, oneMessage, oneItem, toEnd, payload, movedContents}
-use Rattle.parser.specs.Frame.{metadata, Entry, whole, Reading, wait, answered, front, haproxys, wholeFrame, frameRead}
+use Rattle.parser.specs.Frame.{metadata, Entry, whole, Reading, wait, answered, front, haproxys, frameRead}
+use Rattle.parser.specs.Inner.{wholeFrame}
 use Rattle.parser.proofs.Pairs.{refused-same, done-same}
 use Rattle.parser.proofs.Walk.{pair-refused, pair-met, pair-full, pair-taken, message-refused, message-short, message-full, message-taken, item-pair, item-message}
 use Rattle.parser.proofs.Frames.{head-refused, head-done, cut-start, cut-over, cut-wait, cut-whole}

@@ -17,7 +17,8 @@ use Rattle.parser.specs.declared.Rooms.{Rooms}
 use Rattle.parser.specs.declared.Metadata.{Metadata}
 use Rattle.parser.specs.Pair.{movedPair}
 use Rattle.parser.specs.Payload.{Contents, withMessage, oneItem, ended, toEnd, payload, movedContents}
-use Rattle.parser.specs.Frame.{metadata, wholeFrame, answered, frameRead}
+use Rattle.parser.specs.Frame.{metadata, answered, frameRead}
+use Rattle.parser.specs.Inner.{wholeFrame}
 use Rattle.parser.proofs.Pairs.{done-same}
 use Rattle.parser.proofs.Runs.{from-key}
 use Rattle.parser.proofs.Walk.{pair-says, message-says, item-pair, item-message, item-next, ended-done, ended-short}

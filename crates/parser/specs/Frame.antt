@@ -94,8 +94,5 @@ front e limit s =
 abbrev pub haproxys : Rooms → Entry Contents
 haproxys rooms = record { agents = false; payloadOf = λ kind s. payload (not (eqb kind 3)) rooms s; moved = movedContents }
 
-unfoldable pub wholeFrame : Rooms → List ℕ → Answer (Metadata × Contents)
-wholeFrame rooms f = whole (haproxys rooms) f
-
 unfoldable pub frameRead : ℕ → Rooms → List ℕ → Reading (Metadata × Contents)
 frameRead limit rooms s = front (haproxys rooms) limit s

@@ -22,9 +22,9 @@ ghost use lib.ListN.{length, getD};
 ghost use Rattle.answer.specs.Answer.{done};
 ghost use Rattle.answer.specs.Table.{some};
 ghost use Rattle.frame.specs.Head.{fourNumber};
-ghost use Rattle.parser.specs.Frame.{frameTypes, sentBy, ids, lastId, metadata as metadataOf, wholeFrame, answered};
+ghost use Rattle.parser.specs.Frame.{frameTypes, sentBy, ids, lastId, metadata as metadataOf, answered};
 ghost use Rattle.parser.specs.Promise.{frameSaid, frameTells, ReadFrame, LookFrame, ReadStart};
-ghost use Rattle.parser.specs.Inner.{metadataSaid, ReadsWhole};
+ghost use Rattle.parser.specs.Inner.{wholeFrame, metadataSaid, ReadsWhole};
 
 // The flags that are known: FIN has to be set, and ABORT may be.
 const FIN: u64 = 1;

@@ -23,8 +23,8 @@ use Rattle.parser.specs.declared.Rooms.{Rooms}
 use Rattle.parser.specs.declared.Metadata.{Metadata}
 use Rattle.parser.specs.Pair.{movedPair, pair, pairFrom}
 use Rattle.parser.specs.Payload.{Contents, withPair, withMessage, stringFrom, movedSpan, oneItem, ended, toEnd, payload, movedContents, movedMessage}
-use Rattle.parser.specs.Frame.{frameTypes, same, sentBy, lastId, ids, metadata, wholeFrame, answered, frameRead}
-use Rattle.parser.specs.Inner.{Run}
+use Rattle.parser.specs.Frame.{frameTypes, same, sentBy, lastId, ids, metadata, answered, frameRead}
+use Rattle.parser.specs.Inner.{wholeFrame, Run}
 use Rattle.parser.proofs.Pairs.{done-same, moved-twice}
 use Rattle.parser.proofs.Runs.{from-next, run-more}
 use Rattle.parser.proofs.Walk.{pair-says, message-says, message-list, item-pair, item-message, item-next, ended-done, ended-short, ends, payload-ends}
