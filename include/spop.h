@@ -13,11 +13,12 @@
  *                       that is too short, right after its length number or type byte
  *    4  unknown         a frame's type is none of the six, or its flags are not known ones; *at: 4
  *    5  aborted         a frame has ABORT set; *at: 4
- *    6  an agent's      a frame's type is one that agents send, 101 to 103; *at: 4
+ *    6  the other's     a frame's type is one that the other side sends: 101 to 103 where HAProxy's frames are read, and 1 to 3 where
+ *                       agents' are; *at: 4
  *    7  too large       a number over 2^64-1; *at: right after the byte that broke it
  *    8  no such type    a data type from 10 to 15; *at: right after the type byte
  *    9  repeated        a key that an earlier pair has; *at: read, right after the second pair; written, the record's index
- *   10  table full      a table has no room for a record; *at: right after the pair, or for a message right after its count byte
+ *   10  table full      a table has no room for a record; *at: right after the pair or action, or for a message right after its count byte
  *   11  no room         the output is too short; *at: 0
  *   12  over the limit  the frame to be written is longer than the limit allows; *at: 0
  *   13  size too small  a frame size is under 256; *at: 0
@@ -25,6 +26,8 @@
  *   15  not UTF-8       a text is not well-formed; *at: the same
  *   16  outside         a record points outside the buffer, or the table has fewer; *at: the record's index, or 0
  *   17  too many        a message with more than 255 arguments; *at: the message's index
+ *   18  unknown action  an action is neither set nor unset, its argument count is not its own, or its scope is above 4; *at: right
+ *                       after that byte
  *   19  not fitting     a number whose tenth byte is above 15; *at: right after that byte
  *
  * *at is always set. Whatever else is lent changes only after 0: of an output the bytes that are written, and of a table the
@@ -66,6 +69,7 @@ enum spop_refusal {
     SPOP_NOT_TEXT = 15,
     SPOP_OUTSIDE = 16,
     SPOP_TOO_MANY = 17,
+    SPOP_UNKNOWN_ACTION = 18,
     SPOP_NOT_FITTING = 19
 };
 
@@ -182,6 +186,16 @@ struct spop_head {
     uint64_t pair_count;
 };
 
+/* The six numbers of an agent's frame's head. */
+struct spop_agent_head {
+    uint64_t type;
+    uint64_t flags;
+    uint64_t stream_id;
+    uint64_t frame_id;
+    uint64_t pair_count;
+    uint64_t action_count;
+};
+
 /* An announced version's four numbers. The last is 0 exactly where it has no pre-release part: of 2.0.0-rc.1 it is any other. */
 struct spop_announced {
     uint64_t major;
@@ -210,6 +224,7 @@ SPOP_HOLDS(spop_pair_is_six_numbers, sizeof(struct spop_pair) == SPOP_PAIR_WIDTH
 SPOP_HOLDS(spop_action_is_eight_numbers, sizeof(struct spop_action) == SPOP_ACTION_WIDTH * sizeof(uint64_t));
 SPOP_HOLDS(spop_head_is_six_numbers, sizeof(struct spop_head) == 6 * sizeof(uint64_t));
 SPOP_HOLDS(spop_announced_is_four_numbers, sizeof(struct spop_announced) == SPOP_VERSION_WIDTH * sizeof(uint64_t));
+SPOP_HOLDS(spop_agent_head_is_six_numbers, sizeof(struct spop_agent_head) == 6 * sizeof(uint64_t));
 SPOP_HOLDS(spop_version_is_three_numbers, sizeof(struct spop_version) == 3 * sizeof(uint64_t));
 #undef SPOP_HOLDS
 
@@ -223,7 +238,7 @@ static inline const char *spop_refusal_text(uint64_t number)
     case SPOP_TOO_SOON: return "the bytes end too soon";
     case SPOP_UNKNOWN: return "the frame's type or flags are unknown";
     case SPOP_ABORTED: return "the frame has ABORT set";
-    case SPOP_AGENTS: return "the frame is one that agents send";
+    case SPOP_AGENTS: return "the frame is one that the other side sends";
     case SPOP_TOO_LARGE: return "a number is over 64 bits";
     case SPOP_NO_TYPE: return "a data type is none of 0 to 9";
     case SPOP_MET_TWICE: return "a key is met twice";
@@ -235,6 +250,7 @@ static inline const char *spop_refusal_text(uint64_t number)
     case SPOP_NOT_TEXT: return "a text is not UTF-8";
     case SPOP_OUTSIDE: return "a record points outside its buffer, or a count outside its table";
     case SPOP_TOO_MANY: return "a message has more than 255 arguments";
+    case SPOP_UNKNOWN_ACTION: return "an action, its argument count or its scope is unknown";
     case SPOP_NOT_FITTING: return "a number's tenth byte is above 15";
     default: return "no such number";
     }
@@ -356,6 +372,24 @@ uint64_t spop_read_frame(const uint8_t *input, size_t input_len, uint32_t limit,
 uint64_t spop_read_frame_records(const uint8_t *input, size_t input_len, uint32_t limit,
                                  uint64_t *messages, size_t messages_len, struct spop_pair *pairs, size_t pairs_len,
                                  uint64_t head[6], uint64_t *at);
+
+/* Reads the frame at the front of input, one that an agent sends: an AGENT-HELLO (type 101) or an AGENT-DISCONNECT (102), which hold
+ * a KV list, or an ACK (103), which holds actions. It answers as spop_read_frame does, with these changes: 6 is for types 1 to 3, and
+ * where spop_read_frame has messages, in an ACK there is for each action in turn:
+ *
+ *     3              its action byte, its argument count or its scope is missing; *at: the frame's end
+ *    18              its action byte is neither 1 nor 2, its argument count is not 3 for a set and 2 for an unset, or its scope is above
+ *                    4: each byte is tested before the next is asked for; *at: right after it
+ *     3, 7, 8, 19    its name, or then a set's value, cannot be read
+ *    10              actions has no room for it; *at: right after it
+ *
+ * After 0, head is the type, the flags, the stream id, the frame id, how many pairs there are, and how many actions. An action has eight
+ * numbers: 1 for set or 2 for unset, scope, name start, name length, and a value's kind, a, b and flags, which are 0 for unset. A KV
+ * list has no actions, and an ACK no pairs. pairs has room for pairs_len / 6 pairs, and actions for actions_len / 8 actions, rounded
+ * down. */
+uint64_t spop_read_agent_frame(const uint8_t *input, size_t input_len, uint32_t limit,
+                               uint64_t *pairs, size_t pairs_len, uint64_t *actions, size_t actions_len,
+                               uint64_t head[6], uint64_t *at);
 
 /* The writers of frames take records in a table of numbers, so many of them, whose starts count in buffer; and a limit for the
  * frame's length without its four length bytes. They answer, the first of these that holds: 14 for the metadata (type, flags and
@@ -640,6 +674,19 @@ static inline uint64_t spop_get_frame(struct spop_bytes input, uint32_t limit, s
                            spop_inner_numbers(messages), spop_inner_len(messages, message_room, SPOP_MESSAGE_WIDTH),
                            spop_inner_numbers(pairs), spop_inner_len(pairs, pair_room, SPOP_PAIR_WIDTH),
                            (uint64_t *)(void *)head, at);
+}
+
+/* spop_read_agent_frame, with tables that have room for so many records. */
+static inline uint64_t spop_get_agent_frame(struct spop_bytes input, uint32_t limit, struct spop_pair *pairs, size_t pair_room,
+                                            struct spop_action *actions, size_t action_room, struct spop_agent_head *head,
+                                            uint64_t *at)
+{
+    struct spop_bytes i = spop_inner_bytes(input);
+
+    return spop_read_agent_frame(i.start, i.len, limit,
+                                 spop_inner_numbers(pairs), spop_inner_len(pairs, pair_room, SPOP_PAIR_WIDTH),
+                                 spop_inner_numbers(actions), spop_inner_len(actions, action_room, SPOP_ACTION_WIDTH),
+                                 (uint64_t *)(void *)head, at);
 }
 
 /* spop_write_kv, with FIN alone and both ids 0, as a HELLO and a DISCONNECT have them. */

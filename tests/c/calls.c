@@ -217,6 +217,46 @@ static void read_one(const struct reading *r)
               is_all(records, sizeof records, MARK));
 }
 
+/* Of an ACK with these bytes behind its ids, in tables for two pairs and two actions. */
+static const struct {
+    const char *what, *hex;
+    uint64_t number, at;
+} acks[] = {
+    {"an ACK without an action", "00000007 67 00000001 01 02", SPOP_DONE, 11},
+    {"an ACK of a set and an unset", "00000013 67 00000001 01 02 010302016103 07 0202040162", SPOP_DONE, 23},
+    {"an unknown action", "00000008 67 00000001 01 02 03", SPOP_UNKNOWN_ACTION, 12},
+    {"no argument count", "00000008 67 00000001 01 02 01", SPOP_TOO_SOON, 12},
+    {"an unset of three arguments", "00000009 67 00000001 01 02 0203", SPOP_UNKNOWN_ACTION, 13},
+    {"a scope above 4", "0000000a 67 00000001 01 02 020205", SPOP_UNKNOWN_ACTION, 14},
+    {"no room for the third action", "00000016 67 00000001 01 02 0202000161 0202000162 0202000163", SPOP_TABLE_FULL, 26},
+    {"an agent's hello", "0000000b 65 00000001 00 00 01610307", SPOP_DONE, 15},
+    {"a NOTIFY", "00000007 03 00000001 01 02", SPOP_AGENTS, 4}
+};
+
+static void agents(void)
+{
+    static const uint64_t should_head[] = {SPOP_ACK, SPOP_FIN, 1, 2, 0, 2};
+    static const uint64_t should_actions[] = {1, 2, 15, 1, SPOP_KIND_U32, 7, 0, 0, 2, 4, 22, 1, 0, 0, 0, 0};
+    uint8_t input[64];
+    uint64_t head[6], numbers_of_pairs[2 * SPOP_PAIR_WIDTH], rows[2 * SPOP_ACTION_WIDTH], at, number;
+
+    for (size_t i = 0; i < SPOP_COUNT(acks); i++) {
+        size_t len = from_hex(acks[i].hex, input);
+
+        memset(head, MARK, sizeof head);
+        memset(numbers_of_pairs, MARK, sizeof numbers_of_pairs);
+        memset(rows, MARK, sizeof rows);
+        number = spop_read_agent_frame(input, len, 64, numbers_of_pairs, SPOP_COUNT(numbers_of_pairs), rows, SPOP_COUNT(rows), head, &at);
+        answered(acks[i].what, number, at, acks[i].number, acks[i].at);
+        if (number == SPOP_DONE && head[5] == 2)
+            check("the ACK's actions", memcmp(head, should_head, sizeof head) == 0 && memcmp(rows, should_actions, sizeof rows) == 0);
+        else
+            check("read_agent_frame leaves the actions", is_all(rows, sizeof rows, MARK));
+        if (number != SPOP_DONE)
+            check("read_agent_frame leaves the rest", is_all(head, sizeof head, MARK) && is_all(numbers_of_pairs, sizeof numbers_of_pairs, MARK));
+    }
+}
+
 /* What the writers are lent: "status-code", "message" and "normal" of a disconnect, "slot_a" and "slot_b" of an ACK, "upload",
  * "slot" and "delay" of a NOTIFY, and two bytes that are no text. */
 static const uint8_t pool[] = "status-codemessagenormal" "slot_aslot_b" "uploadslotdelay" "\xc3\x28";
@@ -353,6 +393,7 @@ int main(void)
     pairs();
     for (size_t i = 0; i < SPOP_COUNT(readings); i++)
         read_one(&readings[i]);
+    agents();
     kv();
     actions();
     notify();

@@ -138,6 +138,19 @@ uint64_t spop_read_frame(const uint8_t *input, size_t input_len, uint32_t limit,
     return 49;
 }
 
+uint64_t spop_read_agent_frame(const uint8_t *input, size_t input_len, uint32_t limit, uint64_t *pairs, size_t pairs_len,
+                               uint64_t *actions, size_t actions_len, uint64_t head[6], uint64_t *at)
+{
+    begin();
+    look(input, input_len);
+    count(limit);
+    look(pairs, pairs_len);
+    look(actions, actions_len);
+    look(head, 1);
+    look(at, 1);
+    return 55;
+}
+
 uint64_t spop_write_kv(uint64_t type, bool fin, bool abort, uint64_t stream_id, uint64_t frame_id, uint32_t limit,
                        const uint8_t *buffer, size_t buffer_len, const uint64_t *pairs, size_t pairs_len, uint64_t pair_count,
                        uint8_t *out, size_t out_len, uint64_t *at)
@@ -213,6 +226,7 @@ static void lend(struct spop_bytes bytes, struct spop_room room, struct spop_mes
     struct spop_pair pair;
     struct spop_head head;
     uint8_t other[2];
+    struct spop_agent_head agent_head;
     uint64_t n, at;
     bool same;
 
@@ -232,6 +246,7 @@ static void lend(struct spop_bytes bytes, struct spop_room room, struct spop_mes
     lent("put_value", spop_put_value(&value, bytes, room, &at), 47, 1, b, r, 1, 0, 0, 0, 0);
     lent("get_pair", spop_get_pair(bytes, &pair, &at), 48, b, 1, 1, 0, 0, 0, 0, 0);
     lent("get_frame", spop_get_frame(bytes, 99, messages, 2, pairs, 3, &head, &at), 49, b, 99, m, p, 1, 1, 0, 0);
+    lent("get_agent_frame", spop_get_agent_frame(bytes, 99, pairs, 3, actions, 4, &agent_head, &at), 55, b, 99, p, a, 1, 1, 0, 0);
     lent("put_kv", spop_put_kv(SPOP_AGENT_HELLO, bytes, pairs, 3, room, 99, &at), 50, 101, 99, b, p, 3, r, 1, 0);
     lent("put_ack", spop_put_ack(ids, bytes, actions, 4, room, 99, &at), 51, 99, b, a, 4, r, 1, 0, 0);
     lent("put_notify", spop_put_notify(ids, bytes, messages, 2, pairs, 3, room, 99, &at), 52, 99, b, m, 2, p, 3, r, 1);

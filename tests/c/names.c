@@ -27,9 +27,10 @@ int main(void)
     SHOW_REFUSAL(NOT_TEXT);
     SHOW_REFUSAL(OUTSIDE);
     SHOW_REFUSAL(TOO_MANY);
+    SHOW_REFUSAL(UNKNOWN_ACTION);
     SHOW_REFUSAL(NOT_FITTING);
-    printf("- 18 %s\n", spop_refusal_text(18));
     printf("- 20 %s\n", spop_refusal_text(20));
+    printf("- 21 %s\n", spop_refusal_text(21));
     printf("- 18446744073709551615 %s\n", spop_refusal_text(UINT64_MAX));
     SHOW(KIND_NULL);
     SHOW(KIND_BOOL);

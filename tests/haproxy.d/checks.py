@@ -437,7 +437,7 @@ def size_through_haproxy(scratch, size):
 
 TEXTS = {
     1: "the frame is not whole yet", 2: "the frame's length is over the limit", 3: "the bytes end too soon",
-    4: "the frame's type or flags are unknown", 5: "the frame has ABORT set", 6: "the frame is one that agents send",
+    4: "the frame's type or flags are unknown", 5: "the frame has ABORT set", 6: "the frame is one that the other side sends",
     7: "a number is over 64 bits", 8: "a data type is none of 0 to 9", 9: "a key is met twice",
     10: "a table has no room for a record", 12: "the frame to be written is over the limit", 13: "a frame size is under 256",
     15: "a text is not UTF-8", 19: "a number's tenth byte is above 15",

@@ -17,7 +17,7 @@ TEXTS = {
     3: "the bytes end too soon",
     4: "the frame's type or flags are unknown",
     5: "the frame has ABORT set",
-    6: "the frame is one that agents send",
+    6: "the frame is one that the other side sends",
     7: "a number is over 64 bits",
     8: "a data type is none of 0 to 9",
     9: "a key is met twice",
@@ -29,6 +29,7 @@ TEXTS = {
     15: "a text is not UTF-8",
     16: "a record points outside its buffer, or a count outside its table",
     17: "a message has more than 255 arguments",
+    18: "an action, its argument count or its scope is unknown",
     19: "a number's tenth byte is above 15",
 }
 
@@ -36,7 +37,7 @@ TEXTS = {
 class Names(unittest.TestCase):
     def test_refusals_are_those_of_the_rules(self):
         rows = re.findall(r"^\| (\d+) \| `([A-Z_]+)` \|", RULES, re.M)
-        self.assertEqual(18, len(rows))
+        self.assertEqual(19, len(rows))
         self.assertEqual({"DONE": 0, **{name: int(number) for number, name in rows}},
                          {member.name: member.value for member in spop.Refusal})
 
@@ -62,7 +63,7 @@ class Names(unittest.TestCase):
 
     def test_the_text_of_each_number(self):
         self.assertEqual(TEXTS, {int(number): spop.refusal_text(number) for number in spop.Refusal})
-        for number in (18, 20, -1, 2**64):
+        for number in (20, 21, -1, 2**64):
             self.assertEqual("no such number", spop.refusal_text(number))
 
     def test_all_names_are_there(self):
@@ -77,7 +78,7 @@ class Exceptions(unittest.TestCase):
         self.assertEqual((3, 19, "the bytes end too soon", None, b""),
                          (refused.number, refused.place, refused.text, refused.skip, refused.frame))
         self.assertEqual("3 at 19: the bytes end too soon", str(refused))
-        self.assertEqual("18 at 0: no such number", str(spop.Refused(18, 0)))
+        self.assertEqual("20 at 0: no such number", str(spop.Refused(20, 0)))
         self.assertIsInstance(refused, spop.Error)
 
     def test_incomplete(self):

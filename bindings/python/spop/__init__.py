@@ -21,12 +21,13 @@ from . import _calls
 
 __version__ = "0.1.0"
 __all__ = [
-    "AGREED_FRAME", "Action", "Error", "Flag", "Frame", "FrameType", "Frames", "I32", "I64", "Incomplete", "Kind", "MAX_FRAME",
+    "AGREED_FRAME", "Action", "AgentFrame", "Error", "Flag", "Frame", "FrameType", "Frames", "I32", "I64", "Incomplete", "Kind",
+    "MAX_FRAME",
     "Message", "MessageRecord", "Pair", "PairRecord", "Records", "Refusal", "Refused", "Scope", "SetVar", "Text", "U32", "U64",
     "UnsetVar", "Value", "check_value", "decode_varint", "encode_varint", "frames", "is_utf8", "kind_of", "lossy_text",
-    "negotiate_max_frame_size", "negotiate_version", "read_frame", "read_frame_records", "read_pair", "refusal_text",
-    "same_text", "same_text_plain", "typed_data", "value_len", "varint_len", "write_ack", "write_disconnect", "write_hello",
-    "write_kv", "write_notify", "write_value",
+    "negotiate_max_frame_size", "negotiate_version", "read_agent_frame", "read_frame", "read_frame_records", "read_pair",
+    "refusal_text", "same_text", "same_text_plain", "typed_data", "value_len", "varint_len", "write_ack", "write_disconnect",
+    "write_hello", "write_kv", "write_notify", "write_value",
 ]
 
 _lib = _calls.load()
@@ -60,6 +61,7 @@ class Refusal(IntEnum):
     NOT_TEXT = 15
     OUTSIDE = 16
     TOO_MANY = 17
+    UNKNOWN_ACTION = 18
     NOT_FITTING = 19
 
 
@@ -118,7 +120,7 @@ _TEXTS: Dict[int, str] = {
     Refusal.TOO_SOON: "the bytes end too soon",
     Refusal.UNKNOWN: "the frame's type or flags are unknown",
     Refusal.ABORTED: "the frame has ABORT set",
-    Refusal.AGENTS: "the frame is one that agents send",
+    Refusal.AGENTS: "the frame is one that the other side sends",
     Refusal.TOO_LARGE: "a number is over 64 bits",
     Refusal.NO_TYPE: "a data type is none of 0 to 9",
     Refusal.MET_TWICE: "a key is met twice",
@@ -130,6 +132,7 @@ _TEXTS: Dict[int, str] = {
     Refusal.NOT_TEXT: "a text is not UTF-8",
     Refusal.OUTSIDE: "a record points outside its buffer, or a count outside its table",
     Refusal.TOO_MANY: "a message has more than 255 arguments",
+    Refusal.UNKNOWN_ACTION: "an action, its argument count or its scope is unknown",
     Refusal.NOT_FITTING: "a number's tenth byte is above 15",
 }
 
@@ -446,38 +449,50 @@ _MOST_KEYS = 4160
 
 
 def _most_pairs(lent: bytes, most: int) -> int:
-    is_kv = lent[4:5] in (b"\x01", b"\x02")
+    is_kv = lent[4:5] in (b"\x01", b"\x02", b"\x65", b"\x66")
     return min(most, _MOST_KEYS) if is_kv else most
 
 
 def _read(call: Any, lent: bytes, limit: int, max_messages: Optional[int], max_pairs: Optional[int], types: Sequence[Any],
           width: int) -> Tuple[List[int], List[MessageRecord], Any, int]:
-    """The head, the messages, the table of pairs, and the bytes used. A pair takes `width` elements of its table.
+    """The head, the messages, the table of pairs, and the bytes used. A pair takes `width` elements of its table."""
+    limit = _whole("limit", limit, 32)
+    most = _most(lent, limit)
+    most_messages = most if max_messages is None else min(most, _whole("max_messages", max_messages, 64))
+    most_pairs = _most_pairs(lent, most) if max_pairs is None else min(most, _whole("max_pairs", max_pairs, 64))
+    told, messages, pairs, used = _tables(call, lent, limit, (_NUMBERS, 4, most_messages), (types, width, most_pairs))
+    return told, [MessageRecord(*messages[k:k + 4]) for k in range(0, 4 * told[4], 4)], pairs, used
+
+
+def _most(lent: bytes, limit: int) -> int:
+    """How many records there may be. Each takes two bytes of its frame or more. A frame that is not whole or too long has none that
+    are read."""
+    length = int.from_bytes(lent[:4], "big")
+    return length // 2 if length <= min(limit, len(lent) - 4) else 0
+
+
+def _tables(call: Any, lent: bytes, limit: int, first: Tuple[Sequence[Any], int, int],
+            second: Tuple[Sequence[Any], int, int]) -> Tuple[List[int], Any, Any, int]:
+    """The head, both tables, and the bytes used. A table has its types, the width of a record, and how many there may be.
 
     The tables begin small, and grow as long as 10 is answered and there may be more.
     """
-    limit = _whole("limit", limit, 32)
-    length = int.from_bytes(lent[:4], "big")
-    # A record takes two bytes of its frame or more. A frame that is not whole or too long is not read to its records.
-    most = length // 2 if length <= min(limit, len(lent) - 4) else 0
-    most_messages = most if max_messages is None else min(most, _whole("max_messages", max_messages, 64))
-    most_pairs = _most_pairs(lent, most) if max_pairs is None else min(most, _whole("max_pairs", max_pairs, 64))
     room = _FIRST_ROOM
     while True:
-        numbers, pairs_len = 4 * min(room, most_messages), width * min(room, most_pairs)
-        messages, pairs, head, at = _array(_NUMBERS, numbers)(), _array(types, pairs_len)(), _Head(), c_uint64()
-        number = call(lent, len(lent), limit, messages, numbers, pairs, pairs_len, head, at)
-        if number != Refusal.TABLE_FULL or room >= max(most_messages, most_pairs):
+        lengths = [width * min(room, most) for _, width, most in (first, second)]
+        tables = [_array(types, length)() for (types, _, _), length in zip((first, second), lengths)]
+        head, at = _Head(), c_uint64()
+        number = call(lent, len(lent), limit, tables[0], lengths[0], tables[1], lengths[1], head, at)
+        if number != Refusal.TABLE_FULL or room >= max(first[2], second[2]):
             break
         room *= 8
     if number == Refusal.WAIT:
         raise Incomplete(at.value)
     if number != Refusal.DONE:
         refused = Refused(number, at.value)
-        refused.skip = 4 + length
+        refused.skip = 4 + int.from_bytes(lent[:4], "big")
         raise refused
-    told = head[:]
-    return told, [MessageRecord(*messages[k:k + 4]) for k in range(0, 4 * told[4], 4)], pairs, at.value
+    return head[:], tables[0], tables[1], at.value
 
 
 class Frames(Iterator[Frame]):
@@ -590,6 +605,39 @@ class UnsetVar(NamedTuple):
 
     scope: int
     name: Name
+
+
+class AgentFrame(NamedTuple):
+    """A frame of an agent that was read. An ACK has actions, and an AGENT-HELLO and an AGENT-DISCONNECT have pairs."""
+
+    type: FrameType
+    flags: int
+    stream_id: int
+    frame_id: int
+    used: int
+    pairs: List[Pair]
+    actions: List[Union[SetVar, UnsetVar]]
+
+
+def read_agent_frame(data: Buffer, limit: int = MAX_FRAME, *, max_pairs: Optional[int] = None,
+                     max_actions: Optional[int] = None) -> AgentFrame:
+    """Reads the frame at the front of the bytes, one that an agent sends, as read_frame does those of HAProxy.
+
+    The actions are those that write_ack takes: a set's value is a Value, with its kind and flags.
+    """
+    lent = _lent(data)
+    limit = _whole("limit", limit, 32)
+    most = _most(lent, limit)
+    most_pairs = _most_pairs(lent, most) if max_pairs is None else min(most, _whole("max_pairs", max_pairs, 64))
+    most_actions = most if max_actions is None else min(most, _whole("max_actions", max_actions, 64))
+    head, pairs, rows, used = _tables(_lib.spop_read_agent_frame, lent, limit, (_NUMBERS, 6, most_pairs), (_NUMBERS, 8, most_actions))
+    return AgentFrame(FrameType(head[0]), head[1], head[2], head[3], used,
+                      [_pair(lent, *pairs[k:k + 6]) for k in range(0, 6 * head[4], 6)],
+                      [_action_read(rows[k], rows[k + 1], _pair(lent, *rows[k + 2:k + 8])) for k in range(0, 8 * head[5], 8)])
+
+
+def _action_read(verb: int, scope: int, pair: Pair) -> Union[SetVar, UnsetVar]:
+    return SetVar(Scope(scope), pair.key, pair.typed) if verb == 1 else UnsetVar(Scope(scope), pair.key)
 
 
 Argument = Union[Pair, Tuple[Name, Writable]]

@@ -3,6 +3,7 @@
 //! What each promises and refuses stands in `include/spop.h` and `docs/RULES.md`.
 
 pub use crate::{
+    agent::{read_agent_frame, AgentFrame},
     records::Data,
     sys::{Action, Message, Pair},
 };
@@ -167,7 +168,7 @@ pub(crate) struct Head {
 
 impl Head {
     /// What goes with the numbers that a reader answered and set.
-    fn told(number: u64, at: u64, numbers: [u64; 6]) -> Result<Self, Answer> {
+    pub(crate) fn told(number: u64, at: u64, numbers: [u64; 6]) -> Result<Self, Answer> {
         let used = at as usize;
         match number {
             Refusal::WAIT => Err(Answer::Wait { missing: used }),
@@ -175,16 +176,18 @@ impl Head {
         }
     }
 
+    /// Its type, its metadata, how many records it has of two sorts, and its bytes.
+    pub(crate) fn parts(&self) -> (FrameType, Metadata, [usize; 2], usize) {
+        let [kind, flags, stream_id, frame_id, first, second] = self.numbers;
+        let kind = FrameType::from_number(kind).expect("a reader gives known types alone");
+        let metadata = Metadata { fin: flags & FIN != 0, abort: flags & ABORT != 0, stream_id, frame_id };
+        (kind, metadata, [first as usize, second as usize], self.used)
+    }
+
     /// The frame at the front of the bytes and tables that it was read from and into.
     pub(crate) fn frame<'a>(&self, input: &'a [u8], messages: &'a [Message], pairs: &'a [Pair]) -> Frame<'a> {
-        let [kind, flags, stream_id, frame_id, message_count, pair_count] = self.numbers;
-        Frame {
-            bytes: &input[..self.used],
-            kind: FrameType::from_number(kind).expect("a reader gives known types alone"),
-            metadata: Metadata { fin: flags & FIN != 0, abort: flags & ABORT != 0, stream_id, frame_id },
-            messages: &messages[..message_count as usize],
-            pairs: &pairs[..pair_count as usize],
-        }
+        let (kind, metadata, counts, used) = self.parts();
+        Frame { bytes: &input[..used], kind, metadata, messages: &messages[..counts[0]], pairs: &pairs[..counts[1]] }
     }
 }
 
@@ -340,6 +343,13 @@ impl ExactSizeIterator for Messages<'_> {}
 pub struct Arguments<'a> {
     bytes: &'a [u8],
     pairs: slice::Iter<'a, Pair>,
+}
+
+impl<'a> Arguments<'a> {
+    /// Those that these records say of the bytes.
+    pub(crate) fn of(bytes: &'a [u8], pairs: &'a [Pair]) -> Self {
+        Self { bytes, pairs: pairs.iter() }
+    }
 }
 
 impl<'a> Iterator for Arguments<'a> {

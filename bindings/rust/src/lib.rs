@@ -7,6 +7,7 @@ extern crate alloc;
 #[cfg(feature = "std")]
 extern crate std;
 
+mod agent;
 #[cfg(feature = "std")]
 mod frames;
 pub mod lent;

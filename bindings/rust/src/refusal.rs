@@ -36,6 +36,7 @@ impl Refusal {
     pub const NOT_TEXT: u64 = 15;
     pub const OUTSIDE: u64 = 16;
     pub const TOO_MANY: u64 = 17;
+    pub const UNKNOWN_ACTION: u64 = 18;
     pub const NOT_FITTING: u64 = 19;
 
     /// What the number means.
@@ -53,7 +54,7 @@ pub const fn refusal_text(number: u64) -> &'static str {
         Refusal::TOO_SOON => "the bytes end too soon",
         Refusal::UNKNOWN => "the frame's type or flags are unknown",
         Refusal::ABORTED => "the frame has ABORT set",
-        Refusal::AGENTS => "the frame is one that agents send",
+        Refusal::AGENTS => "the frame is one that the other side sends",
         Refusal::TOO_LARGE => "a number is over 64 bits",
         Refusal::NO_TYPE => "a data type is none of 0 to 9",
         Refusal::MET_TWICE => "a key is met twice",
@@ -65,6 +66,7 @@ pub const fn refusal_text(number: u64) -> &'static str {
         Refusal::NOT_TEXT => "a text is not UTF-8",
         Refusal::OUTSIDE => "a record points outside its buffer, or a count outside its table",
         Refusal::TOO_MANY => "a message has more than 255 arguments",
+        Refusal::UNKNOWN_ACTION => "an action, its argument count or its scope is unknown",
         Refusal::NOT_FITTING => "a number's tenth byte is above 15",
         _ => "no such number",
     }

@@ -114,6 +114,18 @@ extern "C" {
         at: *mut u64,
     ) -> u64;
 
+    pub fn spop_read_agent_frame(
+        input: *const u8,
+        input_len: usize,
+        limit: u32,
+        pairs: *mut u64,
+        pairs_len: usize,
+        actions: *mut u64,
+        actions_len: usize,
+        head: *mut [u64; 6],
+        at: *mut u64,
+    ) -> u64;
+
     pub fn spop_write_kv(
         kind: u64,
         fin: bool,

@@ -35,7 +35,7 @@ fn refusals_have_the_shared_texts() {
         (Refusal::TOO_SOON, 3, "the bytes end too soon"),
         (Refusal::UNKNOWN, 4, "the frame's type or flags are unknown"),
         (Refusal::ABORTED, 5, "the frame has ABORT set"),
-        (Refusal::AGENTS, 6, "the frame is one that agents send"),
+        (Refusal::AGENTS, 6, "the frame is one that the other side sends"),
         (Refusal::TOO_LARGE, 7, "a number is over 64 bits"),
         (Refusal::NO_TYPE, 8, "a data type is none of 0 to 9"),
         (Refusal::MET_TWICE, 9, "a key is met twice"),
@@ -47,12 +47,13 @@ fn refusals_have_the_shared_texts() {
         (Refusal::NOT_TEXT, 15, "a text is not UTF-8"),
         (Refusal::OUTSIDE, 16, "a record points outside its buffer, or a count outside its table"),
         (Refusal::TOO_MANY, 17, "a message has more than 255 arguments"),
+        (Refusal::UNKNOWN_ACTION, 18, "an action, its argument count or its scope is unknown"),
         (Refusal::NOT_FITTING, 19, "a number's tenth byte is above 15"),
     ];
     for (named, number, text) in texts {
         assert_eq!((named, refusal_text(number)), (number, text));
     }
-    for number in [18, 20, u64::MAX] {
+    for number in [20, 21, u64::MAX] {
         assert_eq!(refusal_text(number), "no such number");
     }
 }

@@ -37,6 +37,8 @@ pub const NOT_TEXT: u64 = 15;
 pub const OUTSIDE: u64 = 16;
 // A message has more arguments than its count byte can say.
 pub const TOO_MANY: u64 = 17;
+// An action, its argument count or its scope is unknown.
+pub const UNKNOWN_ACTION: u64 = 18;
 // A number's tenth byte has more than the four bits that are left of 64.
 pub const NOT_FITTING: u64 = 19;
 

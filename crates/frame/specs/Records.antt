@@ -50,6 +50,9 @@ messageNumbers m = m .start ∷ m .len ∷ m .first ∷ m .count ∷ []
 abbrev pub pairNumbers : Pair → List ℕ
 pairNumbers p = p .start ∷ p .len ∷ p .value .kind ∷ p .value .a ∷ p .value .b ∷ p .value .flags ∷ []
 
+abbrev pub actionNumbers : Action → List ℕ
+actionNumbers x = x .verb ∷ x .scope ∷ pairNumbers (x .pair)
+
 -- a pair's key, and whether two keys are the same text
 abbrev pub keyOf : List ℕ → Pair → List ℕ
 keyOf buffer p = part buffer (p .start) (p .len)

@@ -1,6 +1,6 @@
 -- Laws about accepted frames: they end where their bytes do, and each of their records has a line.
 use mathlib.Core.Path.{_≡_, refl, sym, ap, _∙_}
-use mathlib.Core.Bool.{Bool, true, cond, not, _&&_, _||_}
+use mathlib.Core.Bool.{Bool, true, false, cond, not, _&&_, _||_}
 use mathlib.Core.Logic.{⊎-elim}
 use mathlib.Core.List.{List, [], _∷_, _++_, map}
 use Prim.Native.Nat.{ℕ, zero, suc, _+_, _-_, _≤_}
@@ -23,7 +23,8 @@ use Rattle.parser.specs.declared.Rooms.{Rooms}
 use Rattle.parser.specs.declared.Metadata.{Metadata}
 use Rattle.parser.specs.Pair.{pairOf, movedPair, pair, pairFrom}
 use Rattle.parser.specs.Payload.{Contents, withMessage, movedMessage, movedContents, stringFrom, oneItem, ended, toEnd, payload}
-use Rattle.parser.specs.Frame.{metadata, wholeFrame, wait, answered, frameRead}
+use Rattle.parser.specs.Frame.{metadata, wait, answered, frameRead}
+use Rattle.parser.specs.Inner.{wholeFrame}
 use Rattle.parser.proofs.Pairs.{pair-key, pair-value, pair-whole, done-same}
 use Rattle.parser.proofs.Walk.{pair-says, string-next, message-says, item-pair, item-message, item-next, ended-done, ended-short}
 use Rattle.parser.proofs.Frames.{metadata-start, whole-refused, whole-payload, frame-start, frame-over, frame-wait, frame-whole}
@@ -177,13 +178,13 @@ module _ (kv : Bool) (rooms : Rooms) (s : List ℕ) where
 -- Law: an accepted frame takes all of its bytes, and each of its records has a line.
 pub whole-held : (rooms : Rooms) (f : List ℕ) (m : Metadata) (c : Contents) (used : ℕ) → wholeFrame rooms f ≡ done (m, c) used
     → Held (length f) c × (used ≡ length f)
-whole-held rooms f m c used e = by-head (metadata f) refl
+whole-held rooms f m c used e = by-head (metadata false f) refl
   where
-    by-payload : (n : Metadata) (start : ℕ) → metadata f ≡ done n start → (y : Answer Contents)
+    by-payload : (n : Metadata) (start : ℕ) → metadata false f ≡ done n start → (y : Answer Contents)
         → payload (not (eqb (n .kind) 3)) rooms (drop start f) ≡ y → Held (length f) c × (used ≡ length f)
     by-payload n start is (done d end) p =
         let o = payload-held (not (eqb (n .kind) 3)) rooms (drop start f) d end p in
-        let h = metadata-start f n start is in
+        let h = metadata-start false f n start is in
         let all : start + length (drop start f) ≡ length f = omega (arith, length-drop start f, h) in
         let q : _≡_ {A = Answer (Metadata × Contents)} (done (n, movedContents start d) (start + end)) (done (m, c) used) =
         sym (whole-payload rooms f n start is ∙ ap (λ (y : Answer Contents). next (behind movedContents start y) (λ (x : Contents) (k : ℕ). done (n, x) k)) p) ∙ e in
@@ -193,7 +194,7 @@ whole-held rooms f m c used e = by-head (metadata f) refl
     by-payload n start is (refused k place) p =
         not-both e (whole-payload rooms f n start is ∙ ap (λ (y : Answer Contents). next (behind movedContents start y) (λ (x : Contents) (k : ℕ). done (n, x) k)) p)
 
-    by-head : (x : Answer Metadata) → metadata f ≡ x → Held (length f) c × (used ≡ length f)
+    by-head : (x : Answer Metadata) → metadata false f ≡ x → Held (length f) c × (used ≡ length f)
     by-head (done n start) is = by-payload n start is (payload (not (eqb (n .kind) 3)) rooms (drop start f)) refl
     by-head (refused k place) r = not-both e (whole-refused rooms f k place r)
 

@@ -19,7 +19,7 @@ use Rattle.frame.specs.Records.{keyOf}
 use Rattle.parser.specs.declared.Rooms.{Rooms}
 use Rattle.parser.specs.declared.Metadata.{Metadata}
 use Rattle.parser.specs.Payload.{Contents}
-use Rattle.parser.specs.Frame.{wholeFrame}
+use Rattle.parser.specs.Inner.{wholeFrame}
 use Rattle.listing.specs.Digits.{decimal, shown}
 use Rattle.listing.specs.Lines.{mark, others, filled, frameForm, messageForm, pairForm, endForm, valueText, frameLine, messageLine, pairLine, endLine}
 use Rattle.listing.proofs.Frames.{pairLines, itemLines, frameLines}

@@ -20,7 +20,7 @@ use Rattle.frame.specs.Records.{keyOf}
 use Rattle.parser.specs.declared.Rooms.{Rooms}
 use Rattle.parser.specs.declared.Metadata.{Metadata}
 use Rattle.parser.specs.Payload.{Contents}
-use Rattle.parser.specs.Frame.{wholeFrame}
+use Rattle.parser.specs.Inner.{wholeFrame}
 use Rattle.listing.specs.Digits.{decimal, shown}
 use Rattle.listing.specs.Lines.{filled, hasSign, dataText, valueText, messageLine, pairLine}
 use Rattle.listing.proofs.Decimal.{decimal-most}

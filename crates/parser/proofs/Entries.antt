@@ -20,7 +20,7 @@ use Rattle.parser.proofs.Kept.{Larger, wait-answered, answered-same, ac
 use Rattle.parser.proofs.Unique.{frame-same}
 
 -- A table that records of one width were left in has them at the front, and behind them what it had.
-left-in : {A : Type 0} (numbers : A → List ℕ) (width : ℕ) → ((x : A) → length (numbers x) ≡ width) → (xs : List A) (n : ℕ) → length xs ≡ n → (old new : List ℕ)
+pub left-in : {A : Type 0} (numbers : A → List ℕ) (width : ℕ) → ((x : A) → length (numbers x) ≡ width) → (xs : List A) (n : ℕ) → length xs ≡ n → (old new : List ℕ)
     → new ≡ leaves (written (joined numbers xs)) old → (take (n * width) new ≡ joined numbers xs) × (drop (n * width) new ≡ drop (n * width) old)
 left-in numbers width each xs n is old new e =
     let long : length (joined numbers xs) ≡ n * width = joined-width numbers width each xs ∙ ap (λ (k : ℕ). k * width) is in (

@@ -24,9 +24,10 @@ use Rattle.parser.specs.declared.Rooms.{Rooms}
 use Rattle.parser.specs.declared.Metadata.{Metadata}
 use Rattle.parser.specs.Pair.{pairOf, pair}
 use Rattle.parser.specs.Payload.{Contents, payload}
-use Rattle.parser.specs.Frame.{frameTypes, ids, metadata, wholeFrame, answered, frameRead}
+use Rattle.parser.specs.Frame.{frameTypes, sentBy, ids, metadata, answered, frameRead}
+use Rattle.parser.specs.Inner.{wholeFrame}
 use Rattle.parser.proofs.Pairs.{done-same, pair-cases, pair-key, pair-value, pair-whole}
-use Rattle.parser.proofs.Frames.{last-refused, last-agent, last-done, ids-refused, ids-on, metadata-none, metadata-type, metadata-short, metadata-flags, metadata-abort, metadata-ids, whole-refused, whole-payload, frame-start, frame-over, frame-wait, frame-whole, inFrame}
+use Rattle.parser.proofs.Frames.{last-refused, last-other, last-done, ids-refused, ids-on, metadata-none, metadata-type, metadata-short, metadata-flags, metadata-abort, metadata-ids, whole-refused, whole-payload, frame-start, frame-over, frame-wait, frame-whole, inFrame}
 use Rattle.parser.proofs.Kept.{by-cut, wait-answered, answered-same}
 
 -- ---- bytes of bytes
@@ -80,16 +81,16 @@ pub record Ids (f : List ℕ) (m : Metadata) (start : ℕ) : Type 0 where
   pub frame : number (drop (9 + first) f) ≡ done (m .frame) second
   pub ends : 9 + first + second ≡ start
 
-ids-there : (kind flags : ℕ) (f : List ℕ) (m : Metadata) (start : ℕ) → ids kind flags f ≡ done m start → Ids f m start
-ids-there kind flags f m start e =
+ids-there : (agents : Bool) (kind flags : ℕ) (f : List ℕ) (m : Metadata) (start : ℕ) → ids agents kind flags f ≡ done m start → Ids f m start
+ids-there agents kind flags f m start e =
     answer-cases (number (drop 9 f))
     (λ n u d.
     answer-cases (number (drop (9 + u) f))
     (λ k v g.
-    let last = sym (ids-on kind flags f n u d) ∙ e in
-    ⊎-elim
+    let last = sym (ids-on agents kind flags f n u d) ∙ e in
+    bool-cases (sentBy agents kind)
     (λ h.
-    let o = done-same (sym (last-done kind flags n (9 + u) f k v g h) ∙ last) in
+    let o = done-same (sym (last-done agents kind flags n (9 + u) f k v g h) ∙ last) in
     record {
       first = u;
       second = v;
@@ -97,36 +98,35 @@ ids-there kind flags f m start e =
       frame = g ∙ ap (λ (x : Metadata). done (x .frame) v) (o .0);
       ends = o .1;
     })
-    (λ h. not-both last (last-agent kind flags n (9 + u) f k v g h))
-    (lt-or-le kind 101))
-    (λ k place r. not-both (sym (ids-on kind flags f n u d) ∙ e) (last-refused kind flags n (9 + u) f k place r)))
-    (λ n place r. not-both e (ids-refused kind flags f n place r))
+    (λ h. not-both last (last-other agents kind flags n (9 + u) f k v g h)))
+    (λ k place r. not-both (sym (ids-on agents kind flags f n u d) ∙ e) (last-refused agents kind flags n (9 + u) f k place r)))
+    (λ n place r. not-both e (ids-refused agents kind flags f n place r))
 
-metadata-there : (f : List ℕ) (m : Metadata) (start : ℕ) → metadata f ≡ done m start → Ids f m start
-metadata-there f m start e =
+metadata-there : (agents : Bool) (f : List ℕ) (m : Metadata) (start : ℕ) → metadata agents f ≡ done m start → Ids f m start
+metadata-there agents f m start e =
     ⊎-elim
     (λ h.
     bool-cases (some (eqb (getD f 4 0)) frameTypes)
-    (λ t. ⊎-elim (λ l. not-both e (metadata-short f h t l)) (λ l. by-flags h t l (fourNumber (drop 5 f)) refl) (lt-or-le (length f) 9))
-    (λ t. not-both e (metadata-type f h t)))
-    (λ h. not-both e (metadata-none f h))
+    (λ t. ⊎-elim (λ l. not-both e (metadata-short agents f h t l)) (λ l. by-flags h t l (fourNumber (drop 5 f)) refl) (lt-or-le (length f) 9))
+    (λ t. not-both e (metadata-type agents f h t)))
+    (λ h. not-both e (metadata-none agents f h))
     (lt-or-le 4 (length f))
   where
     by-flags : 4 < length f → some (eqb (getD f 4 0)) frameTypes ≡ true → 9 ≤ length f → (n : ℕ) → fourNumber (drop 5 f) ≡ n → Ids f m start
     by-flags h t l n is =
         bool-cases (eqb n 1)
-        (λ one. ids-there (getD f 4 0) (fourNumber (drop 5 f)) f m start (sym (metadata-ids f h t l (is ∙ eqb-true n 1 one)) ∙ e))
+        (λ one. ids-there agents (getD f 4 0) (fourNumber (drop 5 f)) f m start (sym (metadata-ids agents f h t l (is ∙ eqb-true n 1 one)) ∙ e))
         (λ one.
         bool-cases (eqb n 3)
-        (λ three. not-both e (metadata-abort f h t l (is ∙ eqb-true n 3 three)))
-        (λ three. not-both e (metadata-flags f h t l (λ z. eqb-false n 1 one (sym is ∙ z)) (λ z. eqb-false n 3 three (sym is ∙ z)))))
+        (λ three. not-both e (metadata-abort agents f h t l (is ∙ eqb-true n 3 three)))
+        (λ three. not-both e (metadata-flags agents f h t l (λ z. eqb-false n 1 one (sym is ∙ z)) (λ z. eqb-false n 3 three (sym is ∙ z)))))
 
 whole-there : (rooms : Rooms) (f : List ℕ) (m : Metadata) (c : Contents) (used : ℕ) → wholeFrame rooms f ≡ done (m, c) used → (start : ℕ) × Ids f m start
 whole-there rooms f m c used e =
-    answer-cases (metadata f)
+    answer-cases (metadata false f)
     (λ n start g.
     let same : n ≡ m = go n start (payload (not (eqb (n .kind) 3)) rooms (drop start f)) (sym (whole-payload rooms f n start g) ∙ e) in
-    (start, rw (sym same) (metadata-there f n start g)))
+    (start, rw (sym same) (metadata-there false f n start g)))
     (λ n place r. not-both e (whole-refused rooms f n place r))
   where
     go : (n : Metadata) (start : ℕ) (a : Answer Contents) → inFrame n start a ≡ done (m, c) used → n ≡ m

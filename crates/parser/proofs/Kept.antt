@@ -18,10 +18,11 @@ use Rattle.parser.specs.declared.Rooms.{Rooms}
 use Rattle.parser.specs.declared.Metadata.{Metadata}
 use Rattle.parser.specs.Pair.{pairFrom}
 use Rattle.parser.specs.Payload.{Contents, met, stringFrom, onePair, oneMessage, oneItem, toEnd, payload, movedContents}
-use Rattle.parser.specs.Frame.{metadata, wholeFrame, Reading, wait, answered, frameRead}
+use Rattle.parser.specs.Frame.{metadata, Entry, whole, Reading, wait, answered, front, haproxys, frameRead}
+use Rattle.parser.specs.Inner.{wholeFrame}
 use Rattle.parser.proofs.Pairs.{refused-same, done-same}
 use Rattle.parser.proofs.Walk.{pair-refused, pair-met, pair-full, pair-taken, message-refused, message-short, message-full, message-taken, item-pair, item-message}
-use Rattle.parser.proofs.Frames.{whole-refused, whole-payload, frame-start, frame-over, frame-wait, frame-whole}
+use Rattle.parser.proofs.Frames.{head-refused, head-done, cut-start, cut-over, cut-wait, cut-whole}
 
 -- ---- larger tables
 
@@ -97,22 +98,30 @@ module _ (kv : Bool) (rooms others : Rooms) (larger : Larger rooms others) (s : 
   payload-kept no10 = end-kept (length s) 0 _ no10
 
 -- a payload in its frame
-in-frame-full : (m : Metadata) (start : ℕ) (a : Answer Contents)
-    → NotFull {A = Metadata × Contents} (next (behind movedContents start a) (λ (c : Contents) (end : ℕ). done (m, c) end)) → NotFull a
-in-frame-full m start (done c n) no10 place e = not-both refl e
-in-frame-full m start (refused n p) no10 place e =
+in-frame-full : {A : Type 0} (m : Metadata) (moved : ℕ → A → A) (start : ℕ) (a : Answer A)
+    → NotFull {A = Metadata × A} (next (behind moved start a) (λ (c : A) (end : ℕ). done (m, c) end)) → NotFull a
+in-frame-full m moved start (done c n) no10 place e = not-both refl e
+in-frame-full m moved start (refused n p) no10 place e =
     let q = refused-same e in no10 (start + place) (ap₂ (λ (x y : ℕ). refused x (start + y)) (q .0) (q .1))
 
-pub whole-kept : (rooms others : Rooms) → Larger rooms others → (f : List ℕ) → NotFull (wholeFrame rooms f) → wholeFrame others f ≡ wholeFrame rooms f
-whole-kept rooms others larger f no10 =
-    answer-cases (metadata f)
-    (λ m start e.
-    let kv = not (eqb (m .kind) 3) in
-    let no : NotFull (payload kv rooms (drop start f)) = in-frame-full m start (payload kv rooms (drop start f)) (λ place q. no10 place (whole-payload rooms f m start e ∙ q)) in
-    whole-payload others f m start e
-    ∙ ap (λ (a : Answer Contents). next (behind movedContents start a) (λ (c : Contents) (end : ℕ). done (m, c) end)) (payload-kept kv rooms others larger (drop start f) no)
-    ∙ sym (whole-payload rooms f m start e))
-    (λ n place e. whole-refused others f n place e ∙ sym (whole-refused rooms f n place e))
+-- An entry and the same with larger tables: what it reads of a payload is kept, and so is the whole.
+module _ {A : Type 0} (agents : Bool) (moved : ℕ → A → A) (few more : ℕ → List ℕ → Answer A)
+    (kept : (kind : ℕ) (s : List ℕ) → NotFull (few kind s) → more kind s ≡ few kind s) where
+  abbrev pub before : Entry A
+  before = record { agents = agents; payloadOf = few; moved = moved }
+
+  abbrev pub larger : Entry A
+  larger = record { agents = agents; payloadOf = more; moved = moved }
+
+  pub entry-kept : (f : List ℕ) → NotFull (whole before f) → whole larger f ≡ whole before f
+  entry-kept f no10 =
+      answer-cases (metadata agents f)
+      (λ m start e.
+      let no = in-frame-full m moved start (few (m .kind) (drop start f)) (λ place q. no10 place (head-done before f m start e ∙ q)) in
+      head-done larger f m start e
+      ∙ ap (λ (a : Answer A). next (behind moved start a) (λ (c : A) (end : ℕ). done (m, c) end)) (kept (m .kind) (drop start f) no)
+      ∙ sym (head-done before f m start e))
+      (λ n place e. head-refused larger f n place e ∙ sym (head-refused before f n place e))
 
 -- ---- waits
 
@@ -147,83 +156,138 @@ Missing limit s n =
     ⊎ ((4 ≤ length s) × (fourNumber s ≤ limit) × (length s < 4 + fourNumber s) × (n ≡ 4 + fourNumber s - length s))
 
 -- Waits: a wait is given exactly when fewer than four bytes are there, and then for the rest of the four; or when the length is within the limit
--- and the frame is not whole, and then for exactly the rest of it.
-pub waits : (limit : ℕ) (rooms : Rooms) (s : List ℕ) (n : ℕ)
-    → (frameRead limit rooms s ≡ wait n → Missing limit s n) × (Missing limit s n → frameRead limit rooms s ≡ wait n)
-waits limit rooms s n = (there, back)
-  where
-    there : frameRead limit rooms s ≡ wait n → Missing limit s n
-    there e =
-        by-cut limit s
-        (λ h. inl (h, wait-same (sym e ∙ frame-start limit rooms s h)))
-        (λ h l. wait-answered (sym e ∙ frame-over limit rooms s h l))
-        (λ h l w. inr (h, l, w, wait-same (sym e ∙ frame-wait limit rooms s h l w)))
-        (λ h l w. wait-answered (sym e ∙ frame-whole limit rooms s h l w))
+-- and the frame is not whole, and then for exactly the rest of it. Waits once: with the bytes that were asked for, from the fourth byte on, it is
+-- answered. This holds of any entry.
+module _ {A : Type 0} (x : Entry A) (limit : ℕ) (s : List ℕ) (n : ℕ) where
+  pub front-waits : (front x limit s ≡ wait n → Missing limit s n) × (Missing limit s n → front x limit s ≡ wait n)
+  front-waits = (there, back)
+    where
+      there : front x limit s ≡ wait n → Missing limit s n
+      there e =
+          by-cut limit s
+          (λ h. inl (h, wait-same (sym e ∙ cut-start x limit s h)))
+          (λ h l. wait-answered (sym e ∙ cut-over x limit s h l))
+          (λ h l w. inr (h, l, w, wait-same (sym e ∙ cut-wait x limit s h l w)))
+          (λ h l w. wait-answered (sym e ∙ cut-whole x limit s h l w))
 
-    back : Missing limit s n → frameRead limit rooms s ≡ wait n
-    back m =
-        ⊎-elim
-        (λ x. frame-start limit rooms s (x .0) ∙ ap wait (sym (x .1)))
-        (λ x. frame-wait limit rooms s (x .0) (x .1) (x .2) ∙ ap wait (sym (x .3)))
-        m
+      back : Missing limit s n → front x limit s ≡ wait n
+      back m =
+          ⊎-elim
+          (λ y. cut-start x limit s (y .0) ∙ ap wait (sym (y .1)))
+          (λ y. cut-wait x limit s (y .0) (y .1) (y .2) ∙ ap wait (sym (y .3)))
+          m
 
--- Waits once: with the bytes that were asked for, from the fourth byte on, it is answered.
-pub waits-once : (limit : ℕ) (rooms : Rooms) (s t : List ℕ) (n : ℕ) → 4 ≤ length s → frameRead limit rooms s ≡ wait n → n ≤ length t
-    → (a : Answer (Metadata × Contents)) × (frameRead limit rooms (s ++ t) ≡ answered a)
-waits-once limit rooms s t n h e m =
-    ⊎-elim
-    (λ x. absurd (omega (arith, x .0, h)))
-    (λ x.
-    let same = four-kept s t h in
-    let all = length-append s t in (
-      _,
-      frame-whole limit rooms (s ++ t) (omega (arith, all, h)) (rw same (x .1)) (rw same (omega (arith, all, x .3, m))),
-    ))
-    (waits limit rooms s n .0 e)
+  pub front-waits-once : (t : List ℕ) → 4 ≤ length s → front x limit s ≡ wait n → n ≤ length t
+      → (a : Answer (Metadata × A)) × (front x limit (s ++ t) ≡ answered a)
+  front-waits-once t h e m =
+      ⊎-elim
+      (λ y. absurd (omega (arith, y .0, h)))
+      (λ y.
+      let same = four-kept s t h in
+      let all = length-append s t in (
+        _,
+        cut-whole x limit (s ++ t) (omega (arith, all, h)) (rw same (y .1)) (rw same (omega (arith, all, y .3, m))),
+      ))
+      (front-waits .0 e)
 
 -- ---- kept
 
--- with bytes appended, under a limit no lower, and with tables no smaller
-module _ (limit higher : ℕ) (up : limit ≤ higher) (rooms others : Rooms) (larger : Larger rooms others) (s t : List ℕ) where
+-- with bytes appended, under a limit no lower, and with tables no smaller, of any entry
+module _ {A : Type 0} (agents : Bool) (moved : ℕ → A → A) (few more : ℕ → List ℕ → Answer A)
+    (kept : (kind : ℕ) (s : List ℕ) → NotFull (few kind s) → more kind s ≡ few kind s)
+    (limit higher : ℕ) (up : limit ≤ higher) (s t : List ℕ) where
+  abbrev smaller : Entry A
+  smaller = before agents moved few more kept
+
+  abbrev others : Entry A
+  others = larger agents moved few more kept
+
   whole-again : 4 ≤ length s → fourNumber s ≤ limit → 4 + fourNumber s ≤ length s
-      → frameRead higher others (s ++ t) ≡ answered (wholeFrame others (take (4 + fourNumber s) s))
+      → front others higher (s ++ t) ≡ answered (whole others (take (4 + fourNumber s) s))
   whole-again h l w =
       let same = four-kept s t h in
       let all = length-append s t in
-      frame-whole higher others (s ++ t) (omega (arith, all, h)) (rw same (omega (arith, l, up))) (rw same (omega (arith, all, w)))
-      ∙ ap (λ (n : ℕ). answered (wholeFrame others (take (4 + n) (s ++ t)))) same
-      ∙ ap (λ (f : List ℕ). answered (wholeFrame others f)) (take-append-le (4 + fourNumber s) s t w)
+      cut-whole others higher (s ++ t) (omega (arith, all, h)) (rw same (omega (arith, l, up))) (rw same (omega (arith, all, w)))
+      ∙ ap (λ (n : ℕ). answered (whole others (take (4 + n) (s ++ t)))) same
+      ∙ ap (λ (f : List ℕ). answered (whole others f)) (take-append-le (4 + fourNumber s) s t w)
 
   -- Kept, an accepted frame: the same length, type, flags, ids, and the same records in the same order.
-  pub accepted-kept : (x : Metadata × Contents) (used : ℕ) → frameRead limit rooms s ≡ answered (done x used)
-      → frameRead higher others (s ++ t) ≡ answered (done x used)
-  accepted-kept x used e =
+  pub front-kept : (x : Metadata × A) (used : ℕ) → front smaller limit s ≡ answered (done x used)
+      → front others higher (s ++ t) ≡ answered (done x used)
+  front-kept x used e =
       by-cut limit s
-      (λ h. wait-answered (sym (frame-start limit rooms s h) ∙ e))
-      (λ h l. not-both refl (answered-same (sym e ∙ frame-over limit rooms s h l)))
-      (λ h l w. wait-answered (sym (frame-wait limit rooms s h l w) ∙ e))
+      (λ h. wait-answered (sym (cut-start smaller limit s h) ∙ e))
+      (λ h l. not-both refl (answered-same (sym e ∙ cut-over smaller limit s h l)))
+      (λ h l w. wait-answered (sym (cut-wait smaller limit s h l w) ∙ e))
       (λ h l w.
-      let is = answered-same (sym (frame-whole limit rooms s h l w) ∙ e) in
-      whole-again h l w ∙ ap answered (whole-kept rooms others larger (take (4 + fourNumber s) s) (λ place q. not-both is q) ∙ is))
+      let is = answered-same (sym (cut-whole smaller limit s h l w) ∙ e) in
+      whole-again h l w ∙ ap answered (entry-kept agents moved few more kept (take (4 + fourNumber s) s) (λ place q. not-both is q) ∙ is))
 
   -- Kept, a refusal: its number and its place, except 2 under a higher limit and 10 with a larger table.
+  pub front-refusal-kept : (number place : ℕ) → front smaller limit s ≡ answered (refused number place)
+      → (number ≡ 2 → limit ≡ higher) → (number ≡ 10 → (kind : ℕ) (p : List ℕ) → more kind p ≡ few kind p)
+      → front others higher (s ++ t) ≡ answered (refused number place)
+  front-refusal-kept number place e two ten =
+      by-cut limit s
+      (λ h. wait-answered (sym (cut-start smaller limit s h) ∙ e))
+      (λ h l.
+      let is = refused-same (answered-same (sym (cut-over smaller limit s h l) ∙ e)) in
+      cut-over others higher (s ++ t) (omega (arith, length-append s t, h)) (rw (four-kept s t h) (omega (arith, l, two (sym (is .0)))))
+      ∙ ap₂ (λ (n p : ℕ). answered (refused n p)) (is .0) (is .1))
+      (λ h l w. wait-answered (sym (cut-wait smaller limit s h l w) ∙ e))
+      (λ h l w.
+      let is = answered-same (sym (cut-whole smaller limit s h l w) ∙ e) in
+      whole-again h l w ∙ ap answered (same (take (4 + fourNumber s) s) is))
+    where
+      alike : (f : List ℕ) → ((kind : ℕ) (p : List ℕ) → more kind p ≡ few kind p) → whole others f ≡ whole smaller f
+      alike f each =
+          answer-cases (metadata agents f)
+          (λ m start e.
+          head-done others f m start e
+          ∙ ap (λ (a : Answer A). next (behind moved start a) (λ (c : A) (end : ℕ). done (m, c) end)) (each (m .kind) (drop start f))
+          ∙ sym (head-done smaller f m start e))
+          (λ n place e. head-refused others f n place e ∙ sym (head-refused smaller f n place e))
+
+      same : (f : List ℕ) → whole smaller f ≡ refused number place → whole others f ≡ refused number place
+      same f is =
+          bool-cases (eqb number 10)
+          (λ b. alike f (ten (eqb-true number 10 b)) ∙ is)
+          (λ b. entry-kept agents moved few more kept f (λ p q. eqb-false number 10 b (refused-same (sym is ∙ q) .0)) ∙ is)
+
+-- ---- HAProxy's frames
+
+module _ (limit : ℕ) (rooms : Rooms) (s : List ℕ) (n : ℕ) where
+  pub waits : (frameRead limit rooms s ≡ wait n → Missing limit s n) × (Missing limit s n → frameRead limit rooms s ≡ wait n)
+  unfolding frameRead
+  waits = front-waits (haproxys rooms) limit s n
+
+pub waits-once : (limit : ℕ) (rooms : Rooms) (s t : List ℕ) (n : ℕ) → 4 ≤ length s → frameRead limit rooms s ≡ wait n → n ≤ length t
+    → (a : Answer (Metadata × Contents)) × (frameRead limit rooms (s ++ t) ≡ answered a)
+unfolding frameRead
+waits-once limit rooms s t n h e m = front-waits-once (haproxys rooms) limit s n t h e m
+
+-- what a payload of a type comes to with such rooms
+abbrev readIn : Rooms → ℕ → List ℕ → Answer Contents
+readIn rooms kind p = payload (not (eqb kind 3)) rooms p
+
+read-kept : (rooms others : Rooms) → Larger rooms others → (kind : ℕ) (p : List ℕ) → NotFull (readIn rooms kind p) → readIn others kind p ≡ readIn rooms kind p
+read-kept rooms others larger kind p no10 = payload-kept (not (eqb kind 3)) rooms others larger p no10
+
+pub whole-kept : (rooms others : Rooms) → Larger rooms others → (f : List ℕ) → NotFull (wholeFrame rooms f) → wholeFrame others f ≡ wholeFrame rooms f
+unfolding wholeFrame
+whole-kept rooms others larger f no10 = entry-kept false movedContents (readIn rooms) (readIn others) (read-kept rooms others larger) f no10
+
+module _ (limit higher : ℕ) (up : limit ≤ higher) (rooms others : Rooms) (larger : Larger rooms others) (s t : List ℕ) where
+  pub accepted-kept : (x : Metadata × Contents) (used : ℕ) → frameRead limit rooms s ≡ answered (done x used)
+      → frameRead higher others (s ++ t) ≡ answered (done x used)
+  unfolding frameRead
+  accepted-kept x used e =
+      front-kept false movedContents (readIn rooms) (readIn others) (read-kept rooms others larger) limit higher up s t x used e
+
   pub refusal-kept : (number place : ℕ) → frameRead limit rooms s ≡ answered (refused number place)
       → (number ≡ 2 → limit ≡ higher) → (number ≡ 10 → rooms ≡ others)
       → frameRead higher others (s ++ t) ≡ answered (refused number place)
+  unfolding frameRead
   refusal-kept number place e two ten =
-      by-cut limit s
-      (λ h. wait-answered (sym (frame-start limit rooms s h) ∙ e))
-      (λ h l.
-      let is = refused-same (answered-same (sym (frame-over limit rooms s h l) ∙ e)) in
-      frame-over higher others (s ++ t) (omega (arith, length-append s t, h)) (rw (four-kept s t h) (omega (arith, l, two (sym (is .0)))))
-      ∙ ap₂ (λ (n p : ℕ). answered (refused n p)) (is .0) (is .1))
-      (λ h l w. wait-answered (sym (frame-wait limit rooms s h l w) ∙ e))
-      (λ h l w.
-      let is = answered-same (sym (frame-whole limit rooms s h l w) ∙ e) in
-      whole-again h l w ∙ ap answered (same (take (4 + fourNumber s) s) is))
-    where
-      same : (f : List ℕ) → wholeFrame rooms f ≡ refused number place → wholeFrame others f ≡ refused number place
-      same f is =
-          bool-cases (eqb number 10)
-          (λ b. ap (λ (r : Rooms). wholeFrame r f) (sym (ten (eqb-true number 10 b))) ∙ is)
-          (λ b. whole-kept rooms others larger f (λ p q. eqb-false number 10 b (refused-same (sym is ∙ q) .0)) ∙ is)
+      front-refusal-kept false movedContents (readIn rooms) (readIn others) (read-kept rooms others larger) limit higher up s t
+      number place e two (λ t k p. ap (λ (r : Rooms). readIn r k p) (sym (ten t)))

@@ -14,3 +14,4 @@ pub mod Entries
 pub mod Order
 pub mod Back
 pub mod Exact
+pub mod Starts

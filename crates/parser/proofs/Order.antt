@@ -1,6 +1,6 @@
 -- The order of what is read: in an accepted frame the keys' starts rise, so the pairs come out in the order of their bytes.
 use mathlib.Core.Path.{_≡_, refl, sym, ap, _∙_}
-use mathlib.Core.Bool.{Bool, not, _||_}
+use mathlib.Core.Bool.{Bool, false, not, _||_}
 use mathlib.Core.Logic.{⊎-elim}
 use mathlib.Core.List.{List, [], _∷_, _++_, map}
 use Prim.Native.Nat.{ℕ, zero, suc, _+_, _≤_, _<_}
@@ -17,7 +17,8 @@ use Rattle.parser.specs.declared.Rooms.{Rooms}
 use Rattle.parser.specs.declared.Metadata.{Metadata}
 use Rattle.parser.specs.Pair.{movedPair}
 use Rattle.parser.specs.Payload.{Contents, withMessage, oneItem, ended, toEnd, payload, movedContents}
-use Rattle.parser.specs.Frame.{metadata, wholeFrame, answered, frameRead}
+use Rattle.parser.specs.Frame.{metadata, answered, frameRead}
+use Rattle.parser.specs.Inner.{wholeFrame}
 use Rattle.parser.proofs.Pairs.{done-same}
 use Rattle.parser.proofs.Runs.{from-key}
 use Rattle.parser.proofs.Walk.{pair-says, message-says, item-pair, item-message, item-next, ended-done, ended-short}
@@ -102,7 +103,7 @@ rises-by at (p ∷ ps) end (suc i) (suc j) r l h = rises-by (p .start) ps end i 
 
 whole-rises : (rooms : Rooms) (f : List ℕ) (m : Metadata) (c : Contents) (used : ℕ) → wholeFrame rooms f ≡ done (m, c) used → (at : ℕ) × Rises at (c .pairs) used
 whole-rises rooms f m c used e =
-    answer-cases (metadata f)
+    answer-cases (metadata false f)
     (λ n start g. let kv = not (eqb (n .kind) 3) in go n start (payload kv rooms (drop start f)) (λ d end x. payload-rises kv rooms (drop start f) d end x) (sym (whole-payload rooms f n start g) ∙ e))
     (λ n place r. not-both e (whole-refused rooms f n place r))
   where

@@ -15,10 +15,12 @@ use Rattle.parser.specs.declared.Rooms.{Rooms}
 use Rattle.parser.specs.declared.Metadata.{Metadata}
 use Rattle.parser.specs.declared.FrameRead.{FrameRead}
 use Rattle.parser.specs.declared.FrameRead.the-variants as f
+use Rattle.parser.specs.declared.StartRead.{StartRead}
+use Rattle.parser.specs.declared.StartRead.the-variants as s
 use Rattle.parser.specs.declared.Few.{Few}
 use Rattle.parser.specs.declared.FewRead.{FewRead}
 use Rattle.parser.specs.Payload.{Contents}
-use Rattle.parser.specs.Promise.{Counts, pairSaid, payloadSaid, frameSaid, Fills, ReadPair, ReadPayload, ReadFrame, LookFrame, ReadFew}
+use Rattle.parser.specs.Promise.{Counts, pairSaid, payloadSaid, frameSaid, startSaid, Fills, ReadPair, ReadPayload, ReadList, ReadFrame, ReadStart, LookFrame, ReadFew}
 use Rattle.parser.proofs.Pairs.{done-same}
 
 -- answers that say the same are the same
@@ -74,6 +76,29 @@ pub read-frame-unique : (input : List ℕ) (limit : ℕ) (r q : FrameRead) (oldM
     → (r ≡ q) × (newMessages ≡ otherMessages) × (newPairs ≡ otherPairs)
 read-frame-unique input limit r q oldMessages newMessages otherMessages oldPairs newPairs otherPairs p s =
     let t = fills-same (p .fills) (s .fills) in (frame-same r q (p .says ∙ sym (s .says)), t .0, t .1)
+
+pub read-list-unique : (frame : List ℕ) (start : ℕ) (r q : PayloadRead) (old new other : List ℕ) → ReadList frame start r old new → ReadList frame start q old other
+    → (r ≡ q) × (new ≡ other)
+read-list-unique frame start r q old new other p s = (payload-same r q (p .says ∙ sym (s .says)), p .fills ∙ sym (s .fills))
+
+start-same : (a b : StartRead) → startSaid a ≡ startSaid b → a ≡ b
+start-same (s.Done x m u) (s.Done x′ m′ u′) e =
+    let k = done-same {A = Metadata × ℕ} {x = (x, m)} {y = (x′, m′)} {m = u} {k = u′} (cc) in
+    let w = ap (λ (y : Metadata × ℕ). y .0) (k .0) in
+    let q = ap (λ (y : Metadata × ℕ). y .1) (k .0) in
+    let z = k .1 in
+    cc
+start-same (s.Done x m u) (s.Wait k) e = let z : _≡_ {A = ℕ} 0 1 = cc in absurd (omega arith)
+start-same (s.Done x m u) (s.Refused q) e = let z : _≡_ {A = ℕ} 0 1 = cc in absurd (omega arith)
+start-same (s.Wait k) (s.Done x m u) e = let z : _≡_ {A = ℕ} 0 1 = cc in absurd (omega arith)
+start-same (s.Wait k) (s.Wait k′) e = let q : k ≡ k′ = cc in cc
+start-same (s.Wait k) (s.Refused q) e = let z : _≡_ {A = ℕ} 0 1 = cc in absurd (omega arith)
+start-same (s.Refused r) (s.Done x m u) e = let z : _≡_ {A = ℕ} 0 1 = cc in absurd (omega arith)
+start-same (s.Refused r) (s.Wait k) e = let z : _≡_ {A = ℕ} 0 1 = cc in absurd (omega arith)
+start-same (s.Refused r) (s.Refused q) e = ap s.Refused (refusal-same r q (cc) (cc))
+
+pub read-start-unique : (input : List ℕ) (limit : ℕ) (agents : Bool) (r q : StartRead) → ReadStart input limit agents r → ReadStart input limit agents q → r ≡ q
+read-start-unique input limit agents r q p s = start-same r q (p ∙ sym s)
 
 pub look-frame-unique : (input : List ℕ) (limit : ℕ) (rooms : Rooms) (r q : FrameRead) → LookFrame input limit rooms r → LookFrame input limit rooms q → r ≡ q
 look-frame-unique input limit rooms r q p s = frame-same r q (p ∙ sym s)

@@ -21,7 +21,7 @@ use Rattle.parser.specs.declared.Step.{Step}
 use Rattle.parser.specs.declared.Step.the-variants as v
 use Rattle.parser.specs.Pair.{movedPair, pairFrom}
 use Rattle.parser.specs.Payload.{Contents, stringFrom, payload, movedContents}
-use Rattle.parser.specs.Frame.{answered, wholeFrame}
+use Rattle.parser.specs.Frame.{whole, answered, haproxys}
 use Rattle.parser.specs.Promise.{payloadTells, frameSaid, frameTells, roomsOf, contentsRead, Fills}
 
 -- how far a pass is behind a pair, and behind a message with so many arguments
@@ -117,6 +117,10 @@ fewIn table =
     record { first = pairIn number 0; second = pairIn number pairWidth; third = pairIn number (2 * pairWidth); fourth = pairIn number (3 * pairWidth) }
 
 -- ---- the frame
+
+-- one of HAProxy's that was cut out, with its length bytes
+unfoldable pub wholeFrame : Rooms → List ℕ → Answer (Metadata × Contents)
+wholeFrame rooms f = whole (haproxys rooms) f
 
 -- what the reader of metadata answers
 abbrev pub metadataSaid : MetadataRead → Answer Metadata

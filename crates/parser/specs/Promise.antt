@@ -1,10 +1,10 @@
 -- What the calls' own types mean, and what each call promises.
 use mathlib.Core.Path.{_≡_}
-use mathlib.Core.Bool.{Bool}
+use mathlib.Core.Bool.{Bool, true}
 use mathlib.Core.List.{List, []}
-use Prim.Native.Nat.{ℕ, _/_}
-use lib.ListN.{length, getD}
-use Rattle.answer.specs.Answer.{Answer, done, refused, next, written, leaves}
+use Prim.Native.Nat.{ℕ, _+_, _/_}
+use lib.ListN.{length, drop, getD}
+use Rattle.answer.specs.Answer.{Answer, done, refused, next, behind, written, leaves}
 use Rattle.answer.specs.Table.{joined}
 use Rattle.frame.specs.declared.Pair.{Pair}
 use Rattle.frame.specs.Records.{messageWidth, messageNumbers, pairWidth, pairNumbers}
@@ -16,11 +16,13 @@ use Rattle.parser.specs.declared.Rooms.{Rooms}
 use Rattle.parser.specs.declared.Metadata.{Metadata}
 use Rattle.parser.specs.declared.FrameRead.{FrameRead}
 use Rattle.parser.specs.declared.FrameRead.the-variants as f
+use Rattle.parser.specs.declared.StartRead.{StartRead}
+use Rattle.parser.specs.declared.StartRead.the-variants as s
 use Rattle.parser.specs.declared.Few.{Few}
 use Rattle.parser.specs.declared.FewRead.{FewRead}
 use Rattle.parser.specs.Pair.{pair}
-use Rattle.parser.specs.Payload.{Contents, payload}
-use Rattle.parser.specs.Frame.{Reading, wait, answered, answerOf, frameRead}
+use Rattle.parser.specs.Payload.{Contents, payload, movedContents}
+use Rattle.parser.specs.Frame.{Entry, Reading, wait, answered, answerOf, front, frameRead}
 
 -- ---- what the answers say
 
@@ -81,6 +83,26 @@ pub record ReadPayload (kv : Bool) (input : List ℕ) (r : PayloadRead) (oldMess
 pub record ReadFrame (input : List ℕ) (limit : ℕ) (r : FrameRead) (oldMessages newMessages oldPairs newPairs : List ℕ) : Type 0 where
   pub says : frameSaid r ≡ frameTells (frameRead limit (roomsOf oldMessages oldPairs) input)
   pub fills : Fills (contentsRead (frameRead limit (roomsOf oldMessages oldPairs) input)) oldMessages newMessages oldPairs newPairs
+
+-- `read_list` reads the KV list that stands in some bytes from a place on.
+abbrev pub listFrom : List ℕ → ℕ → ℕ → Answer Contents
+listFrom frame start room = behind movedContents start (payload true (record { messages = 0; pairs = room }) (drop start frame))
+
+pub record ReadList (frame : List ℕ) (start : ℕ) (r : PayloadRead) (old new : List ℕ) : Type 0 where
+  pub says : payloadSaid r ≡ payloadTells (listFrom frame start (length old / pairWidth))
+  pub fills : new ≡ leaves (next (listFrom frame start (length old / pairWidth)) (λ c used. written (joined pairNumbers (c .pairs)))) old
+
+-- `read_start` reads a frame up to its payload: it is an entry of which the payload holds only where it starts.
+abbrev pub starts : Bool → Entry ℕ
+starts agents = record { agents = agents; payloadOf = λ kind s. done 0 (length s); moved = λ n at. n + at }
+
+abbrev pub startSaid : StartRead → Reading (Metadata × ℕ)
+startSaid (s.Done m start end) = answered (done (m, start) end)
+startSaid (s.Wait missing) = wait missing
+startSaid (s.Refused r) = answered (refused (r .number) (r .place))
+
+abbrev pub ReadStart : List ℕ → ℕ → Bool → StartRead → Type 0
+ReadStart input limit agents r = startSaid r ≡ front (starts agents) limit input
 
 -- `look_frame` says what the frame reader says with tables of such rooms.
 abbrev pub LookFrame : List ℕ → ℕ → Rooms → FrameRead → Type 0

@@ -11,6 +11,7 @@ use crate::look::pair_next;
 use crate::pair::moved_pair;
 use crate::pair::read_pair;
 use crate::small::read_once;
+use answer::Refusal;
 use frame::MESSAGE_WIDTH;
 use frame::Message;
 use frame::PAIR_WIDTH;
@@ -23,7 +24,7 @@ ghost use lib.ListN.{length};
 ghost use Rattle.answer.specs.Answer.{written, leaves, behind};
 ghost use Rattle.frame.specs.Records.{messageWidth, messageNumbers, pairWidth, pairNumbers};
 ghost use Rattle.parser.specs.Payload.{payload as payloadOf, movedContents};
-ghost use Rattle.parser.specs.Promise.{roomsOf, Fills, payloadSaid, payloadTells, ReadPayload};
+ghost use Rattle.parser.specs.Promise.{roomsOf, Fills, payloadSaid, payloadTells, ReadPayload, ReadList};
 ghost use Rattle.parser.specs.Inner.{PairThere, MessageThere, FillsPair, FillsMessage, Accepted};
 
 // Writes the numbers of a pair.
@@ -207,4 +208,38 @@ pub fn read_payload(
     ensures { λ r. ⌜ ReadPayload kv (now (payload .entry)) r (now (messages .entry)) (now (messages .exit)) (now (pairs .entry)) (now (pairs .exit)) ⌝ }
 {
     into_tables(payload, 0, kv, messages, pairs)
+}
+
+// Reads the KV list that stands in `frame` from `start` on.
+pub fn read_list(frame: &[u8], start: usize, pairs: &mut [u64]) -> PayloadRead
+    ensures { λ r. ⌜ ReadList (now (frame .entry)) start r (now (pairs .entry)) (now (pairs .exit)) ⌝ }
+{
+    if frame.len() < start {
+        return PayloadRead::Done {
+            messages: 0,
+            pairs: 0,
+            used: start,
+        };
+    }
+    // A KV list has no messages: this table has no room for one.
+    let mut none = [0; 1];
+    match into_tables(&frame[start..], start, true, &mut none, pairs) {
+        PayloadRead::Refused(r) => {
+            return PayloadRead::Refused(Refusal {
+                number: r.number,
+                place: start + r.place,
+            });
+        },
+        PayloadRead::Done {
+            messages: message_count,
+            pairs: pair_count,
+            used,
+        } => {
+            return PayloadRead::Done {
+                messages: message_count,
+                pairs: pair_count,
+                used: start + used,
+            };
+        },
+    }
 }

@@ -4,6 +4,7 @@ use crate::Metadata;
 use crate::MetadataRead;
 use crate::PayloadRead;
 use crate::Rooms;
+use crate::StartRead;
 use crate::fill::into_tables;
 use crate::look::look_either;
 use answer::ABORTED;
@@ -14,16 +15,16 @@ use answer::TOO_SOON;
 use answer::UNKNOWN;
 use varint::Number;
 ghost use mathlib.Core.Path.{_≡_};
-ghost use mathlib.Core.Bool.{true};
+ghost use mathlib.Core.Bool.{true, false};
 ghost use Prim.Native.Nat.{_≤_, _<_};
 ghost use lib.Dec.{eqb};
 ghost use lib.ListN.{length, getD};
 ghost use Rattle.answer.specs.Answer.{done};
 ghost use Rattle.answer.specs.Table.{some};
 ghost use Rattle.frame.specs.Head.{fourNumber};
-ghost use Rattle.parser.specs.Frame.{frameTypes, ids, lastId, metadata as metadataOf, wholeFrame, answered};
-ghost use Rattle.parser.specs.Promise.{frameSaid, frameTells, ReadFrame, LookFrame};
-ghost use Rattle.parser.specs.Inner.{metadataSaid, ReadsWhole};
+ghost use Rattle.parser.specs.Frame.{frameTypes, sentBy, ids, lastId, metadata as metadataOf, answered};
+ghost use Rattle.parser.specs.Promise.{frameSaid, frameTells, ReadFrame, LookFrame, ReadStart};
+ghost use Rattle.parser.specs.Inner.{wholeFrame, metadataSaid, ReadsWhole};
 
 // The flags that are known: FIN has to be set, and ABORT may be.
 const FIN: u64 = 1;
@@ -66,6 +67,16 @@ fn type_known(kind: u64) -> bool
     false
 }
 
+// Whether this side sends frames of this type.
+fn sent_by(agents: bool, kind: u64) -> bool
+    ensures { λ r. ⌜ r ≡ sentBy agents kind ⌝ }
+{
+    if agents {
+        return frame::AGENT_HELLO <= kind;
+    }
+    kind < frame::AGENT_HELLO
+}
+
 fn refused_at(number: u64, place: usize) -> MetadataRead
     ensures { λ r. ⌜ r ≡ MetadataRead.Refused (record { number = number; place = place }) ⌝ }
 {
@@ -73,59 +84,59 @@ fn refused_at(number: u64, place: usize) -> MetadataRead
 }
 
 // Reads the frame's number at `at`, the last of the metadata.
-fn read_last(f: &[u8], kind: u64, flags: u64, stream: u64, at: usize) -> MetadataRead
+fn read_last(f: &[u8], agents: bool, kind: u64, flags: u64, stream: u64, at: usize) -> MetadataRead
     requires { ⌜ at ≤ length (now f) ⌝ }
-    ensures { λ r. ⌜ metadataSaid r ≡ lastId kind flags stream at (now (f .entry)) ⌝ }
+    ensures { λ r. ⌜ metadataSaid r ≡ lastId agents kind flags stream at (now (f .entry)) ⌝ }
 {
     match varint::decode_varint(&f[at..]) {
         Number::Refused(r) => {
             return refused_at(r.number, at + r.place);
         },
         Number::Done { value, used } => {
-            if frame::AGENT_HELLO <= kind {
-                return refused_at(AGENTS, 4);
+            if sent_by(agents, kind) {
+                return MetadataRead::Done {
+                    metadata: Metadata {
+                        kind,
+                        flags,
+                        stream,
+                        frame: value,
+                    },
+                    start: at + used,
+                };
             }
-            return MetadataRead::Done {
-                metadata: Metadata {
-                    kind,
-                    flags,
-                    stream,
-                    frame: value,
-                },
-                start: at + used,
-            };
+            return refused_at(AGENTS, 4);
         },
     }
 }
 
 // Reads the two numbers behind the flags.
-fn read_ids(f: &[u8], kind: u64, flags: u64) -> MetadataRead
+fn read_ids(f: &[u8], agents: bool, kind: u64, flags: u64) -> MetadataRead
     requires { ⌜ 9 ≤ length (now f) ⌝ }
-    ensures { λ r. ⌜ metadataSaid r ≡ ids kind flags (now (f .entry)) ⌝ }
+    ensures { λ r. ⌜ metadataSaid r ≡ ids agents kind flags (now (f .entry)) ⌝ }
 {
     match varint::decode_varint(&f[9..]) {
         Number::Refused(r) => {
             return refused_at(r.number, 9 + r.place);
         },
         Number::Done { value, used } => {
-            return read_last(f, kind, flags, value, 9 + used);
+            return read_last(f, agents, kind, flags, value, 9 + used);
         },
     }
 }
 
 // Reads the flags behind a type that is known, and what follows them.
-fn read_flags(f: &[u8], kind: u64) -> MetadataRead
+fn read_flags(f: &[u8], agents: bool, kind: u64) -> MetadataRead
     requires { ⌜ 4 < length (now f) ⌝ }
     requires { ⌜ kind ≡ getD (now f) 4 0 ⌝ }
     requires { ⌜ some (eqb kind) frameTypes ≡ true ⌝ }
-    ensures { λ r. ⌜ metadataSaid r ≡ metadataOf (now (f .entry)) ⌝ }
+    ensures { λ r. ⌜ metadataSaid r ≡ metadataOf agents (now (f .entry)) ⌝ }
 {
     if f.len() < 9 {
         return refused_at(TOO_SOON, 5);
     }
     let flags = four(&f[5..]) as u64;
     if flags == FIN {
-        return read_ids(f, kind, flags);
+        return read_ids(f, agents, kind, flags);
     }
     if flags == FIN_ABORT {
         return refused_at(ABORTED, 4);
@@ -133,16 +144,16 @@ fn read_flags(f: &[u8], kind: u64) -> MetadataRead
     refused_at(UNKNOWN, 4)
 }
 
-// Reads what stands before the payload.
-fn read_metadata(f: &[u8]) -> MetadataRead
-    ensures { λ r. ⌜ metadataSaid r ≡ metadataOf (now (f .entry)) ⌝ }
+// Reads what stands before the payload, of a frame that this side sends.
+fn read_metadata(f: &[u8], agents: bool) -> MetadataRead
+    ensures { λ r. ⌜ metadataSaid r ≡ metadataOf agents (now (f .entry)) ⌝ }
 {
     if f.len() <= 4 {
         return refused_at(TOO_SOON, 4);
     }
     let kind = f[4] as u64;
     if type_known(kind) {
-        return read_flags(f, kind);
+        return read_flags(f, agents, kind);
     }
     refused_at(UNKNOWN, 4)
 }
@@ -151,7 +162,7 @@ fn read_metadata(f: &[u8]) -> MetadataRead
 fn read_whole(f: &[u8], messages: &mut [u64], pairs: &mut [u64]) -> FrameRead
     ensures { λ r. ⌜ ReadsWhole (now (f .entry)) r (now (messages .entry)) (now (messages .exit)) (now (pairs .entry)) (now (pairs .exit)) ⌝ }
 {
-    match read_metadata(f) {
+    match read_metadata(f, false) {
         MetadataRead::Refused(r) => {
             return FrameRead::Refused(r);
         },
@@ -169,7 +180,7 @@ fn read_rest(
     messages: &mut [u64],
     pairs: &mut [u64],
 ) -> FrameRead
-    requires { ⌜ metadataOf (now f) ≡ done metadata start ⌝ }
+    requires { ⌜ metadataOf false (now f) ≡ done metadata start ⌝ }
     requires { ⌜ start ≤ length (now f) ⌝ }
     ensures { λ r. ⌜ ReadsWhole (now (f .entry)) r (now (messages .entry)) (now (messages .exit)) (now (pairs .entry)) (now (pairs .exit)) ⌝ }
 {
@@ -222,7 +233,7 @@ pub fn read_frame(input: &[u8], limit: u32, messages: &mut [u64], pairs: &mut [u
 fn look_whole(f: &[u8], rooms: Rooms) -> FrameRead
     ensures { λ r. ⌜ frameSaid r ≡ frameTells (answered (wholeFrame rooms (now (f .entry)))) ⌝ }
 {
-    match read_metadata(f) {
+    match read_metadata(f, false) {
         MetadataRead::Refused(r) => {
             return FrameRead::Refused(r);
         },
@@ -234,7 +245,7 @@ fn look_whole(f: &[u8], rooms: Rooms) -> FrameRead
 
 // The same behind metadata that end at `start`.
 fn look_rest(f: &[u8], metadata: Metadata, start: usize, rooms: Rooms) -> FrameRead
-    requires { ⌜ metadataOf (now f) ≡ done metadata start ⌝ }
+    requires { ⌜ metadataOf false (now f) ≡ done metadata start ⌝ }
     requires { ⌜ start ≤ length (now f) ⌝ }
     ensures { λ r. ⌜ frameSaid r ≡ frameTells (answered (wholeFrame rooms (now (f .entry)))) ⌝ }
 {
@@ -281,4 +292,37 @@ pub fn look_frame(input: &[u8], limit: u32, rooms: Rooms) -> FrameRead
         return FrameRead::Wait(end - have);
     }
     look_whole(&input[..end], rooms)
+}
+
+// Reads the frame at the front of `input` up to its payload: for an entry that reads the payload itself.
+pub fn read_start(input: &[u8], limit: u32, agents: bool) -> StartRead
+    ensures { λ r. ⌜ ReadStart (now (input .entry)) limit agents r ⌝ }
+{
+    let have = input.len();
+    if have < 4 {
+        return StartRead::Wait(4 - have);
+    }
+    let len = four(input);
+    if limit < len {
+        return StartRead::Refused(Refusal {
+            number: OVERSIZE,
+            place: 4,
+        });
+    }
+    let end = 4 + len as usize;
+    if have < end {
+        return StartRead::Wait(end - have);
+    }
+    match read_metadata(&input[..end], agents) {
+        MetadataRead::Refused(r) => {
+            return StartRead::Refused(r);
+        },
+        MetadataRead::Done { metadata, start } => {
+            return StartRead::Done {
+                metadata,
+                start,
+                end,
+            };
+        },
+    }
 }

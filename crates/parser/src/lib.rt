@@ -13,10 +13,12 @@ mod small;
 
 use answer::Refusal;
 pub use by_value::read_few;
+pub use fill::read_list;
 pub use fill::read_payload;
 use frame::Pair;
 pub use head::look_frame;
 pub use head::read_frame;
+pub use head::read_start;
 pub use pair::read_pair;
 
 // What the pair reader answers.
@@ -56,6 +58,17 @@ pub enum FrameRead {
         messages: usize,
         pairs: usize,
         used: usize,
+    },
+    Wait(usize),
+    Refused(Refusal),
+}
+
+// What the reader of a frame up to its payload answers: where the payload starts, and where it ends.
+pub enum StartRead {
+    Done {
+        metadata: Metadata,
+        start: usize,
+        end: usize,
     },
     Wait(usize),
     Refused(Refusal),

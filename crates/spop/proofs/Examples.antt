@@ -39,8 +39,8 @@ pairs-written = refl
 
 pub kv-example : ReadBack (headOf 2 true false 0 0) 22 text [] (records (pairAt two) 0 2) 19 (record { messages = 0; pairs = 2 }) (pairs-frame ++ (0 ∷ 0 ∷ []))
 kv-example =
-    kv-read-back (headOf 2 true false 0 0) 18 text pairs-frame 22 (omega arith) (omega arith) (omega arith) 19 (omega arith) _ (0 ∷ 0 ∷ []) two 2 pairs-written (omega arith) refl
-    (omega arith)
+    kv-read-back (headOf 2 true false 0 0) 18 text pairs-frame 22 (omega arith) (omega arith) (omega arith) 19 (omega arith) _ (0 ∷ 0 ∷ []) two 2 pairs-written (omega arith)
+    (omega arith) refl
 
 -- NOTIFY of m, with a and b, which has all flags, and of n, with a
 abbrev pub names : List ℕ

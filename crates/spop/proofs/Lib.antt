@@ -3,4 +3,5 @@ pub mod Telling
 pub mod Unique
 pub mod Walked
 pub mod ReadBack
+pub mod AgentBack
 pub mod Examples

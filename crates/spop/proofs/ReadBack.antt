@@ -8,7 +8,7 @@ use native.Mathlib.Omega.{arith}
 use lib.Dec.{eqb}
 use lib.ListN.{length, drop, getD, length-drop, List·getD-map}
 use lib.Seq.{drop-drop, drop-append-le}
-use borrow.Author.Tests.{eq-eqb, ne-eqb, eqb-true, eqb-false}
+use borrow.Author.Tests.{lt-ltb, eq-eqb, ne-eqb, eqb-true, eqb-false}
 use Rattle.answer.specs.Answer.{Answer, done, behind}
 use Rattle.answer.specs.Table.{records, some}
 use Rattle.answer.specs.Inner as inner
@@ -23,9 +23,9 @@ use Rattle.frame.proofs.Meaning.{pairMeaning, messageMeaning}
 use Rattle.parser.specs.declared.Rooms.{Rooms}
 use Rattle.parser.specs.Pair.{movedPair}
 use Rattle.parser.specs.Payload.{Contents, payload, movedMessage, movedContents}
-use Rattle.parser.specs.Frame.{answered, frameRead}
+use Rattle.parser.specs.Frame.{Entry, haproxys, answered, frameRead}
 use Rattle.parser.proofs.Frames.{inFrame, length-map}
-use Rattle.parser.proofs.Back.{metadataOf, Readable, FrameBack, frame-back}
+use Rattle.parser.proofs.Back.{metadataOf, Readable, FrameBack, known-low, frame-back}
 use Rattle.writer.specs.Pair.{pairRefusal, kvRefusal}
 use Rattle.writer.specs.Message.{runStart, messageRefusal}
 use Rattle.writer.specs.Frame.{finAlone, kvAllowed, pairsBytes, kvAnswer, messagesBytes, notifyAnswer}
@@ -42,34 +42,35 @@ pub record ReadBack (h : Head) (n : ℕ) (buffer : List ℕ) (messages : List Me
   pub messages-same : map (messageMeaning input) (contents .messages) ≡ map (messageMeaning buffer) messages
   pub pairs-same : map (pairMeaning input) (contents .pairs) ≡ map (pairMeaning buffer) pairs
 
-map-twice : {A B C : Type 0} (f : B → C) (g : A → B) (xs : List A) → map f (map g xs) ≡ map (λ x. f (g x)) xs
+pub map-twice : {A B C : Type 0} (f : B → C) (g : A → B) (xs : List A) → map f (map g xs) ≡ map (λ x. f (g x)) xs
 map-twice f g [] = refl
 map-twice f g (x ∷ xs) = ap (λ (l : List _). f (g x) ∷ l) (map-twice f g xs)
 
--- A frame that was written, whose payload reads back, does.
-module _ (buffer messages pairs : List ℕ) (h : Head) (limit : ℕ) (p bytes : List ℕ) (n : ℕ) (w : Wrote h limit p bytes n) (small : limit < 2 ^ 32)
-    (ok : Readable h) (higher : ℕ) (up : limit ≤ higher) (rooms : Rooms) (t : List ℕ) where
+-- A frame that was written, and is read by an entry x: where its payload stands.
+module _ {A : Type 0} (x : Entry A) (h : Head) (limit : ℕ) (p bytes : List ℕ) (n : ℕ) (w : Wrote h limit p bytes n) (small : limit < 2 ^ 32)
+    (ok : Readable (x .agents) h) (higher : ℕ) (up : limit ≤ higher) (t : List ℕ) where
   framed : Framed h limit p bytes
   framed = w .parts small
 
-  back : FrameBack h p bytes higher rooms t
-  back = frame-back h limit p bytes framed ok higher up rooms t
+  pub back : FrameBack x h p bytes higher t
+  back = frame-back x h limit p bytes framed ok higher up t
 
-  stands : (i : ℕ) → i ≤ length p → drop (back .start + i) (bytes ++ t) ≡ drop i p ++ t
+  pub stands : (i : ℕ) → i ≤ length p → drop (back .start + i) (bytes ++ t) ≡ drop i p ++ t
   stands i l =
       drop-append-le (back .start + i) bytes t (omega (arith, back .long))
-      ∙ ap (λ (x : List ℕ). x ++ t) (sym (drop-drop i (back .start) bytes) ∙ ap (drop i) (back .there))
+      ∙ ap (λ (y : List ℕ). y ++ t) (sym (drop-drop i (back .start) bytes) ∙ ap (drop i) (back .there))
 
-  short : length p < 2 ^ 64
+  pub short : length p < 2 ^ 64
   short = omega (arith, back .long, framed .fits, length-drop 4 bytes)
 
-  abbrev walked : walk.Payload
-  walked =
+  -- a KV list, or messages, with rooms
+  abbrev pub walked : Bool → Rooms → List ℕ → List ℕ → List ℕ → walk.Payload
+  walked kv rooms buffer messages pairs =
       record {
         buffer = buffer;
         messages = messages;
         pairs = pairs;
-        kv = not (eqb (h .kind) 3);
+        kv = kv;
         rooms = rooms;
         s = p;
         short = short;
@@ -79,16 +80,24 @@ module _ (buffer messages pairs : List ℕ) (h : Head) (limit : ℕ) (p bytes : 
         stands = stands;
       }
 
-  read-back : (i j : ℕ) → walk.Reads walked i j 0 [] → ReadBack h n buffer (records (messageAt messages) 0 j) (records (pairAt pairs) 0 i) higher rooms (bytes ++ t)
+-- What it holds reads back, and so does the frame.
+module _ (buffer messages pairs : List ℕ) (h : Head) (limit : ℕ) (p bytes : List ℕ) (n : ℕ) (w : Wrote h limit p bytes n) (small : limit < 2 ^ 32)
+    (ok : Readable false h) (higher : ℕ) (up : limit ≤ higher) (rooms : Rooms) (t : List ℕ) where
+  abbrev placed-so : walk.Payload
+  placed-so = walked (haproxys rooms) h limit p bytes n w small ok higher up t (not (eqb (h .kind) 3)) rooms buffer messages pairs
+
+  read-back : (i j : ℕ) → walk.Reads placed-so i j 0 [] → ReadBack h n buffer (records (messageAt messages) 0 j) (records (pairAt pairs) 0 i) higher rooms (bytes ++ t)
+  unfolding frameRead
   read-back i j r =
+      let b = back (haproxys rooms) h limit p bytes n w small ok higher up t in
       record {
-        contents = movedContents (back .start) (r .contents);
+        contents = movedContents (b .start) (r .contents);
         accepted =
-            back .reads
-            ∙ ap (λ (x : Answer Contents). answered (inFrame (metadataOf h) (back .start) x)) (walk.reads-end walked i j r)
-            ∙ ap (λ (m : ℕ). answered (done (metadataOf h, movedContents (back .start) (r .contents)) m)) (back .long ∙ sym (w .count));
-        messages-same = map-twice (messageMeaning (bytes ++ t)) (movedMessage (back .start)) (r .contents .messages) ∙ r .names;
-        pairs-same = map-twice (pairMeaning (bytes ++ t)) (movedPair (back .start)) (r .contents .pairs) ∙ r .arguments;
+            b .reads
+            ∙ ap (λ (x : Answer Contents). answered (inFrame (metadataOf h) (b .start) x)) (walk.reads-end placed-so i j r)
+            ∙ ap (λ (m : ℕ). answered (done (metadataOf h, movedContents (b .start) (r .contents)) m)) (b .long ∙ sym (w .count));
+        messages-same = map-twice (messageMeaning (bytes ++ t)) (movedMessage (b .start)) (r .contents .messages) ∙ r .names;
+        pairs-same = map-twice (pairMeaning (bytes ++ t)) (movedPair (b .start)) (r .contents .pairs) ∙ r .arguments;
       }
 
 -- ---- by index
@@ -125,7 +134,7 @@ record-same f g at d n xs e i h =
 -- ---- KV frames
 
 -- what finAlone says
-fin-alone : (h : Head) → finAlone h ≡ true → (h .fin ≡ true) × (h .abort ≡ false)
+pub fin-alone : (h : Head) → finAlone h ≡ true → (h .fin ≡ true) × (h .abort ≡ false)
 fin-alone h e = let b = both-true (h .fin) (not (h .abort)) e in (b .0, turned (h .abort) (b .1))
   where
     turned : (x : Bool) → not x ≡ true → x ≡ false
@@ -143,29 +152,22 @@ kv-kinds h e l =
 -- no lower, and with any bytes t behind it.
 module _ (h : Head) (limit : ℕ) (buffer bytes : List ℕ) (n : ℕ) (stream : h .stream < 2 ^ 64) (frame : h .frame < 2 ^ 64) (small : limit < 2 ^ 32)
     (higher : ℕ) (up : limit ≤ higher) (rooms : Rooms) (t : List ℕ) where
-  readable : finAlone h ≡ true → 1 ≤ h .kind → h .kind ≤ 3 → Readable h
+  readable : finAlone h ≡ true → 1 ≤ h .kind → h .kind ≤ 3 → Readable false h
   readable fin least most =
       record {
-        least = least;
-        most = most;
+        known = known-low (h .kind) least most;
+        sent = lt-ltb (h .kind) 101 (omega arith);
         fin = fin-alone h fin .0;
         abort = fin-alone h fin .1;
         stream = stream;
         frame = frame;
       }
 
-  module _ (pairs : List ℕ) (count : ℕ) (is : kvAnswer h limit buffer pairs count ≡ done bytes n) (below : h .kind < 101) (fin : finAlone h ≡ true)
-      (room : count ≤ rooms .pairs) where
-    abbrev list : List ℕ
+  module _ (pairs : List ℕ) (count : ℕ) (is : kvAnswer h limit buffer pairs count ≡ done bytes n) (room : count ≤ rooms .pairs) where
+    abbrev pub list : List ℕ
     list = pairsBytes buffer pairs count
 
-    kinds : (1 ≤ h .kind) × (h .kind ≤ 2)
-    kinds = kv-kinds h (kv-accepted h limit buffer pairs count bytes n is .0) below
-
-    ok : Readable h
-    ok = readable fin (kinds .0) (omega (arith, kinds .1))
-
-    wrote : Wrote h limit list bytes n
+    pub wrote : Wrote h limit list bytes n
     wrote = kv-wrote h limit buffer pairs count bytes n is
 
     passed : inner.Sound (kvRefusal buffer pairs) count
@@ -177,26 +179,32 @@ module _ (h : Head) (limit : ℕ) (buffer bytes : List ℕ) (n : ℕ) (stream : 
         (λ e. let nine = kv-met buffer pairs i (kv-passed buffer pairs i (passed .each i l)) e in absurd (omega (arith, passed .each i l)))
         (λ e. e)
 
-    abbrev placed : walk.Payload
-    placed = walked buffer [] pairs h limit list bytes n wrote small ok higher up rooms t
+    -- as a KV list, by any entry that reads the frame
+    module _ {A : Type 0} (x : Entry A) (ok : Readable (x .agents) h) (kv : Bool) (is-kv : kv ≡ true) where
+      abbrev pub placed : walk.Payload
+      placed = walked x h limit list bytes n wrote small ok higher up t kv rooms buffer [] pairs
 
-    sound : (i : ℕ) → i < count → walk.Sound placed i
-    sound i l =
-        let f = formed-at buffer pairs i (kv-passed buffer pairs i (passed .each i l)) in
-        record { fields = f .fields; range = f .range; fresh = λ k. fresh i l }
+      sound : (i : ℕ) → i < count → walk.Sound placed i
+      sound i l =
+          let f = formed-at buffer pairs i (kv-passed buffer pairs i (passed .each i l)) in
+          record { fields = f .fields; range = f .range; fresh = λ k. fresh i l }
 
-    all-read : walk.Reads placed count 0 0 []
-    all-read =
-        let here : 0 + count ≡ count = omega arith in
-        let none : 0 - count ≡ 0 = omega arith in
-        walk.reads-as placed here refl none refl
-        (walk.reads-run placed count sound room count 0 0 0 [] (omega arith) (λ k. true-false (rw (ne-eqb (h .kind) 3 (λ z. omega (arith, kinds .1))) refl) k)
-        (walk.reads-as placed refl refl refl (sym (append-nil list)) (walk.reads-none placed)))
+      pub all-read : walk.Reads placed count 0 0 []
+      all-read =
+          let here : 0 + count ≡ count = omega arith in
+          let none : 0 - count ≡ 0 = omega arith in
+          walk.reads-as placed here refl none refl
+          (walk.reads-run placed count sound room count 0 0 0 [] (omega arith) (λ k. true-false is-kv k)
+          (walk.reads-as placed refl refl refl (sym (append-nil list)) (walk.reads-none placed)))
 
     -- Law: each KV frame of type 1 or 2 with FIN alone that `write_kv` writes reads back, with room for its pairs.
-    pub kv-read-back : ReadBack h n buffer [] (records (pairAt pairs) 0 count) higher rooms (bytes ++ t)
-    kv-read-back =
-        rw (sym (records-none (messageAt []) 0)) (read-back buffer [] pairs h limit list bytes n wrote small ok higher up rooms t count 0 all-read)
+    pub kv-read-back : h .kind < 101 → finAlone h ≡ true → ReadBack h n buffer [] (records (pairAt pairs) 0 count) higher rooms (bytes ++ t)
+    kv-read-back below fin =
+        let kinds = kv-kinds h (kv-accepted h limit buffer pairs count bytes n is .0) below in
+        let ok = readable fin (kinds .0) (omega (arith, kinds .1)) in
+        rw (sym (records-none (messageAt []) 0))
+        (read-back buffer [] pairs h limit list bytes n wrote small ok higher up rooms t count 0
+        (all-read (haproxys rooms) ok (not (eqb (h .kind) 3)) (rw (ne-eqb (h .kind) 3 (λ z. omega (arith, kinds .1))))))
 
   -- ---- NOTIFY frames
 
@@ -208,14 +216,14 @@ module _ (h : Head) (limit : ℕ) (buffer bytes : List ℕ) (n : ℕ) (stream : 
     accepted-so : (finAlone h ≡ true) × (not (eqb count 0) || eqb total 0 ≡ true)
     accepted-so = let o = notify-accepted h limit buffer messages count pairs total bytes n is in (o .0, o .3)
 
-    notify-ok : Readable h
+    notify-ok : Readable false h
     notify-ok = readable (accepted-so .0) (omega (arith, notify)) (omega (arith, notify))
 
     notified : Wrote h limit list-of-messages bytes n
     notified = notify-wrote h limit buffer messages count pairs total bytes n is
 
     abbrev lies : walk.Payload
-    lies = walked buffer messages pairs h limit list-of-messages bytes n notified small notify-ok higher up rooms t
+    lies = placed-so buffer messages pairs h limit list-of-messages bytes n notified small notify-ok higher up rooms t
 
     messages-passed : inner.Sound (messageRefusal buffer total messages count) count
     messages-passed = notify-passed-records h limit buffer messages count pairs total bytes n is .0

@@ -11,7 +11,7 @@ use Rattle.plain.proofs.Laws.{both-fit}
 use Rattle.plain.proofs.Unique.{texts-unique}
 use Rattle.spop.specs.Told.{numberOf, atOf, valueOf, Told}
 use Rattle.frame.specs.declared.Pair.{Pair}
-use Rattle.spop.specs.Promise.{SpopVarintLen, SpopEncodeVarint, SpopDecodeVarint, SpopIsUtf8, SpopSameText, SpopSameTextPlain, SpopLossyText, SpopTypedData, SpopValueLen, SpopCheckValue, SpopWriteValue, SpopReadPair, SpopReadFrame, SpopReadFrameRecords, SpopWriteKv, SpopWriteActions, SpopWriteNotify, SpopNegotiateMaxFrameSize, SpopNegotiateVersion}
+use Rattle.spop.specs.Promise.{SpopVarintLen, SpopEncodeVarint, SpopDecodeVarint, SpopIsUtf8, SpopSameText, SpopSameTextPlain, SpopLossyText, SpopTypedData, SpopValueLen, SpopCheckValue, SpopWriteValue, SpopReadPair, SpopReadFrame, SpopReadFrameRecords, SpopReadAgentFrame, SpopWriteKv, SpopWriteActions, SpopWriteNotify, SpopNegotiateMaxFrameSize, SpopNegotiateVersion}
 
 told-unique : {A : Type 0} {a : Answer A} {r q at also : ℕ} → Told a r at → Told a q also → (r ≡ q) × (at ≡ also)
 told-unique p q = (one-only (p .says) (q .says), one-only (p .where-at) (q .where-at))
@@ -93,6 +93,16 @@ module _ (r q at also : ℕ) where
       let x = p .fills in
       let y = s .fills in
       (t .0, t .1, one-only (p .numbers) (s .numbers), one-only (x .messages) (y .messages), one-only (x .pairs) (y .pairs))
+
+  pub spop-read-agent-frame-unique : (input : List ℕ) (limit : ℕ) (before head other oldPairs newPairs otherPairs oldActions newActions otherActions : List ℕ)
+      → SpopReadAgentFrame input limit r at before head oldPairs newPairs oldActions newActions
+      → SpopReadAgentFrame input limit q also before other oldPairs otherPairs oldActions otherActions
+      → (r ≡ q) × (at ≡ also) × (head ≡ other) × (newPairs ≡ otherPairs) × (newActions ≡ otherActions)
+  spop-read-agent-frame-unique input limit before head other oldPairs newPairs otherPairs oldActions newActions otherActions p s =
+      let t = told-unique (p .told) (s .told) in
+      let x = p .fills in
+      let y = s .fills in
+      (t .0, t .1, one-only (p .numbers) (s .numbers), one-only (x .pairs) (y .pairs), one-only (x .actions) (y .actions))
 
 -- the writers
 module _ (r q at also : ℕ) (old new other : List ℕ) where

@@ -16,11 +16,13 @@ use Rattle.frame.specs.declared.Pair.{Pair}
 use Rattle.parser.specs.Pair.{pair}
 use Rattle.parser.specs.Frame.{answerOf, frameRead}
 use Rattle.parser.specs.Promise.{roomsOf, contentsRead, Fills}
+use Rattle.agent.specs.Promise.{sentRead, readInto}
+use Rattle.agent.specs.Promise as sent
 use Rattle.records.specs.Promise.{roomsFor, FillsRecords}
 use Rattle.writer.specs.Frame.{headOf, kvAnswer, actionsAnswer, notifyAnswer}
 use Rattle.hello.specs.Hello.{frameSize, announced, choice}
 use Rattle.spop.specs.Told.{Told, valueOf, chosenOf, Left}
-use Rattle.spop.specs.Values.{recordIn, numbersOf, pairNumbersOf, headNumbersOf}
+use Rattle.spop.specs.Values.{recordIn, numbersOf, pairNumbersOf, headNumbersOf, agentNumbersOf}
 
 abbrev pub SpopVarintLen : ℕ → ℕ → Type 0
 SpopVarintLen n r = r ≡ length (numberBytes n)
@@ -69,6 +71,11 @@ pub record SpopReadFrameRecords (input : List ℕ) (limit r at : ℕ) (before he
   pub told : Told (answerOf (frameRead limit (roomsFor oldMessages oldPairs) input)) r at
   pub numbers : head ≡ headNumbersOf (answerOf (frameRead limit (roomsFor oldMessages oldPairs) input)) before
   pub fills : FillsRecords (contentsRead (frameRead limit (roomsFor oldMessages oldPairs) input)) oldMessages newMessages oldPairs newPairs
+
+pub record SpopReadAgentFrame (input : List ℕ) (limit r at : ℕ) (before head oldPairs newPairs oldActions newActions : List ℕ) : Type 0 where
+  pub told : Told (answerOf (readInto oldPairs oldActions limit input)) r at
+  pub numbers : head ≡ agentNumbersOf (answerOf (readInto oldPairs oldActions limit input)) before
+  pub fills : sent.Fills (sentRead (readInto oldPairs oldActions limit input)) oldPairs newPairs oldActions newActions
 
 module _ (fin abort : Bool) (stream frame limit : ℕ) (buffer : List ℕ) where
   abbrev pub SpopWriteKv : ℕ → List ℕ → ℕ → ℕ → ℕ → List ℕ → List ℕ → Type 0

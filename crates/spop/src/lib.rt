@@ -3,6 +3,7 @@
 //
 // A call answers a refusal's number, 0 for done, and `at` takes what goes with it: the bytes used or written, after a wait those that are
 // missing, or the place. Whatever else is lent changes only after 0.
+use agent::AgentRead;
 use answer::Refusal;
 use answer::WAIT;
 use answer::Written;
@@ -24,9 +25,11 @@ ghost use Rattle.parser.specs.declared.Metadata.{Metadata as MetadataRecord};
 ghost use Rattle.parser.specs.Payload.{Contents};
 ghost use Rattle.parser.specs.Frame.{Reading, answerOf};
 ghost use Rattle.parser.specs.Promise.{frameSaid, frameTells};
+ghost use Rattle.agent.specs.Frame.{Sent};
+ghost use Rattle.agent.specs.Promise.{agentSaid, agentTells};
 ghost use Rattle.spop.specs.Told.{Told};
-ghost use Rattle.spop.specs.Values.{recordIn, headNumbersOf};
-ghost use Rattle.spop.specs.Promise.{SpopVarintLen, SpopEncodeVarint, SpopDecodeVarint, SpopIsUtf8, SpopSameText, SpopSameTextPlain, SpopLossyText, SpopTypedData, SpopValueLen, SpopCheckValue, SpopWriteValue, SpopReadPair, SpopReadFrame, SpopReadFrameRecords, SpopWriteKv, SpopWriteActions, SpopWriteNotify, SpopNegotiateMaxFrameSize, SpopNegotiateVersion};
+ghost use Rattle.spop.specs.Values.{recordIn, headNumbersOf, agentNumbersOf};
+ghost use Rattle.spop.specs.Promise.{SpopVarintLen, SpopEncodeVarint, SpopDecodeVarint, SpopIsUtf8, SpopSameText, SpopSameTextPlain, SpopLossyText, SpopTypedData, SpopValueLen, SpopCheckValue, SpopWriteValue, SpopReadPair, SpopReadFrame, SpopReadFrameRecords, SpopReadAgentFrame, SpopWriteKv, SpopWriteActions, SpopWriteNotify, SpopNegotiateMaxFrameSize, SpopNegotiateVersion};
 
 const DONE: u64 = 0;
 
@@ -207,6 +210,22 @@ pub extern "C" fn spop_read_frame_records(
     tell_frame(answer, head, at)
 }
 
+// The same for what agents send.
+#[no_mangle]
+pub extern "C" fn spop_read_agent_frame(
+    input: &[u8],
+    limit: u32,
+    pairs: &mut [u64],
+    actions: &mut [u64],
+    head: &mut [u64; 6],
+    at: &mut u64,
+) -> u64
+    ensures { λ r. ⌜ SpopReadAgentFrame (now (input .entry)) limit r (now (at .exit)) (now (head .entry)) (now (head .exit)) (now (pairs .entry)) (now (pairs .exit)) (now (actions .entry)) (now (actions .exit)) ⌝ }
+{
+    let answer = agent::read_agent_frame(input, limit, pairs, actions);
+    tell_agent(answer, head, at)
+}
+
 #[no_mangle]
 pub extern "C" fn spop_write_kv(
     kind: u64,
@@ -366,6 +385,36 @@ fn tell_frame(answer: FrameRead, head: &mut [u64; 6], at: &mut u64) -> u64
             WAIT
         },
         FrameRead::Refused(r) => refuse(r, at),
+    }
+}
+
+// What the reader of agents' frames answers.
+fn tell_agent(answer: AgentRead, head: &mut [u64; 6], at: &mut u64) -> u64
+    ensures { λ r. ⌜ ((x : Reading (MetadataRecord × Sent)) → agentSaid answer ≡ agentTells x → Told (answerOf x) r (now (at .exit)) × (now (head .exit) ≡ agentNumbersOf (answerOf x) (now (head .entry)))) ⌝ }
+{
+    match answer {
+        AgentRead::Done {
+            metadata: m,
+            pairs: pair_count,
+            actions: action_count,
+            used,
+        } => {
+            *head = [
+                m.kind,
+                m.flags,
+                m.stream,
+                m.frame,
+                pair_count as u64,
+                action_count as u64,
+            ];
+            *at = used as u64;
+            DONE
+        },
+        AgentRead::Wait(missing) => {
+            *at = missing as u64;
+            WAIT
+        },
+        AgentRead::Refused(r) => refuse(r, at),
     }
 }
 

@@ -9,7 +9,7 @@ use Rattle.types.specs.Value.{string, typed, shape, signExtended}
 use Rattle.frame.specs.Head.{fourNumber}
 use Rattle.parser.specs.Pair.{pair}
 use Rattle.parser.specs.Payload.{onePair, oneMessage, toEnd, payload}
-use Rattle.parser.specs.Frame.{lastId, ids, metadata, wholeFrame, frameRead}
+use Rattle.parser.specs.Frame.{lastId, ids, metadata, whole, front, frameRead}
 use Rattle.listing.specs.Digits.{digits, decimal, signed, shown}
 use Rattle.listing.specs.Lines.{filled, valueText, frameLine, messageLine, pairLine, endLine}
 use Rattle.spoplist.specs.Listing.{stopFrom}
@@ -40,6 +40,6 @@ lines =
 
 pub example : listing 65532 (record { messages = 64; pairs = 256 }) input ≡ lines
 unfolding more number string typed shape signExtended fourNumber inOrder some joined
-    pair onePair oneMessage toEnd payload lastId ids metadata wholeFrame frameRead
+    pair onePair oneMessage toEnd payload lastId ids metadata whole front frameRead
     digits decimal signed shown filled valueText frameLine messageLine pairLine endLine pairLines itemLines frameLines stopFrom linesFrom
 example = refl

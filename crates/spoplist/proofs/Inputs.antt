@@ -11,7 +11,8 @@ use Rattle.types.proofs.Roundtrip.{Meaning}
 use Rattle.parser.specs.declared.Rooms.{Rooms}
 use Rattle.parser.specs.declared.Metadata.{Metadata}
 use Rattle.parser.specs.Payload.{Contents}
-use Rattle.parser.specs.Frame.{Reading, wait, answered, answerOf, wholeFrame, frameRead}
+use Rattle.parser.specs.Frame.{Reading, wait, answered, answerOf, frameRead}
+use Rattle.parser.specs.Inner.{wholeFrame}
 use Rattle.listing.specs.Lines.{filled, frameLine, endLine}
 use Rattle.spoplist.specs.Listing.{Stop, onward, stopOf}
 use Rattle.listing.proofs.Frames.{itemLines, frameLines}

@@ -23,12 +23,12 @@ use Rattle.parser.specs.declared.Rooms.{Rooms}
 use Rattle.parser.specs.declared.Metadata.{Metadata}
 use Rattle.parser.specs.Pair.{movedPair, pair, pairFrom}
 use Rattle.parser.specs.Payload.{Contents, withPair, withMessage, stringFrom, movedSpan, oneItem, ended, toEnd, payload, movedContents, movedMessage}
-use Rattle.parser.specs.Frame.{frameTypes, same, lastId, ids, metadata, wholeFrame, answered, frameRead}
-use Rattle.parser.specs.Inner.{Run}
+use Rattle.parser.specs.Frame.{frameTypes, same, sentBy, lastId, ids, metadata, answered, frameRead}
+use Rattle.parser.specs.Inner.{wholeFrame, Run}
 use Rattle.parser.proofs.Pairs.{done-same, moved-twice}
 use Rattle.parser.proofs.Runs.{from-next, run-more}
 use Rattle.parser.proofs.Walk.{pair-says, message-says, message-list, item-pair, item-message, item-next, ended-done, ended-short, ends, payload-ends}
-use Rattle.parser.proofs.Frames.{last-refused, last-agent, last-done, ids-refused, ids-on, metadata-none, metadata-type, metadata-short, metadata-flags, metadata-abort, metadata-ids, metadata-start, whole-refused, whole-payload, frame-start, frame-over, frame-wait, frame-whole, inFrame}
+use Rattle.parser.proofs.Frames.{last-refused, last-other, last-done, ids-refused, ids-on, metadata-none, metadata-type, metadata-short, metadata-flags, metadata-abort, metadata-ids, metadata-start, whole-refused, whole-payload, frame-start, frame-over, frame-wait, frame-whole, inFrame}
 use Rattle.parser.proofs.Kept.{by-cut, wait-answered, answered-same}
 use Rattle.walker.specs.declared.Place.{Place}
 use Rattle.walker.specs.declared.Step.the-variants as v
@@ -289,24 +289,23 @@ module _ (f : List ℕ) (m : Metadata) (start : ℕ) where
   number-ends : (at n used : ℕ) → number (drop at f) ≡ done n used → behindNumber f at ≡ at + used
   number-ends at n used d = ap (λ (a : Answer ℕ). endOr (length f) (behind same at a)) d
 
-  last-numbers : (kind flags stream at : ℕ) → lastId kind flags stream at f ≡ done m start → behindNumber f at ≡ start
+  last-numbers : (kind flags stream at : ℕ) → lastId false kind flags stream at f ≡ done m start → behindNumber f at ≡ start
   last-numbers kind flags stream at e =
       answer-cases (number (drop at f))
       (λ n used d.
-      ⊎-elim
-      (λ h. number-ends at n used d ∙ done-same (sym (last-done kind flags stream at f n used d h) ∙ e) .1)
-      (λ h. not-both e (last-agent kind flags stream at f n used d h))
-      (lt-or-le kind 101))
-      (λ n place r. not-both e (last-refused kind flags stream at f n place r))
+      bool-cases (sentBy false kind)
+      (λ h. number-ends at n used d ∙ done-same (sym (last-done false kind flags stream at f n used d h) ∙ e) .1)
+      (λ h. not-both e (last-other false kind flags stream at f n used d h)))
+      (λ n place r. not-both e (last-refused false kind flags stream at f n place r))
 
-  ids-numbers : (kind flags : ℕ) → ids kind flags f ≡ done m start → behindNumber f (behindNumber f 9) ≡ start
+  ids-numbers : (kind flags : ℕ) → ids false kind flags f ≡ done m start → behindNumber f (behindNumber f 9) ≡ start
   ids-numbers kind flags e =
       answer-cases (number (drop 9 f))
-      (λ n used d. ap (behindNumber f) (number-ends 9 n used d) ∙ last-numbers kind flags n (9 + used) (sym (ids-on kind flags f n used d) ∙ e))
-      (λ n place r. not-both e (ids-refused kind flags f n place r))
+      (λ n used d. ap (behindNumber f) (number-ends 9 n used d) ∙ last-numbers kind flags n (9 + used) (sym (ids-on false kind flags f n used d) ∙ e))
+      (λ n place r. not-both e (ids-refused false kind flags f n place r))
 
   -- Law: in a frame whose head is accepted, a KV list starts where the payload does.
-  pub kv-start : metadata f ≡ done m start → kvOf f ≡ kvAt start
+  pub kv-start : metadata false f ≡ done m start → kvOf f ≡ kvAt start
   unfolding kvOf
   kv-start e =
       ap kvAt
@@ -315,26 +314,26 @@ module _ (f : List ℕ) (m : Metadata) (start : ℕ) where
       bool-cases (some (eqb (getD f 4 0)) frameTypes)
       (λ t.
       ⊎-elim
-      (λ l. not-both e (metadata-short f h t l))
+      (λ l. not-both e (metadata-short false f h t l))
       (λ l. by-flags h t l (fourNumber (drop 5 f)) refl)
       (lt-or-le (length f) 9))
-      (λ t. not-both e (metadata-type f h t)))
-      (λ h. not-both e (metadata-none f h))
+      (λ t. not-both e (metadata-type false f h t)))
+      (λ h. not-both e (metadata-none false f h))
       (lt-or-le 4 (length f)))
     where
       by-flags : 4 < length f → some (eqb (getD f 4 0)) frameTypes ≡ true → 9 ≤ length f → (n : ℕ) → fourNumber (drop 5 f) ≡ n → behindNumber f (behindNumber f 9) ≡ start
       by-flags h t l n is =
           bool-cases (eqb n 1)
-          (λ one. ids-numbers (getD f 4 0) (fourNumber (drop 5 f)) (sym (metadata-ids f h t l (is ∙ eqb-true n 1 one)) ∙ e))
+          (λ one. ids-numbers (getD f 4 0) (fourNumber (drop 5 f)) (sym (metadata-ids false f h t l (is ∙ eqb-true n 1 one)) ∙ e))
           (λ one.
           bool-cases (eqb n 3)
-          (λ three. not-both e (metadata-abort f h t l (is ∙ eqb-true n 3 three)))
-          (λ three. not-both e (metadata-flags f h t l (λ z. eqb-false n 1 one (sym is ∙ z)) (λ z. eqb-false n 3 three (sym is ∙ z)))))
+          (λ three. not-both e (metadata-abort false f h t l (is ∙ eqb-true n 3 three)))
+          (λ three. not-both e (metadata-flags false f h t l (λ z. eqb-false n 1 one (sym is ∙ z)) (λ z. eqb-false n 3 three (sym is ∙ z)))))
 
 -- the payload of a frame that is accepted, with its records moved by where it starts
 pub record Held (rooms : Rooms) (f : List ℕ) (m : Metadata) (c : Contents) (used : ℕ) : Type 0 where
   pub start : ℕ
-  pub head : metadata f ≡ done m start
+  pub head : metadata false f ≡ done m start
   pub held : Contents
   pub end : ℕ
   pub is : payload (not (eqb (m .kind) 3)) rooms (drop start f) ≡ done held end
@@ -343,11 +342,11 @@ pub record Held (rooms : Rooms) (f : List ℕ) (m : Metadata) (c : Contents) (us
 
 whole-holds : (rooms : Rooms) (f : List ℕ) (m : Metadata) (c : Contents) (used : ℕ) → wholeFrame rooms f ≡ done (m, c) used → Held rooms f m c used
 whole-holds rooms f m c used e =
-    answer-cases (metadata f)
+    answer-cases (metadata false f)
     (λ n start g. go n start g (payload (not (eqb (n .kind) 3)) rooms (drop start f)) refl (sym (whole-payload rooms f n start g) ∙ e))
     (λ n place r. not-both e (whole-refused rooms f n place r))
   where
-    go : (n : Metadata) (start : ℕ) → metadata f ≡ done n start → (a : Answer Contents) → payload (not (eqb (n .kind) 3)) rooms (drop start f) ≡ a
+    go : (n : Metadata) (start : ℕ) → metadata false f ≡ done n start → (a : Answer Contents) → payload (not (eqb (n .kind) 3)) rooms (drop start f) ≡ a
         → inFrame n start a ≡ done (m, c) used → Held rooms f m c used
     go n start h (done d end) is g =
         let o = done-same g in
@@ -380,7 +379,7 @@ frame-holds limit rooms s m c used e =
       payload-all (not (eqb (m .kind) 3)) rooms (drop (h .start) (take n s)) (h .held) (h .end) (h .is),
       length-drop (h .start) (take n s),
       length-take-le n s z,
-      metadata-start (take n s) m (h .start) (h .head),
+      metadata-start false (take n s) m (h .start) (h .head),
     ) in
     subst (λ (k : ℕ). Held rooms (take k s) m c used) same h)
 
@@ -399,7 +398,7 @@ kv-walked limit rooms s m c used e ne =
     (record {
       last = kvAt (n + h .end);
       finds = kv-finds f n (c .pairs) (n + h .end) (rw (from, pairs) at run);
-      ends = step-end f (kvAt (n + h .end)) (le-ltb (n + h .end) (length f) (omega (arith, payload-all true rooms (drop n f) (h .held) (h .end) is, length-drop n f, metadata-start f m n (h .head))));
+      ends = step-end f (kvAt (n + h .end)) (le-ltb (n + h .end) (length f) (omega (arith, payload-all true rooms (drop n f) (h .held) (h .end) is, length-drop n f, metadata-start false f m n (h .head))));
     })
 
 take-map : {A B : Type 0} (g : A → B) (n : ℕ) (xs : List A) → take n (map g xs) ≡ map g (take n xs)
@@ -431,7 +430,7 @@ messages-walked limit rooms s m c used e is3 small =
     let n = h .start in
     let is : payload false rooms (drop n f) ≡ done (h .held) (h .end) = ap (λ (b : Bool). payload (not b) rooms (drop n f)) (sym (eq-eqb (m .kind) 3 is3)) ∙ h .is in
     rw (sym (h .moved)) (each-map (λ x. FindsAll f (argumentsOf x) (argumentsIn (map (movedPair n) (h .held .pairs)) x)) (movedMessage n)
-    (λ x w. one f n (metadata-start f m n (h .head)) (omega (arith, small, take-short used s)) (h .held .pairs) x w) (h .held .messages) (messages-whole rooms (drop n f) (h .held) (h .end) is))
+    (λ x w. one f n (metadata-start false f m n (h .head)) (omega (arith, small, take-short used s)) (h .held .pairs) x w) (h .held .messages) (messages-whole rooms (drop n f) (h .held) (h .end) is))
   where
     one : (f : List ℕ) (n : ℕ) → n ≤ length f → length f < 2 ^ 64 → (ps : List Pair) (x : Message) → Whole (drop n f) ps x
         → FindsAll f (argumentsOf (movedMessage n x)) (argumentsIn (map (movedPair n) ps) (movedMessage n x))

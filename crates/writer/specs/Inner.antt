@@ -6,7 +6,7 @@ use Prim.Native.Nat.{ℕ, _+_, _*_, _≤_, _<_}
 use lib.Dec.{leb}
 use lib.ListN.{length}
 use Rattle.answer.specs.Answer.{Answer, written}
-use Rattle.answer.specs.Order.{Check, first, after, firstRefused}
+use Rattle.answer.specs.Order.{Check, first as firstOf, after, firstRefused}
 use Rattle.types.specs.Form.{writableRecord, ranged}
 use Rattle.types.specs.declared.Measured.{Measured}
 use Rattle.types.specs.Promise.{recordOf}
@@ -24,7 +24,7 @@ capped most n = cond (leb n most) n (most + 1)
 
 -- What checking and measuring one record found: the number that it is refused with, and where that is 0, how many bytes it has.
 pub record Measures (checks : List Check) (most : ℕ) (bytes : List ℕ) (r : Measured) : Type 0 where
-  pub number : r .number ≡ first checks
+  pub number : r .number ≡ firstOf checks
   pub len : r .number ≡ 0 → r .len ≡ capped most (length bytes)
 
 -- What a loop that checks and measures so many records found: the first that is refused, and where none is, how many bytes they have.

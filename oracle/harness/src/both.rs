@@ -213,6 +213,22 @@ calls! {
         agreed(number, same && some.is(messages) && others.is(pairs))
     }
 
+    pub fn read_agent_frame(
+        input: &[u8],
+        limit: u32,
+        pairs: &mut [u64],
+        actions: &mut [u64],
+        head: &mut [u64; 6],
+        at: &mut u64,
+    ) -> u64 {
+        let (mut some, mut others, before) = (Copied::of(pairs), Copied::of(actions), *head);
+        let number = port::read_agent_frame(input, limit, pairs, actions, head, at);
+        let tables = (Pair::table_mut(some.lent()), Action::table_mut(others.lent()));
+        let safe = lent::read_agent_frame(input, limit, tables.0, tables.1);
+        let same = told_of_agent(safe, before) == (number, *at, *head);
+        agreed(number, same && some.is(pairs) && others.is(actions))
+    }
+
     pub fn read_frame_records(
         input: &[u8],
         limit: u32,
@@ -272,30 +288,33 @@ mod with_the_crate {
         answer: Result<lent::Frame, Answer>,
         before: [u64; 6],
     ) -> (u64, u64, [u64; 6]) {
-        match answer {
-            Ok(frame) => (0, frame.used() as u64, head(&frame)),
+        let counts = |frame: &lent::Frame| [frame.message_records().len(), frame.pair_records().len()];
+        let read = answer.map(|frame| (frame.used(), head(frame.kind(), frame.metadata(), counts(&frame))));
+        told_of_head(read, before)
+    }
+
+    /// The same of an agent's frame.
+    pub fn told_of_agent(
+        answer: Result<lent::AgentFrame, Answer>,
+        before: [u64; 6],
+    ) -> (u64, u64, [u64; 6]) {
+        let counts = |frame: &lent::AgentFrame| [frame.pair_records().len(), frame.action_records().len()];
+        let read = answer.map(|frame| (frame.used(), head(frame.kind(), frame.metadata(), counts(&frame))));
+        told_of_head(read, before)
+    }
+
+    fn told_of_head(read: Result<(usize, [u64; 6]), Answer>, before: [u64; 6]) -> (u64, u64, [u64; 6]) {
+        match read {
+            Ok((used, head)) => (0, used as u64, head),
             Err(Answer::Wait { missing }) => (1, missing as u64, before),
             Err(Answer::Refused(refusal)) => (refusal.number, refusal.place as u64, before),
         }
     }
 
-    fn head(frame: &lent::Frame) -> [u64; 6] {
-        let Metadata {
-            fin,
-            abort,
-            stream_id,
-            frame_id,
-        } = frame.metadata();
-        let flags = if fin { FIN } else { 0 } + if abort { ABORT } else { 0 };
-        let counts = [frame.message_records().len(), frame.pair_records().len()];
-        [
-            frame.kind().number(),
-            flags,
-            stream_id,
-            frame_id,
-            counts[0] as u64,
-            counts[1] as u64,
-        ]
+    fn head(kind: FrameType, metadata: Metadata, counts: [usize; 2]) -> [u64; 6] {
+        let flags = if metadata.fin { FIN } else { 0 } + if metadata.abort { ABORT } else { 0 };
+        let [first, second] = counts.map(|count| count as u64);
+        [kind.number(), flags, metadata.stream_id, metadata.frame_id, first, second]
     }
 
     // ------------------------------------------------------------ memory

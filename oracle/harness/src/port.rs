@@ -257,6 +257,30 @@ calls! {
         }
     }
 
+    pub fn read_agent_frame(
+        input: &[u8],
+        limit: u32,
+        pairs: &mut [u64],
+        actions: &mut [u64],
+        head: &mut [u64; 6],
+        at: &mut u64,
+    ) -> u64 {
+        // SAFETY: each slice is lent with its length, the head has six numbers, and nothing lent overlaps.
+        unsafe {
+            sys::spop_read_agent_frame(
+                input.as_ptr(),
+                input.len(),
+                limit,
+                pairs.as_mut_ptr(),
+                pairs.len(),
+                actions.as_mut_ptr(),
+                actions.len(),
+                head,
+                at,
+            )
+        }
+    }
+
     /// The header's struct of a pair is its numbers in a row.
     pub fn read_frame_records(
         input: &[u8],

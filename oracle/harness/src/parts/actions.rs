@@ -21,13 +21,13 @@ use std::hint::black_box;
 const MOST: usize = 6;
 
 #[derive(Clone, Debug, PartialEq)]
-struct Call {
+pub struct Call {
     fin: bool,
     abort: bool,
     stream: u64,
     frame: u64,
     limit: u32,
-    buffer: Vec<u8>,
+    pub buffer: Vec<u8>,
     actions: Vec<u64>,
     count: u64,
     room: usize,
@@ -54,7 +54,7 @@ impl Call {
         Wrote::expected(self.expected(), self.limit, self.room)
     }
 
-    fn expected(&self) -> Result<Vec<u8>, (u64, u64)> {
+    pub fn expected(&self) -> Result<Vec<u8>, (u64, u64)> {
         if !self.fin || self.abort {
             return Err((NOT_WRITABLE, 0));
         }
@@ -74,7 +74,7 @@ impl Call {
         self.rows().all(|row| records::flags_of(row) == 0)
     }
 
-    fn rows(&self) -> impl Iterator<Item = &[u64]> {
+    pub fn rows(&self) -> impl Iterator<Item = &[u64]> {
         self.actions
             .chunks_exact(ACTION_WIDTH)
             .take(self.count as usize)
@@ -218,7 +218,7 @@ impl shrink::Call for Call {
     }
 }
 
-fn drawn(random: &mut Random) -> Call {
+pub fn drawn(random: &mut Random) -> Call {
     let buffer = records::contents(random);
     let room = buffer.len() as u64;
     let rows = random.index(MOST + 1);

@@ -435,7 +435,7 @@ impl Tables {
 }
 
 /// Reads the first frames of a buffer, one after the other.
-fn port_reads(buffer: &[u8], frames: usize) -> impl FnMut() {
+pub fn port_reads(buffer: &[u8], frames: usize) -> impl FnMut() {
     let (mut tables, mut head, mut at) = (Tables::new(), [0; 6], 0);
     move || {
         let mut rest = black_box(buffer);

@@ -37,6 +37,7 @@ parts! {
     values,
     kv,
     actions,
+    agent,
     notify,
     frames,
     laws,

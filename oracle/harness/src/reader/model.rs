@@ -3,7 +3,7 @@
 
 use crate::{
     answers,
-    port::{MESSAGE_WIDTH, PAIR_WIDTH, VALUE_WIDTH},
+    port::{ACTION_WIDTH, MESSAGE_WIDTH, PAIR_WIDTH, VALUE_WIDTH},
     records::{self, REPEATED},
     tenth::NOT_FITTING,
 };
@@ -17,6 +17,7 @@ pub const AGENTS: u64 = 6;
 pub const TOO_LARGE: u64 = 7;
 pub const NO_TYPE: u64 = 8;
 pub const TABLE_FULL: u64 = 10;
+pub const UNKNOWN_ACTION: u64 = 18;
 
 /// The place of a refusal that is about the frame as a whole.
 const FRAME: u64 = 4;
@@ -29,6 +30,9 @@ pub type Pair = [u64; PAIR_WIDTH];
 
 /// Name start, name length, first pair, pair count.
 pub type Message = [u64; MESSAGE_WIDTH];
+
+/// Set or unset, scope, name start, name length, kind, a, b, flags.
+pub type Action = [u64; ACTION_WIDTH];
 
 /// How many records the tables have room for.
 #[derive(Clone, Copy, PartialEq)]
@@ -103,7 +107,7 @@ pub fn pair(input: &[u8]) -> Result<(Pair, u64), Refusal> {
 /// Where the payload of a whole frame starts, if it is read.
 pub fn payload(frame: &[u8]) -> Option<u64> {
     let mut bytes = Bytes { all: frame, at: 4 };
-    bytes.head().ok().map(|_| bytes.at as u64)
+    bytes.head(false).ok().map(|_| bytes.at as u64)
 }
 
 /// The frame with its length field.
@@ -122,6 +126,50 @@ pub fn whole(input: &[u8], limit: u32) -> Result<&[u8], Refusal> {
     }
 }
 
+/// What an agent's frame comes to.
+pub struct Sent {
+    pub number: u64,
+    /// The bytes used, the bytes missing, or the place.
+    pub at: u64,
+    /// Type, flags, stream id, frame id, pair count, action count; all 0 after a refusal.
+    pub head: [u64; 6],
+    /// None after a refusal.
+    pub pairs: Vec<Pair>,
+    pub actions: Vec<Action>,
+}
+
+/// Reads the agent's frame at the front of the input, with room for so many pairs and so many actions.
+pub fn agent_frame(input: &[u8], limit: u32, [pairs, actions]: [usize; 2]) -> Sent {
+    let outcome = whole(input, limit).and_then(|frame| {
+        let mut bytes = Bytes { all: frame, at: 4 };
+        let [kind, flags, stream, id] = bytes.head(true)?;
+        let mut tables = Tables {
+            rooms: Rooms { messages: 0, pairs },
+            messages: Vec::new(),
+            pairs: Vec::new(),
+        };
+        let mut met = Vec::new();
+        match kind {
+            103 => met = bytes.actions(actions)?,
+            _ => tables.fill_list(&mut bytes)?,
+        }
+        let counts = [tables.pairs.len() as u64, met.len() as u64];
+        let head = [kind, flags, stream, id, counts[0], counts[1]];
+        Ok((frame.len() as u64, head, tables.pairs, met))
+    });
+    let (number, (at, head, pairs, actions)) = match outcome {
+        Ok(read) => (answers::DONE, read),
+        Err((number, at)) => (number, (at, [0; 6], Vec::new(), Vec::new())),
+    };
+    Sent {
+        number,
+        at,
+        head,
+        pairs,
+        actions,
+    }
+}
+
 // ---------------------------------------------------------------- tables
 
 struct Tables {
@@ -134,7 +182,7 @@ impl Tables {
     /// Answers type, flags and ids.
     fn fill(&mut self, frame: &[u8]) -> Result<[u64; 4], Refusal> {
         let mut bytes = Bytes { all: frame, at: 4 };
-        let head = bytes.head()?;
+        let head = bytes.head(false)?;
         match head[0] {
             3 => self.fill_messages(&mut bytes)?,
             _ => self.fill_list(&mut bytes)?,
@@ -269,6 +317,41 @@ impl<'a> Bytes<'a> {
         Ok([start, length, kind, a, b, flags])
     }
 
+    /// The actions up to the end.
+    fn actions(&mut self, room: usize) -> Result<Vec<Action>, Refusal> {
+        let mut met = Vec::new();
+        while !self.at_end() {
+            let action = self.action()?;
+            if met.len() == room {
+                return self.refuse(TABLE_FULL);
+            }
+            met.push(action);
+        }
+        Ok(met)
+    }
+
+    fn action(&mut self) -> Result<Action, Refusal> {
+        let verb = self.byte_of(&[1, 2])?;
+        self.byte_of(&[4 - verb])?;
+        let scope = self.byte_of(&[0, 1, 2, 3, 4])?;
+        let [start, length] = self.string()?;
+        let [kind, a, b, flags] = match verb {
+            1 => self.value()?,
+            _ => [0; VALUE_WIDTH],
+        };
+        let [verb, scope] = [verb, scope].map(u64::from);
+        Ok([verb, scope, start, length, kind, a, b, flags])
+    }
+
+    /// A byte that is one of these.
+    fn byte_of(&mut self, known: &[u8]) -> Result<u8, Refusal> {
+        let byte = self.byte()?;
+        match known.contains(&byte) {
+            true => Ok(byte),
+            false => self.refuse(UNKNOWN_ACTION),
+        }
+    }
+
     /// The lossy text of a pair's key, by which keys are compared.
     fn text(&self, pair: &Pair) -> Cow<'a, str> {
         let start = pair[0] as usize;
@@ -276,7 +359,7 @@ impl<'a> Bytes<'a> {
     }
 
     /// Type, flags and ids.
-    pub fn head(&mut self) -> Result<[u64; 4], Refusal> {
+    pub fn head(&mut self, agents: bool) -> Result<[u64; 4], Refusal> {
         let kind = self.byte()?;
         if !matches!(kind, 1..=3 | 101..=103) {
             return Err((UNKNOWN, FRAME));
@@ -289,7 +372,7 @@ impl<'a> Bytes<'a> {
             return Err((ABORTED, FRAME));
         }
         let (stream, frame) = (self.number()?, self.number()?);
-        if kind > 100 {
+        if (kind > 100) != agents {
             return Err((AGENTS, FRAME));
         }
         Ok([u64::from(kind), u64::from(flags), stream, frame])

@@ -204,7 +204,7 @@ impl Told {
             bytes: Bytes { all: frame, at: 4 },
             told: Self::default(),
         };
-        let [kind, ..] = walk.bytes.head()?;
+        let [kind, ..] = walk.bytes.head(false)?;
         walk.copy_from(0);
         while !walk.bytes.at_end() {
             match kind {

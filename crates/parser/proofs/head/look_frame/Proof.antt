@@ -4,7 +4,8 @@ use mathlib.Core.Path.{sym, ap, _∙_}
 use Prim.Native.Nat.{ℕ, _+_, _-_}
 use lib.ListN.{length, take}
 use lib.Seq.{length-take-le}
-use Rattle.parser.specs.Frame.{wait, answered, wholeFrame}
+use Rattle.parser.specs.Frame.{wait, answered}
+use Rattle.parser.specs.Inner.{wholeFrame}
 use Rattle.parser.specs.Promise.{frameTells}
 use Rattle.parser.proofs.Frames.{frame-start, frame-over, frame-wait, frame-whole}
 use borrow.Author.Needs.{needs}

@@ -11,7 +11,8 @@ use Rattle.answer.specs.Answer.{Answer}
 use Rattle.answer.proofs.Output.{lent-tail}
 use Rattle.parser.specs.declared.Metadata.{Metadata}
 use Rattle.parser.specs.Payload.{Contents, payload}
-use Rattle.parser.specs.Frame.{answered, wholeFrame}
+use Rattle.parser.specs.Frame.{answered}
+use Rattle.parser.specs.Inner.{wholeFrame}
 use Rattle.parser.specs.Promise.{Counts, payloadSaid, frameTells}
 use Rattle.parser.proofs.Walk.{ends, payload-ends}
 use Rattle.parser.proofs.Frames.{whole-payload, tells-ends, inFrame, frame-refused, frame-done}

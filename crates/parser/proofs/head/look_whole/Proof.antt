@@ -25,7 +25,7 @@ enum-known-metadata c = search needs
 look-rest-requires : tie.Need-look-rest-requires
 look-rest-requires c κs =
     let e = sym (c .before .before .before .read-metadata .ensures) ∙ ap metadataSaid (c .before .metadata .given .1) in
-    (e, metadata-start _ _ _ e)
+    (e, metadata-start _ _ _ _ e)
 
 returns-2 : tie.Need-returns-2
 returns-2 c = search needs

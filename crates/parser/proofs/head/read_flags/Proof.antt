@@ -26,7 +26,7 @@ known s = ap (λ (k : ℕ). some (eqb k) frameTypes) (sym (s .pre .1 .0)) ∙ s 
 returns : tie.Need-returns
 returns c =
     let s = c .before .before .before in
-    ap metadataSaid (c .refused-at .ensures) ∙ sym (metadata-short _ (s .pre .0) (known s) (c .before .if1 .taken))
+    ap metadataSaid (c .refused-at .ensures) ∙ sym (metadata-short _ _ (s .pre .0) (known s) (c .before .if1 .taken))
 
 sub-four : tie.Need-sub-four
 sub-four c = search needs
@@ -55,8 +55,8 @@ returns-2 c =
     let k = c .before .before in
     let s = k .before .before .before .before in
     c .read-ids .ensures
-    ∙ ap₂ (λ (x y : ℕ). ids x y (s .args .f .now)) (s .pre .1 .0) (flags k)
-    ∙ sym (metadata-ids _ (s .pre .0) (known s) (k .before .before .if1 .left) (sym (flags k) ∙ c .before .if2 .taken))
+    ∙ ap₂ (λ (x y : ℕ). ids (s .args .agents) x y (s .args .f .now)) (s .pre .1 .0) (flags k)
+    ∙ sym (metadata-ids _ _ (s .pre .0) (known s) (k .before .before .if1 .left) (sym (flags k) ∙ c .before .if2 .taken))
 
 refused-at-requires-2 : tie.Need-refused-at-requires-2
 refused-at-requires-2 c κs = search needs
@@ -66,7 +66,7 @@ returns-3 c =
     let k = c .before .before .before in
     let s = k .before .before .before .before in
     ap metadataSaid (c .refused-at2 .ensures)
-    ∙ sym (metadata-abort _ (s .pre .0) (known s) (k .before .before .if1 .left) (sym (flags k) ∙ c .before .if3 .taken))
+    ∙ sym (metadata-abort _ _ (s .pre .0) (known s) (k .before .before .if1 .left) (sym (flags k) ∙ c .before .if3 .taken))
 
 refused-at-requires-3 : tie.Need-refused-at-requires-3
 refused-at-requires-3 c κs = search needs
@@ -76,7 +76,7 @@ returns-4 c =
     let k = c .before .before .before in
     let s = k .before .before .before .before in
     ap metadataSaid (c .refused-at3 .ensures)
-    ∙ sym (metadata-flags _ (s .pre .0) (known s) (k .before .before .if1 .left) (λ z. c .before .before .if2 .left (flags k ∙ z)) (λ z. c .before .if3 .left (flags k ∙ z)))
+    ∙ sym (metadata-flags _ _ (s .pre .0) (known s) (k .before .before .if1 .left) (λ z. c .before .before .if2 .left (flags k ∙ z)) (λ z. c .before .if3 .left (flags k ∙ z)))
 
 pub read-flags-spec : {M : Type 1} → statement M
 read-flags-spec =

@@ -6,7 +6,8 @@ use Prim.Native.Nat.{ℕ, _+_, _-_}
 use native.Mathlib.Omega.{arith}
 use lib.ListN.{length, take}
 use lib.Seq.{length-take-le}
-use Rattle.parser.specs.Frame.{wait, answered, wholeFrame}
+use Rattle.parser.specs.Frame.{wait, answered}
+use Rattle.parser.specs.Inner.{wholeFrame}
 use Rattle.parser.specs.Promise.{frameTells, roomsOf, contentsRead}
 use Rattle.parser.proofs.Frames.{frame-start, frame-over, frame-wait, frame-whole, fills-nothing}
 use Rattle.parser.proofs.head.read_frame.Statement.{statement}

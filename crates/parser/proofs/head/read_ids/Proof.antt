@@ -53,7 +53,7 @@ returns : tie.Need-returns
 returns c =
     let k = c .before in
     let t = k .before .before .before .before in
-    ap metadataSaid (c .refused-at .ensures) ∙ sym (ids-refused _ _ _ _ _ (read t _ (ap numberRead (k .before .before .r .given .1))))
+    ap metadataSaid (c .refused-at .ensures) ∙ sym (ids-refused _ _ _ _ _ _ (read t _ (ap numberRead (k .before .before .r .given .1))))
 
 enum-known-value : tie.Need-enum-known-value
 enum-known-value c = search needs
@@ -72,7 +72,7 @@ returns-2 : tie.Need-returns-2
 returns-2 c =
     let k = c .before in
     let t = k .before .before .before in
-    c .read-last .ensures ∙ sym (ids-on _ _ _ _ _ (read t _ (ap numberRead (k .before .value .given .1))))
+    c .read-last .ensures ∙ sym (ids-on _ _ _ _ _ _ (read t _ (ap numberRead (k .before .value .given .1))))
 
 pub read-ids-spec : {M : Type 1} → statement M
 read-ids-spec =

@@ -12,7 +12,7 @@ use Rattle.varint.specs.Promise.{numberRead}
 use Rattle.varint.proofs.Reading.{accepted, number-place}
 use Rattle.parser.specs.Inner.{metadataSaid}
 use Rattle.parser.proofs.Pairs.{lent}
-use Rattle.parser.proofs.Frames.{last-refused, last-agent, last-done}
+use Rattle.parser.proofs.Frames.{last-refused, last-other, last-done}
 use Rattle.parser.proofs.head.read_last.Statement.{statement}
 use Rattle.parser.proofs.head.read_last.Tie as tie
 
@@ -53,31 +53,35 @@ returns : tie.Need-returns
 returns c =
     let k = c .before in
     let t = k .before .before .before .before in
-    ap metadataSaid (c .refused-at .ensures) ∙ sym (last-refused _ _ _ _ _ _ _ (read t _ (ap numberRead (k .before .before .r .given .1))))
+    ap metadataSaid (c .refused-at .ensures) ∙ sym (last-refused _ _ _ _ _ _ _ _ (read t _ (ap numberRead (k .before .before .r .given .1))))
 
 enum-known-value : tie.Need-enum-known-value
 enum-known-value c = search needs
 
-refused-at-requires-2 : tie.Need-refused-at-requires-2
-refused-at-requires-2 c κs = search needs
+sent-by-requires : tie.Need-sent-by-requires
+sent-by-requires c κs = search needs
+
+add-t18 : tie.Need-add-t18
+add-t18 c =
+    let k = c .before .before in
+    let t = k .before .before .before in
+    omega (arith, accepted _ _ _ (read t _ (ap numberRead (k .before .value .given .1))) .2, length-drop (start t .args .at) (bytes t), start t .pre, start t .good)
 
 returns-2 : tie.Need-returns-2
 returns-2 c =
     let k = c .before .before in
     let t = k .before .before .before in
-    ap metadataSaid (c .refused-at2 .ensures) ∙ sym (last-agent _ _ _ _ _ _ _ (read t _ (ap numberRead (k .before .value .given .1))) (c .before .if1 .taken))
+    sym (last-done _ _ _ _ _ _ _ _ (read t _ (ap numberRead (k .before .value .given .1))) (sym (c .before .sent-by .ensures) ∙ c .if1 .taken))
 
-add-t17 : tie.Need-add-t17
-add-t17 c =
-    let k = c .before in
-    let t = k .before .before .before in
-    omega (arith, accepted _ _ _ (read t _ (ap numberRead (k .before .value .given .1))) .2, length-drop (start t .args .at) (bytes t), start t .pre, start t .good)
+refused-at-requires-2 : tie.Need-refused-at-requires-2
+refused-at-requires-2 c κs = search needs
 
 returns-3 : tie.Need-returns-3
 returns-3 c =
-    let k = c .before in
+    let k = c .before .before .before in
     let t = k .before .before .before in
-    sym (last-done _ _ _ _ _ _ _ (read t _ (ap numberRead (k .before .value .given .1))) (c .if1 .left))
+    ap metadataSaid (c .refused-at2 .ensures)
+    ∙ sym (last-other _ _ _ _ _ _ _ _ (read t _ (ap numberRead (k .before .value .given .1))) (sym (c .before .before .sent-by .ensures) ∙ c .before .if1 .left))
 
 pub read-last-spec : {M : Type 1} → statement M
 read-last-spec =
@@ -92,7 +96,8 @@ read-last-spec =
     refused-at-requires
     returns
     enum-known-value
-    refused-at-requires-2
+    sent-by-requires
+    add-t18
     returns-2
-    add-t17
+    refused-at-requires-2
     returns-3)

@@ -13,7 +13,7 @@ refused-at-requires : tie.Need-refused-at-requires
 refused-at-requires c κs = search needs
 
 returns : tie.Need-returns
-returns c = ap metadataSaid (c .refused-at .ensures) ∙ sym (metadata-none _ (c .before .if1 .taken))
+returns c = ap metadataSaid (c .refused-at .ensures) ∙ sym (metadata-none _ _ (c .before .if1 .taken))
 
 shared-slice-read-kind : tie.Need-shared-slice-read-kind
 shared-slice-read-kind c = search needs
@@ -38,7 +38,7 @@ refused-at-requires-2 c κs = search needs
 returns-3 : tie.Need-returns-3
 returns-3 c =
     let k = c .before .before in
-    ap metadataSaid (c .refused-at2 .ensures) ∙ sym (metadata-type _ (k .before .before .if1 .left) (sym (k .type-known .ensures) ∙ c .before .if2 .left))
+    ap metadataSaid (c .refused-at2 .ensures) ∙ sym (metadata-type _ _ (k .before .before .if1 .left) (sym (k .type-known .ensures) ∙ c .before .if2 .left))
 
 pub read-metadata-spec : {M : Type 1} → statement M
 read-metadata-spec =

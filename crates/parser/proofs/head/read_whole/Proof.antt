@@ -32,7 +32,7 @@ enum-known-metadata c = search needs
 read-rest-requires : tie.Need-read-rest-requires
 read-rest-requires c κs =
     let e = sym (c .before .before .before .before .before .read-metadata .ensures) ∙ ap metadataSaid (c .before .before .before .metadata .given .1) in
-    (e, metadata-start _ _ _ e)
+    (e, metadata-start _ _ _ _ e)
 
 same-length : tie.Need-same-length
 same-length c = search needs

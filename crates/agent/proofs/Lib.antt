@@ -1,0 +1,9 @@
+-- Laws about agents' frames: an action, a list of them, a table that is filled, the frame; that no second result meets the promise; what the
+-- reading keeps, and what was written.
+pub mod Actions
+pub mod Lists
+pub mod Filling
+pub mod Frames
+pub mod Unique
+pub mod Kept
+pub mod Back
