@@ -5,6 +5,7 @@ use mathlib.Core.Logic.{⊎-elim}
 use Prim.Native.Nat.{ℕ, suc, _+_, _-_, _≤_, _<_, zero-le}
 use native.Mathlib.Numerals.{add-one}
 use native.Mathlib.Omega.{arith}
+use lib.Dec.{leb}
 use lib.ListN.{length, take, drop, set, getD, length-append, length-take, length-drop, drop-of-length-le}
 use lib.Seq.{drop-cons, take-suc, append-snoc, set-at, take-all, length-take-le, drop-drop, take-at, drop-at}
 use borrow.Rule.Slice.PartMut.{putMid}
@@ -13,7 +14,7 @@ use Rattle.answer.specs.declared.Written.{Written}
 use Rattle.answer.specs.declared.Written.the-variants as w
 use Rattle.answer.specs.Answer.{Answer, done, refused, written, within, leaves}
 use Rattle.answer.specs.Writes.{said, Writes}
-use Rattle.answer.proofs.Cases.{lt-or-le}
+use Rattle.answer.proofs.Cases.{lt-or-le, bool-cases}
 
 -- Of `bytes`, which old has room for, the first `at` are written, which makes out of old, and rest is left to write.
 pub record Partly (bytes old : List ℕ) (at : ℕ) (rest out : List ℕ) : Type 0 where
@@ -145,6 +146,23 @@ writes-done bytes {old} {new} {r} {n} p is =
       rw (m, e) (take-at bytes (drop (length bytes) old) (length bytes) refl),
     ))
     (lt-or-le (length old) (length bytes))
+
+-- A writer that counts n bytes: what it answered, and what it left.
+pub record Given (a : Answer (List ℕ)) (n : ℕ) (old new : List ℕ) : Type 0 where
+  pub bytes : List ℕ
+  pub is : a ≡ done bytes n
+  pub left : new ≡ bytes ++ drop n old
+
+pub given : (a : Answer (List ℕ)) (room : ℕ) {n : ℕ} {old new : List ℕ} → Writes (within room a) (w.Done n) old new → Given a n old new
+given (done bytes m) room {n} {old} {new} p =
+    bool-cases (leb m room)
+    (λ t.
+    let s : done tt n ≡ done tt m = simp t at (p .says) in
+    let l : new ≡ bytes ++ drop m old = simp t at (p .holds) in
+    let k : m ≡ n = cc in
+    record { bytes = bytes; is = ap (done bytes) k; left = l ∙ ap (λ (i : ℕ). bytes ++ drop i old) k })
+    (λ t. let s = simp t at (p .says) in let z : _≡_ {A = ℕ} 0 1 = cc s in absurd (omega arith))
+given (refused number place) room p = let s = p .says in let z : _≡_ {A = ℕ} 0 1 = cc s in absurd (omega arith)
 
 -- What it leaves where the caller knows that there is room.
 pub writes-room : (bytes : List ℕ) {old new : List ℕ} {r : Written}

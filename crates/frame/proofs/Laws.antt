@@ -4,7 +4,7 @@ use mathlib.Core.List.{List, [], _∷_, _++_, append-assoc}
 use Prim.Native.Nat.{ℕ, _+_, _*_, _/_, _%_, _^_, _≤_, _<_}
 use native.Mathlib.Omega.{arith}
 use lib.ListN.{length, take, drop, getD, length-append, List·getD-append}
-use lib.Seq.{take-at, drop-at}
+use lib.Seq.{drop-drop, take-at, drop-at}
 use Rattle.varint.specs.Number.{numberBytes}
 use Rattle.frame.specs.declared.Head.{Head}
 use Rattle.frame.specs.Head.{fourBytes, fourNumber, flagsOf, headBytes, frameBytes}
@@ -108,3 +108,20 @@ framed h limit payload small l =
       flags = flags-next h payload;
       rest = numbers-last h payload;
     }
+
+-- ---- the payload
+
+-- The payload of a frame of n bytes at the front of some bytes: what follows its four length bytes and its head.
+abbrev pub payloadOf : Head → ℕ → List ℕ → List ℕ
+payloadOf h n out = drop (4 + length (headBytes h)) (take n out)
+
+-- Law: of a frame it is the payload that it was made of; and this is no longer than what follows the length bytes.
+module _ (h : Head) (payload : List ℕ) where
+  pub frame-payload : drop (4 + length (headBytes h)) (frameBytes h payload) ≡ payload
+  frame-payload =
+      sym (drop-drop (length (headBytes h)) 4 (frameBytes h payload))
+      ∙ ap (drop (length (headBytes h))) (frame-rest h payload)
+      ∙ drop-at (headBytes h) payload (length (headBytes h)) refl
+
+  pub payload-fits : length payload ≤ length (drop 4 (frameBytes h payload))
+  payload-fits = omega (arith, ap length (frame-rest h payload), length-append (headBytes h) payload)

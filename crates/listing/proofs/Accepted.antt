@@ -11,6 +11,7 @@ use lib.Seq.{length-take-le}
 use borrow.Author.Tests.{lt-ltb, le-ltb, eqb-true, eqb-false}
 use Rattle.answer.specs.Answer.{Answer, done, refused, next, behind}
 use Rattle.answer.proofs.Cases.{lt-or-le, bool-cases, answer-cases, not-both}
+pub use Rattle.answer.proofs.Apart.{Each}
 use Rattle.types.specs.Value.{Span, span, string, Record, value, Shape, nothing, flag, integer, address, text, reserved, shape, points, moved, typed, inFields, inFlags}
 use Rattle.types.specs.Form.{writableRecord}
 use Rattle.types.specs.Promise.{recordOf}
@@ -30,10 +31,6 @@ use Rattle.parser.proofs.Walk.{pair-says, string-next, message-says, item-pair,
 use Rattle.parser.proofs.Frames.{metadata-start, whole-refused, whole-payload, frame-start, frame-over, frame-wait, frame-whole}
 
 -- ---- of each
-
-abbrev pub Each : {A : Type 0} → (A → Type 0) → List A → Type 0
-Each P [] = Unit
-Each P (x ∷ xs) = P x × Each P xs
 
 pub each-more : {A : Type 0} (P : A → Type 0) (xs : List A) (x : A) → Each P xs → P x → Each P (xs ++ (x ∷ []))
 each-more P [] x e h = (h, tt)

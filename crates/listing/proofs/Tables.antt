@@ -2,10 +2,10 @@
 use mathlib.Core.Path.{_≡_, refl, sym, ap, ap₂, _∙_}
 use mathlib.Core.List.{List, [], _∷_, _++_, append-assoc}
 use Prim.Native.Nat.{ℕ, zero, suc, _+_, _*_, _≤_, _<_}
-use native.Mathlib.Nat.{add-assoc, one-mul, add-mul}
+use native.Mathlib.Nat.{one-mul}
 use native.Mathlib.Omega.{arith}
-use lib.ListN.{length, take, getD, length-append}
-use lib.Seq.{length-take-le, getD-append-add}
+use lib.ListN.{length, take, length-append}
+use lib.Seq.{length-take-le}
 use borrow.Author.Tests.{le-leb}
 use Rattle.answer.specs.Answer.{done, written}
 use Rattle.answer.specs.Order.{first}
@@ -13,6 +13,7 @@ use Rattle.answer.specs.Table.{numberAt, records, joined}
 use Rattle.answer.proofs.Cases.{bool-cases}
 use Rattle.answer.proofs.Order.{first-none, first-holds}
 use Rattle.answer.proofs.Records.{records-none, joined-on}
+use Rattle.answer.proofs.Rows.{number-later}
 use Rattle.types.specs.Value.{points, shape}
 use Rattle.frame.specs.declared.Pair.{Pair}
 use Rattle.frame.specs.declared.Message.{Message}
@@ -44,14 +45,10 @@ unfolding records
 records-first at n = refl
 
 -- A number of a record behind the first stands there without the first too, one record earlier.
-number-later : (width : ℕ) (front t : List ℕ) → length front ≡ width → (i k : ℕ) → numberAt width (front ++ t) (suc i) k ≡ numberAt width t i k
-number-later width front t long i k =
+number-next : (width : ℕ) (front t : List ℕ) → length front ≡ width → (i k : ℕ) → numberAt width (front ++ t) (suc i) k ≡ numberAt width t i k
+number-next width front t long i k =
     let one : suc i ≡ 1 + i = omega arith in
-    ap (λ (n : ℕ). getD (front ++ t) (n * width + k) 0) one
-    ∙ ap (λ (n : ℕ). getD (front ++ t) (n + k) 0) (add-mul 1 i width)
-    ∙ ap (λ (n : ℕ). getD (front ++ t) (n + i * width + k) 0) (one-mul width ∙ sym long)
-    ∙ ap (λ (n : ℕ). getD (front ++ t) n 0) (add-assoc (length front) (i * width) k)
-    ∙ getD-append-add front t (i * width + k) 0
+    ap (λ (n : ℕ). numberAt width (front ++ t) n k) one ∙ number-later width 1 front t (long ∙ sym (one-mul width)) i k
 
 -- A table's records are read one by one, whatever their width.
 module _ {A : Type 0} (numbers : A → List ℕ) (at : List ℕ → ℕ → A)
@@ -74,7 +71,7 @@ table-messages = table-holds messageNumbers messageAt here later
 
     later : (m : Message) (t : List ℕ) (i : ℕ) → messageAt (messageNumbers m ++ t) (suc i) ≡ messageAt t i
     later m t i =
-        let on = number-later messageWidth (messageNumbers m) t refl i in
+        let on = number-next messageWidth (messageNumbers m) t refl i in
         λ j. record { start = on 0 j; len = on 1 j; first = on 2 j; count = on 3 j }
 
 pub table-pairs : (ps : List Pair) (t : List ℕ) → records (pairAt (joined pairNumbers ps ++ t)) 0 (length ps) ≡ ps
@@ -85,7 +82,7 @@ table-pairs = table-holds pairNumbers pairAt here later
     here p t = refl
 
     later : (p : Pair) (t : List ℕ) (i : ℕ) → pairAt (pairNumbers p ++ t) (suc i) ≡ pairAt t i
-    later p t i = λ j. pairIn (λ k. number-later pairWidth (pairNumbers p) t refl i k j) 0
+    later p t i = λ j. pairIn (λ k. number-next pairWidth (pairNumbers p) t refl i k j) 0
 
 -- each of them
 pub each-at : {A : Type 0} (P : A → Type 0) (at : ℕ → A) (n j : ℕ) → Each P (records at j n) → (i : ℕ) → i < n → P (at (j + i))

@@ -13,7 +13,7 @@ use Rattle.answer.specs.Answer.{Answer, done, behind}
 use Rattle.answer.specs.Table.{records, some}
 use Rattle.answer.specs.Inner as inner
 use Rattle.answer.proofs.Cases.{bool-cases, true-false, both-true}
-use Rattle.answer.proofs.Records.{records-none, record-at}
+use Rattle.answer.proofs.Records.{records-none, records-length, record-at}
 use Rattle.frame.specs.declared.Head.{Head}
 use Rattle.frame.specs.declared.Pair.{Pair}
 use Rattle.frame.specs.declared.Message.{Message}
@@ -127,7 +127,7 @@ record-same f g at d n xs e i h =
     let here : 0 + i ≡ i = omega arith in
     sym (List·getD-map f xs i d)
     ∙ ap (λ (l : List _). getD l i (f d)) e
-    ∙ there (map g (records at 0 n)) i (f d) (g d) (omega (arith, length-map g (records at 0 n), walk.records-length at n 0))
+    ∙ there (map g (records at 0 n)) i (f d) (g d) (omega (arith, length-map g (records at 0 n), records-length at n 0))
     ∙ List·getD-map g (records at 0 n) i d
     ∙ ap g (record-at at n 0 i d h ∙ ap at here)
 

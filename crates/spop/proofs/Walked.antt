@@ -12,7 +12,7 @@ use borrow.Author.Tests.{lt-ltb}
 use Rattle.answer.specs.Answer.{done, behind}
 use Rattle.answer.specs.Table.{records, joined, some}
 use Rattle.answer.proofs.Cases.{bool-cases, true-false}
-use Rattle.answer.proofs.Records.{records-none, records-snoc, joined-on, joined-none}
+use Rattle.answer.proofs.Records.{records-none, records-snoc, records-length, joined-on, joined-none}
 use Rattle.utf8.specs.Text.{sameText}
 use Rattle.utf8.proofs.Same.{same-text-sym}
 use Rattle.types.specs.Value.{Span, span, string, value}
@@ -41,11 +41,6 @@ use Rattle.writer.proofs.Messages.{name-bytes, message-bytes, run-next}
 map-both : {A B : Type 0} (f : A → B) (xs ys : List A) → map f (xs ++ ys) ≡ map f xs ++ map f ys
 map-both f [] ys = refl
 map-both f (x ∷ xs) ys = ap (λ (l : List _). f x ∷ l) (map-both f xs ys)
-
-pub records-length : {A : Type 0} (at : ℕ → A) (n first : ℕ) → length (records at first n) ≡ n
-unfolding records
-records-length at zero first = refl
-records-length at (suc n) first = ap (λ (k : ℕ). suc k) (records-length at n (suc first))
 
 records-next : {A : Type 0} (at : ℕ → A) (i n : ℕ) → records at i (suc n) ≡ at i ∷ records at (i + 1) n
 unfolding records

@@ -1,5 +1,6 @@
 -- Laws about the writers: lengths as far as they matter, the records' checks and bytes, the loop that checks and measures, the front of a
--- frame, what each answer is and what an accepted one has passed, and that no second result meets a promise.
+-- frame, what each answer is and what an accepted one has passed, what it left, payloads joined and told apart, and that no second result meets a
+-- promise.
 pub mod Capped
 pub mod Pairs
 pub mod Actions
@@ -8,4 +9,7 @@ pub mod Checking
 pub mod Begun
 pub mod Answers
 pub mod Laws
+pub mod Spelled
+pub mod Payload
+pub mod Joined
 pub mod Unique

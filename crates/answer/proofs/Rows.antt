@@ -1,0 +1,50 @@
+-- Laws about a table whose numbers start with those of whole records: these are its first records, and the others follow.
+use mathlib.Core.Path.{_≡_, sym, ap, ap₂, _∙_}
+use mathlib.Core.List.{List, _++_}
+use Prim.Native.Nat.{ℕ, _+_, _*_, _≤_, _<_}
+use native.Mathlib.Nat.{add-mul, one-mul, add-assoc, mul-le-mul-right}
+use native.Mathlib.Omega.{arith}
+use lib.ListN.{length, take, getD, List·getD-append}
+use lib.Seq.{length-take-le, getD-append-add, getD-take}
+use Rattle.answer.specs.Table.{numberAt, records}
+use Rattle.answer.proofs.Records.{records-both, records-run, records-same}
+
+-- number k of record i stands among those of so many records
+in-records : (width count i k : ℕ) → i < count → k < width → i * width + k < count * width
+in-records width count i k h l = omega (arith, mul-le-mul-right {m = i + 1} {n = count} width (omega arith), add-mul i 1 width, one-mul width)
+
+-- Law: behind so many records the numbers are those of the rest.
+pub number-later : (width count : ℕ) (front rest : List ℕ) → length front ≡ count * width → (i k : ℕ) → numberAt width (front ++ rest) (count + i) k ≡ numberAt width rest i k
+number-later width count front rest long i k =
+    ap (λ (n : ℕ). getD (front ++ rest) (n + k) 0) (add-mul count i width ∙ ap (λ (n : ℕ). n + i * width) (sym long))
+    ∙ ap (λ (n : ℕ). getD (front ++ rest) n 0) (add-assoc (length front) (i * width) k)
+    ∙ getD-append-add front rest (i * width + k) 0
+
+-- Law: of a table that starts with so many records of another, the numbers are that one's, and behind them those of the rest.
+module _ (width count : ℕ) (table rest : List ℕ) (held : count * width ≤ length table) where
+  long : length (take (count * width) table) ≡ count * width
+  long = length-take-le (count * width) table held
+
+  pub number-front : (i k : ℕ) → i < count → k < width → numberAt width (take (count * width) table ++ rest) i k ≡ numberAt width table i k
+  number-front i k h l =
+      let inside = in-records width count i k h l in
+      List·getD-append (take (count * width) table) rest 0 (i * width + k) (omega (arith, long)) ∙ getD-take (count * width) table (i * width + k) 0 inside
+
+  pub number-behind : (i k : ℕ) → numberAt width (take (count * width) table ++ rest) (count + i) k ≡ numberAt width rest i k
+  number-behind = number-later width count (take (count * width) table) rest long
+
+-- Law: records of one table and then of another, put in a row in a third, are its records: where a record goes by its own numbers.
+module _ {A : Type 0} (width : ℕ) (at : List ℕ → ℕ → A)
+    (first : (n : ℕ) (s t : List ℕ) → n * width ≤ length s → (i : ℕ) → i < n → at (take (n * width) s ++ t) i ≡ at s i)
+    (second : (n : ℕ) (s t : List ℕ) → n * width ≤ length s → (i : ℕ) → at (take (n * width) s ++ t) (n + i) ≡ at t i) where
+  pub tables-both : (n m : ℕ) (s t rest : List ℕ) → n * width ≤ length s → m * width ≤ length t
+      → records (at (take (n * width) s ++ (take (m * width) t ++ rest))) 0 (n + m) ≡ records (at s) 0 n ++ records (at t) 0 m
+  tables-both n m s t rest h l =
+      let behind = take (m * width) t ++ rest in
+      let all = at (take (n * width) s ++ behind) in
+      let here : 0 + n ≡ n = omega arith in
+      records-both all n 0 m
+      ∙ ap₂ _++_ (records-same all (at s) n 0 (λ i z k. first n s behind h i (omega arith)))
+      (ap (λ (k : ℕ). records all k m) here
+      ∙ records-run all n m
+      ∙ records-same (λ (j : ℕ). all (n + j)) (at t) m 0 (λ i z k. second n s behind h i ∙ first m t rest l i (omega arith)))
