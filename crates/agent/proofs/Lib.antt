@@ -6,4 +6,5 @@ pub mod Filling
 pub mod Frames
 pub mod Unique
 pub mod Kept
+pub mod Entries
 pub mod Back

@@ -11,7 +11,7 @@ use Rattle.agent.specs.declared.AgentRead.the-variants as a
 use Rattle.agent.specs.Promise.{Counts, agentSaid, ReadAgentFrame}
 
 -- answers that say the same are the same
-agent-same : (r q : AgentRead) → agentSaid r ≡ agentSaid q → r ≡ q
+pub agent-same : (r q : AgentRead) → agentSaid r ≡ agentSaid q → r ≡ q
 agent-same (a.Done x m n u) (a.Done x′ m′ n′ u′) e =
     let k = done-same {A = Metadata × Counts} {x = (x, (m, n))} {y = (x′, (m′, n′))} {m = u} {k = u′} (cc) in
     let w = ap (λ (y : Metadata × Counts). y .0) (k .0) in

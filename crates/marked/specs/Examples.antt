@@ -22,7 +22,7 @@ use Rattle.parser.specs.declared.Rooms.{Rooms}
 use Rattle.parser.specs.declared.Metadata.{Metadata}
 use Rattle.parser.specs.Pair.{pair}
 use Rattle.parser.specs.Payload.{Contents, onePair, oneMessage, toEnd, payload}
-use Rattle.parser.specs.Frame.{Reading, wait, answered, lastId, ids, metadata, whole, front, frameRead}
+use Rattle.parser.specs.Frame.{Reading, wait, answered, lastId, ids, metadata, whole, front as frameFront, frameRead}
 use Rattle.writer.specs.Pair.{pairBytes, pairRefusal, newKey, kvRefusal}
 use Rattle.writer.specs.Message.{nameBytes, messageBytes, messageRefusal}
 use Rattle.writer.specs.Frame.{headOf, limited, finAlone, kvAllowed, kvAnswer, notifyAnswer}
@@ -210,7 +210,7 @@ examples =
 pub marked : All examples
 unfolding more number groups numberBytes string typed shape signExtended fourNumber inOrder some
     rows follow inRange front rowFor step bySteps lossy same sameText
-    pair onePair oneMessage toEnd payload lastId ids metadata whole front frameRead frameSize
+    pair onePair oneMessage toEnd payload lastId ids metadata whole frameFront frameRead frameSize
     isUtf8 firstRefused records joined stringBytes valueBytes fourBytes headBytes frameBytes messageAt pairAt pairBytes pairRefusal newKey kvRefusal
     nameBytes messageBytes messageRefusal limited kvAllowed kvAnswer notifyAnswer
 marked =

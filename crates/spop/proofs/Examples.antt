@@ -24,6 +24,7 @@ use Rattle.writer.specs.Action.{actionBytes, actionWritable, actionRefusal}
 use Rattle.writer.specs.Message.{nameBytes, messageBytes, messageRefusal}
 use Rattle.writer.specs.Frame.{headOf, limited, kvAllowed, kvAnswer, actionsAnswer, notifyAnswer}
 use Rattle.writer.proofs.Joined.{AckCall, ackPayload, actions-joined, acts-in-a-row}
+use Rattle.spop.proofs.AgentBack.{SentBack, agentAnswer, agent-read-back}
 use Rattle.spop.proofs.ReadBack.{ReadBack, kv-read-back, notify-read-back, argumentOf, notify-arguments}
 
 -- HAPROXY-DISCONNECT with A, which is 7 and has the flags 2, and B, which is the text 2.0
@@ -149,3 +150,21 @@ does-both = accepted 240 3 (setting ++ unsetting) 2 both-frame both-frame (omega
 
 pub joined-example : ackPayload does-both ≡ ackPayload sets ++ ackPayload unsets
 joined-example = actions-joined sets unsets does-both (acts-in-a-row sets unsets does-both [] refl refl refl refl) .0
+
+-- ACK that sets A to 7 for the transaction, with the flags 2, and unsets B for the response
+abbrev pub acts : List ℕ
+acts = 1 ∷ 2 ∷ 0 ∷ 1 ∷ 3 ∷ 7 ∷ 0 ∷ 2 ∷ 2 ∷ 4 ∷ 1 ∷ 1 ∷ 0 ∷ 0 ∷ 0 ∷ 0 ∷ []
+
+abbrev pub ack-frame : List ℕ
+ack-frame =
+    0 ∷ 0 ∷ 0 ∷ 19 ∷ 103 ∷ 0 ∷ 0 ∷ 0 ∷ 1 ∷ 1 ∷ 2 ∷ 1 ∷ 3 ∷ 2 ∷ 0x01 ∷ 0x41 ∷ 0x23 ∷ 0x07 ∷ 2 ∷ 2 ∷ 4 ∷ 0x01 ∷ 0x42 ∷ []
+
+pub actions-written : agentAnswer (headOf 103 true false 1 2) 19 text [] 0 acts 2 ≡ done ack-frame 23
+unfolding groups numberBytes rows follow inRange front rowFor step bySteps isUtf8 lossy same sameText shape inOrder some firstRefused records joined
+    stringBytes valueBytes fourBytes headBytes frameBytes actionAt pairBytes actionBytes actionWritable actionRefusal limited actionsAnswer
+actions-written = refl
+
+pub ack-example : SentBack (headOf 103 true false 1 2) 23 text [] (records (actionAt acts) 0 2) 20 0 2 (ack-frame ++ (0 ∷ 0 ∷ []))
+ack-example =
+    agent-read-back (headOf 103 true false 1 2) 19 text ack-frame 23 (omega arith) (omega arith) (omega arith) 20 (omega arith) 0 2 (0 ∷ 0 ∷ []) (omega arith)
+    [] 0 acts 2 (omega arith) actions-written (omega arith) (omega arith)
