@@ -16,7 +16,7 @@ use Rattle.frame.specs.Head.{fourBytes, fourNumber, headBytes, frameBytes}
 use Rattle.frame.specs.Records.{messageAt, messageNumbers, pairAt, pairNumbers}
 use Rattle.parser.specs.Pair.{pair}
 use Rattle.parser.specs.Payload.{onePair, oneMessage, toEnd, payload}
-use Rattle.parser.specs.Frame.{answerOf, lastId, ids, metadata, wholeFrame, frameRead}
+use Rattle.parser.specs.Frame.{answerOf, lastId, ids, metadata, whole, front as frontOf, frameRead}
 use Rattle.writer.specs.Pair.{pairBytes, pairRefusal, newKey, kvRefusal}
 use Rattle.writer.specs.Message.{nameBytes, messageBytes, messageRefusal}
 use Rattle.writer.specs.Frame.{headOf, limited, kvAllowed, kvAnswer, notifyAnswer}
@@ -55,5 +55,5 @@ pub examples : (again list ≡ written list) × (again messages ≡ written mess
     × (again (one 15 (0x03 ∷ 0xF7 ∷ 0xF1 ∷ 0xFE ∷ 0xFE ∷ 0x7E ∷ [])) ≡ written (one 11 (0x03 ∷ 0x07 ∷ [])))
 unfolding more number groups numberBytes rows follow inRange front rowFor step bySteps isUtf8 lossy same sameText string typed shape signExtended inOrder some
     firstRefused records joined stringBytes valueBytes fourBytes fourNumber headBytes frameBytes messageAt pairAt pair onePair oneMessage toEnd payload lastId ids
-    metadata wholeFrame frameRead pairBytes pairRefusal newKey kvRefusal nameBytes messageBytes messageRefusal limited kvAllowed kvAnswer notifyAnswer
+    metadata whole frontOf frameRead pairBytes pairRefusal newKey kvRefusal nameBytes messageBytes messageRefusal limited kvAllowed kvAnswer notifyAnswer
 examples = (refl, refl, refl, refl, refl)

@@ -8,7 +8,7 @@ use native.Mathlib.Omega.{arith}
 use lib.Dec.{eqb}
 use lib.ListN.{length, take, drop, getD, length-drop, take-append-drop}
 use lib.Seq.{drop-cons, drop-drop, length-take-le}
-use borrow.Author.Tests.{eqb-true, eqb-false, ne-eqb}
+use borrow.Author.Tests.{lt-ltb, le-ltb, eqb-true, eqb-false, ne-eqb}
 use Rattle.answer.specs.Answer.{done}
 use Rattle.answer.specs.Table.{some}
 use Rattle.answer.proofs.Cases.{lt-or-le, bool-cases, true-false, answer-cases, not-both}
@@ -22,7 +22,7 @@ use Rattle.parser.specs.declared.Metadata.{Metadata}
 use Rattle.parser.specs.Payload.{Contents, payload, movedContents}
 use Rattle.parser.specs.Frame.{frameTypes, ids, metadata, answered, frameRead}
 use Rattle.parser.proofs.Pairs.{done-same}
-use Rattle.parser.proofs.Frames.{last-refused, last-agent, last-done, ids-refused, ids-on, metadata-none, metadata-type, metadata-short, metadata-flags, metadata-abort, metadata-ids, metadata-start, frame-start, frame-over, frame-wait, frame-whole}
+use Rattle.parser.proofs.Frames.{last-refused, last-other, last-done, ids-refused, ids-on, metadata-none, metadata-type, metadata-short, metadata-flags, metadata-abort, metadata-ids, metadata-start, frame-start, frame-over, frame-wait, frame-whole}
 use Rattle.parser.proofs.Kept.{by-cut, wait-answered, answered-same}
 use Rattle.parser.proofs.Exact.{bytes-drop}
 use Rattle.walker.proofs.Walking.{frame-holds}
@@ -81,18 +81,18 @@ record Parts (f : List ℕ) (m : Metadata) (start : ℕ) : Type 0 where
 
 module _ (f : List ℕ) (m : Metadata) (start : ℕ) where
   ids-parts : 9 ≤ length f → some (eqb (getD f 4 0)) frameTypes ≡ true → fourNumber (drop 5 f) ≡ 1
-      → ids (getD f 4 0) (fourNumber (drop 5 f)) f ≡ done m start → Parts f m start
+      → ids false (getD f 4 0) (fourNumber (drop 5 f)) f ≡ done m start → Parts f m start
   ids-parts l t one e =
       let kind = getD f 4 0 in
       let flags = fourNumber (drop 5 f) in
       answer-cases (number (drop 9 f))
       (λ n u d.
-      let last = sym (ids-on kind flags f n u d) ∙ e in
+      let last = sym (ids-on false kind flags f n u d) ∙ e in
       answer-cases (number (drop (9 + u) f))
       (λ k v g.
       ⊎-elim
       (λ h.
-      let o = done-same (sym (last-done kind flags n (9 + u) f k v g h) ∙ last) in
+      let o = done-same (sym (last-done false kind flags n (9 + u) f k v g (lt-ltb kind 101 h)) ∙ last) in
       let same : kind ≡ m .kind = ap (λ (x : Metadata). x .kind) (o .0) in
       let allowed = kinds-below kind t h in
       record {
@@ -106,29 +106,29 @@ module _ (f : List ℕ) (m : Metadata) (start : ℕ) where
         frame = g ∙ ap (λ (x : Metadata). done (x .frame) v) (o .0);
         ends = o .1;
       })
-      (λ h. not-both last (last-agent kind flags n (9 + u) f k v g h))
+      (λ h. not-both last (last-other false kind flags n (9 + u) f k v g (le-ltb kind 101 h)))
       (lt-or-le kind 101))
-      (λ k place r. not-both last (last-refused kind flags n (9 + u) f k place r)))
-      (λ n place r. not-both e (ids-refused kind flags f n place r))
+      (λ k place r. not-both last (last-refused false kind flags n (9 + u) f k place r)))
+      (λ n place r. not-both e (ids-refused false kind flags f n place r))
 
-  parts : metadata f ≡ done m start → Parts f m start
+  parts : metadata false f ≡ done m start → Parts f m start
   parts e =
       ⊎-elim
       (λ h.
       bool-cases (some (eqb (getD f 4 0)) frameTypes)
-      (λ t. ⊎-elim (λ l. not-both e (metadata-short f h t l)) (λ l. by-flags h t l (fourNumber (drop 5 f)) refl) (lt-or-le (length f) 9))
-      (λ t. not-both e (metadata-type f h t)))
-      (λ h. not-both e (metadata-none f h))
+      (λ t. ⊎-elim (λ l. not-both e (metadata-short false f h t l)) (λ l. by-flags h t l (fourNumber (drop 5 f)) refl) (lt-or-le (length f) 9))
+      (λ t. not-both e (metadata-type false f h t)))
+      (λ h. not-both e (metadata-none false f h))
       (lt-or-le 4 (length f))
     where
       by-flags : 4 < length f → some (eqb (getD f 4 0)) frameTypes ≡ true → 9 ≤ length f → (n : ℕ) → fourNumber (drop 5 f) ≡ n → Parts f m start
       by-flags h t l n is =
           bool-cases (eqb n 1)
-          (λ one. let so = is ∙ eqb-true n 1 one in ids-parts l t so (sym (metadata-ids f h t l so) ∙ e))
+          (λ one. let so = is ∙ eqb-true n 1 one in ids-parts l t so (sym (metadata-ids false f h t l so) ∙ e))
           (λ one.
           bool-cases (eqb n 3)
-          (λ three. not-both e (metadata-abort f h t l (is ∙ eqb-true n 3 three)))
-          (λ three. not-both e (metadata-flags f h t l (λ z. eqb-false n 1 one (sym is ∙ z)) (λ z. eqb-false n 3 three (sym is ∙ z)))))
+          (λ three. not-both e (metadata-abort false f h t l (is ∙ eqb-true n 3 three)))
+          (λ three. not-both e (metadata-flags false f h t l (λ z. eqb-false n 1 one (sym is ∙ z)) (λ z. eqb-false n 3 three (sym is ∙ z)))))
 
   -- behind its length bytes a frame is its head, as it is written, and then its payload
   head-form : Bytes f → Parts f m start → drop 4 f ≡ headBytes (headOf (m .kind) true false (m .stream) (m .frame)) ++ drop start f
@@ -221,7 +221,7 @@ module _ (limit : ℕ) (rooms : Rooms) (s : List ℕ) (m : Metadata) (c : Conten
         end = h .end;
         long = long;
         fits = omega (arith, says);
-        there = metadata-start f m (h .start) (h .head);
+        there = metadata-start false f m (h .start) (h .head);
         kinds = p .kinds;
         form = whole (headOf (m .kind) true false (m .stream) (m .frame)) (h .start) (head-form f m (h .start) small p);
         read = h .is;
