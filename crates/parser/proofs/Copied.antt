@@ -18,6 +18,7 @@ use Rattle.parser.specs.Inner.{FillsAccepted}
 use Rattle.parser.proofs.Walk.{payload-fits}
 use Rattle.parser.proofs.Filling.{joined-map, pairs-wide, messages-wide}
 use Rattle.parser.proofs.Frames.{tells-done}
+use Rattle.parser.proofs.Fitting.{Fits, payload-fit}
 
 -- the front of a table that was filled
 front : (numbers old new : List ℕ) (n : ℕ) → length numbers ≡ n → new ≡ leaves (written numbers) old → (take n new ≡ numbers) × (n ≤ length new)
@@ -75,3 +76,14 @@ module _ (s : List ℕ) (base : ℕ) (ownMessages newMessages ownPairs newPairs 
           messages = em ∙ ap (λ (l : List ℕ). leaves (written l) messages) (own-messages .0);
           pairs = ep ∙ ap (λ (l : List ℕ). leaves (written l) pairs) (own-pairs .0);
         })
+
+  -- or stay where they are, in a table of pairs of which all is given
+  pub pairs-fit : p ≤ length ownPairs / pairWidth
+  pairs-fit =
+      let h : Fits (roomsOf ownMessages ownPairs) (done (found .0) used) = rw (found .1) at (payload-fit false (roomsOf ownMessages ownPairs) s) in
+      omega (arith, h .1, ap (λ (k : Counts). k .1) (found .2))
+
+  pub stay-fills : (messages afterMessages : List ℕ) → m ≤ length messages / messageWidth → afterMessages ≡ leaves (written (take (m * messageWidth) newMessages)) messages
+      → Fills (behind movedContents base (payload false (roomsOf messages ownPairs) s)) messages afterMessages ownPairs newPairs
+  stay-fills messages afterMessages hm em =
+      copied-fills messages ownPairs hm pairs-fit afterMessages newPairs em (filled .pairs ∙ ap (λ (l : List ℕ). leaves (written l) ownPairs) (sym (own-pairs .0)))

@@ -67,7 +67,7 @@ module _ (kv : Bool) (rooms : Rooms) (s : List ℕ) where
       (λ l. rw (le-ltb at (length s) l) (fit-ended at c h))
       (lt-or-le at (length s))
 
-  payload-fit : Fits rooms (payload kv rooms s)
+  pub payload-fit : Fits rooms (payload kv rooms s)
   unfolding payload
   payload-fit = fit-on (length s) 0 _ (omega arith, omega arith)
 

@@ -32,7 +32,7 @@ const FIN: u64 = 1;
 const FIN_ABORT: u64 = 3;
 
 // The number that the first four bytes are, the highest first.
-fn four(bytes: &[u8]) -> u32
+pub(crate) fn four(bytes: &[u8]) -> u32
     requires { ⌜ 4 ≤ length (now bytes) ⌝ }
     ensures { λ r. ⌜ r ≡ fourNumber (now (bytes .entry)) ⌝ }
 {
@@ -145,7 +145,7 @@ fn read_flags(f: &[u8], agents: bool, kind: u64) -> MetadataRead
 }
 
 // Reads what stands before the payload, of a frame that this side sends.
-fn read_metadata(f: &[u8], agents: bool) -> MetadataRead
+pub(crate) fn read_metadata(f: &[u8], agents: bool) -> MetadataRead
     ensures { λ r. ⌜ metadataSaid r ≡ metadataOf agents (now (f .entry)) ⌝ }
 {
     if f.len() <= 4 {

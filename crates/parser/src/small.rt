@@ -91,7 +91,12 @@ fn take_message(payload: &[u8], base: usize, rooms: Rooms, state: State, table: 
 }
 
 // Reads a list of messages and fills the tables on the way. What a refusal leaves in them is not said.
-fn take(payload: &[u8], base: usize, messages: &mut [u64], pairs: &mut [u64]) -> PayloadRead
+pub(crate) fn take(
+    payload: &[u8],
+    base: usize,
+    messages: &mut [u64],
+    pairs: &mut [u64],
+) -> PayloadRead
     requires { ⌜ base + length (now payload) < 2 ^ 63 ⌝ }
     ensures { λ r. ⌜ payloadSaid r ≡ payloadTells (payloadOf false (roomsOf (now (messages .entry)) (now (pairs .entry))) (now (payload .entry))) ⌝ }
     ensures { λ r. ⌜ FillsAccepted base (now (payload .entry)) (now (messages .entry)) (now (messages .exit)) (now (pairs .entry)) (now (pairs .exit)) ⌝ }
@@ -143,7 +148,7 @@ fn take(payload: &[u8], base: usize, messages: &mut [u64], pairs: &mut [u64]) ->
 }
 
 // Copies all numbers of one table to the front of another.
-fn copy(from: &[u64], to: &mut [u64])
+pub(crate) fn copy(from: &[u64], to: &mut [u64])
     requires { ⌜ length (now from) ≤ length (now to) ⌝ }
     ensures { λ _. ⌜ now (to .exit) ≡ leaves (written (now (from .entry))) (now (to .entry)) ⌝ }
 {

@@ -1,50 +1,65 @@
--- `parser::by_value::read_few` meets its contract: what the reader leaves in a table of four is what is given.
+-- `parser::by_value::read_few` meets its contract: a short frame that is all there is cut out, and else it is read as the frame reader does.
 -- Assumes nothing.
 use borrow.Author.Needs.{needs}
-use mathlib.Core.Path.{_≡_, ap, _∙_}
-use mathlib.Core.List.{List}
-use Prim.Native.Nat.{ℕ}
-use Rattle.parser.specs.Frame.{frameRead}
-use Rattle.parser.specs.Promise.{roomForFew, contentsRead}
-use Rattle.parser.specs.Inner.{fewIn}
-use Rattle.parser.proofs.ByValue.{noNumbers, few-left, few-fit}
+use mathlib.Core.Path.{sym, ap, _∙_}
+use Prim.Native.Nat.{ℕ, _+_}
+use lib.ListN.{take}
+use lib.Seq.{length-take-le}
+use Rattle.parser.specs.Frame.{answered}
+use Rattle.parser.specs.Inner.{wholeFrame}
+use Rattle.parser.specs.Promise.{roomForFew}
+use Rattle.parser.proofs.Frames.{frame-whole}
 use Rattle.parser.proofs.by_value.read_few.Statement.{statement}
 use Rattle.parser.proofs.by_value.read_few.Tie as tie
 
-slice-aggregate-read-frame : tie.Need-slice-aggregate-read-frame
-slice-aggregate-read-frame c = search needs
+four-requires : tie.Need-four-requires
+four-requires c κs = search needs
 
-read-frame-requires : tie.Need-read-frame-requires
-read-frame-requires c κs = search needs
+cast-end : tie.Need-cast-end
+cast-end c = search needs
 
-slice-aggregate-few-of : tie.Need-slice-aggregate-few-of
-slice-aggregate-few-of c = search needs
+add-end : tie.Need-add-end
+add-end c = search needs
 
-few-of-requires : tie.Need-few-of-requires
-few-of-requires c κs = search needs
+slice-aggregate-few-whole : tie.Need-slice-aggregate-few-whole
+slice-aggregate-few-whole c = sym (length-take-le _ _ (c .before .before .if3 .taken))
+
+few-whole-requires : tie.Need-few-whole-requires
+few-whole-requires c κs =
+    let w = c .before .before .before in
+    let k = w .before .before in
+    let a = k .before .before .before .before .args in
+    let rooms = roomForFew (a .messages .now) in
+    frame-whole (a .limit) rooms (a .input .now) (k .before .if1 .taken)
+    (rw (sym (k .four .ensures)) (w .before .if2 .taken)) (rw (sym (k .four .ensures)) (w .if3 .taken))
+    ∙ ap (λ (n : ℕ). answered (wholeFrame rooms (take (4 + n) (a .input .now)))) (sym (k .four .ensures))
 
 same-length : tie.Need-same-length
 same-length c = search needs
 
 returns : tie.Need-returns
-returns c =
-    let t = c .before .before .before .before .before in
-    let a = t .before .before .before .before .before .args in
-    let x = frameRead (a .limit) (roomForFew (a .messages .now)) (a .input .now) in
-    let e = t .read-frame .ensures in
-    record {
-      says = e .says;
-      few = c .few-of .ensures ∙ ap fewIn (e .fills .pairs) ∙ few-left (contentsRead x) (few-fit (a .limit) (a .messages .now) (a .input .now));
-      messages = e .fills .messages;
-    }
+returns c = search needs
+
+few-slow-requires : tie.Need-few-slow-requires
+few-slow-requires c κs = search needs
+
+same-length-2 : tie.Need-same-length-2
+same-length-2 c = search needs
+
+returns-2 : tie.Need-returns-2
+returns-2 c = search needs
 
 pub read-few-spec : {M : Type 1} → statement M
 read-few-spec =
     tie.close
     (tie.spec
-    slice-aggregate-read-frame
-    read-frame-requires
-    slice-aggregate-few-of
-    few-of-requires
+    four-requires
+    cast-end
+    add-end
+    slice-aggregate-few-whole
+    few-whole-requires
     same-length
-    returns)
+    returns
+    few-slow-requires
+    same-length-2
+    returns-2)
