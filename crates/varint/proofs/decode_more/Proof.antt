@@ -2,56 +2,17 @@
 -- add up to `sum`, which is below sixteen times what the next byte counts in. The shift goes up by seven for each byte. Each `return` is the
 -- invariant and a law for the next byte.
 -- Assumes nothing.
-use Prim.Native.Nat.{ℕ, suc, _+_, _-_, _*_, _%_, _≤_, _<_, _^_}
-use mathlib.Core.List.{List}
+use Prim.Native.Nat.{ℕ, _+_, _-_, _*_, _≤_, _<_, _^_}
 use mathlib.Core.Path.{_≡_, refl, sym, ap, _∙_}
 use native.Mathlib.Omega.{arith}
-use native.Mathlib.Nat.{mul-le-mul-right}
-use native.Mathlib.Numerals.{add-one}
 use lib.ListN.{length, drop, getD, drop-of-length-le}
-use lib.Pow.{pow-add, pow-mono}
-use lib.Seq.{drop-cons}
 use borrow.Author.Needs.{needs}
-use Rattle.answer.specs.Answer.{done, refused}
-use Rattle.varint.specs.Number.{more, worth}
+use Rattle.varint.specs.Number.{more}
 use Rattle.varint.specs.Promise.{numberRead}
-use Rattle.varint.proofs.Reading.{more-none, more-last, more-on, worth-shift}
+use Rattle.varint.proofs.Reading.{more-none}
+use Rattle.varint.proofs.Next.{fits, next-below, last, on}
 use Rattle.varint.proofs.decode_more.Statement.{statement}
 use Rattle.varint.proofs.decode_more.Tie as tie
-
--- What the next byte does to the sum, in the code's terms: its shift, and its `used + 1`.
-module _ (s : List ℕ) (sum used shift : ℕ) (here : used < length s) (e : shift + 3 ≡ 7 * used) (early : used < 9) (small : getD s used 0 < 256) (below : sum < 16 * 2 ^ shift) where
-  abbrev byte : ℕ
-  byte = getD s used 0
-
-  abbrev addend : ℕ
-  addend = (byte * 2 ^ shift) % 2 ^ 64
-
-  addend-worth : addend ≡ worth used byte
-  addend-worth = ap (λ (k : ℕ). (byte * 2 ^ k) % 2 ^ 64) (omega arith) ∙ worth-shift used byte early small
-
-  addend-whole : addend ≡ byte * 2 ^ shift
-  addend-whole = addend-worth ∙ ap (λ (k : ℕ). byte * 2 ^ k) (omega arith)
-
-  -- a byte of eight bits, of what is counted in
-  byte-below : byte * 2 ^ shift ≤ 256 * 2 ^ shift
-  byte-below = mul-le-mul-right (2 ^ shift) (omega arith)
-
-  fits : sum + addend < 2 ^ 64
-  fits = omega (arith, addend-whole, byte-below, pow-mono {i = shift} {j = 53} (omega arith))
-
-  next-below : sum + addend < 16 * 2 ^ (shift + 7)
-  next-below = omega (arith, addend-whole, byte-below, pow-add 2 shift 7)
-
-  last : byte < 128 → more sum used (drop used s) ≡ done (sum + addend) (used + 1)
-  last l =
-      rw (add-one, addend-worth, drop-cons s used 0 here)
-      (more-last sum used byte (λ k. absurd (omega arith)) (rw addend-worth at fits) l (drop (suc used) s))
-
-  on : 128 ≤ byte → more sum used (drop used s) ≡ more (sum + addend) (used + 1) (drop (used + 1) s)
-  on l =
-      rw (add-one, addend-worth, drop-cons s used 0 here)
-      (more-on sum used byte (λ k. absurd (omega arith)) (rw addend-worth at fits) l (drop (suc used) s))
 
 abbrev Inv-loop : tie.InvT-loop
 Inv-loop first input sum₀ used₀ shift₀ sum used shift =
