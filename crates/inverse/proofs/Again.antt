@@ -7,7 +7,7 @@ use Prim.Native.Nat.{ℕ, zero, suc, _+_, _*_, _≤_, _<_}
 use native.Mathlib.Omega.{arith}
 use lib.Dec.{eqb}
 use lib.ListN.{length, take, drop, length-append, drop-of-length-le}
-use borrow.Author.Tests.{le-leb, eq-eqb, ne-eqb, eqb-true, eqb-false}
+use borrow.Author.Tests.{le-leb, ltb-true, eq-eqb, ne-eqb, eqb-true, eqb-false}
 use Rattle.answer.specs.Answer.{done, refused, written}
 use Rattle.answer.specs.Order.{inOrder, first, firstRefused}
 use Rattle.answer.specs.declared.Refusal.{Refusal}
@@ -25,7 +25,7 @@ use Rattle.frame.specs.Records.{messageWidth, messageAt, messageNumbers, pairWi
 use Rattle.frame.proofs.Laws.{four-long}
 use Rattle.parser.specs.declared.Metadata.{Metadata}
 use Rattle.parser.specs.Payload.{Contents}
-use Rattle.parser.specs.Frame.{answered, frameRead}
+use Rattle.parser.specs.Frame.{answered, haproxys, frameRead}
 use Rattle.parser.specs.Inner.{Run}
 use Rattle.parser.specs.Promise.{roomsOf, contentsRead, Fills}
 use Rattle.parser.proofs.Filling.{joined-width}
@@ -42,7 +42,7 @@ use Rattle.inverse.proofs.Plain.{plainPair, wellPair, wellName, WellPai
 use Rattle.inverse.proofs.Pair.{Plain, run-form, run-only, pair-refuses}
 use Rattle.inverse.proofs.Payload.{Distinct, kv-distinct, kv-stands, messages-stand}
 use Rattle.inverse.proofs.Listed.{messages-form, messages-only, Runs, runs-stand, no-stray}
-use Rattle.inverse.proofs.Head.{payload-same, Accepted, frame-accepted}
+use Rattle.inverse.proofs.Head.{kinds-below, payload-same, Accepted, frame-accepted}
 
 -- 15 is a refusal
 fifteen : _≡_ {A = ℕ} 15 0 → ⊥
@@ -98,7 +98,7 @@ module _ (limit : ℕ) (s oldMessages newMessages oldPairs newPairs : List ℕ) 
   abbrev total : ℕ
   total = length (c .pairs)
 
-  x : Accepted limit (roomsOf oldMessages oldPairs) s m c used
+  x : Accepted (haproxys (roomsOf oldMessages oldPairs)) limit s m c used
   x = frame-accepted limit (roomsOf oldMessages oldPairs) s m c used small e
 
   held : Held (length f) c
@@ -175,7 +175,7 @@ module _ (limit : ℕ) (s oldMessages newMessages oldPairs newPairs : List ℕ) 
         (λ u. absurd (kv (by-elimination (eqb-false (m .kind) 1 t) (eqb-false (m .kind) 2 u)))))
       where
         by-elimination : (m .kind ≡ 1 → ⊥) → (m .kind ≡ 2 → ⊥) → m .kind ≡ 3
-        by-elimination a b = omega (arith, x .kinds)
+        by-elimination a b = omega (arith, kinds-below (m .kind) (x .known) (ltb-true (m .kind) 101 (x .sent)))
 
     fresh : (i : ℕ) → i < total → some (sameKey f (pairAt newPairs i)) (records (pairAt newPairs) 0 i) ≡ false
     fresh i l =

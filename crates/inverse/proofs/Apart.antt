@@ -25,7 +25,7 @@ use Rattle.frame.proofs.Meaning.{pairMeaning, messageMeaning}
 use Rattle.parser.specs.declared.Rooms.{Rooms}
 use Rattle.parser.specs.declared.Metadata.{Metadata}
 use Rattle.parser.specs.Payload.{Contents}
-use Rattle.parser.specs.Frame.{answered, frameRead}
+use Rattle.parser.specs.Frame.{answered, haproxys, frameRead}
 use Rattle.parser.proofs.Frames.{length-map}
 use Rattle.records.specs.Inner.{Laid}
 use Rattle.listing.proofs.Accepted.{Each}
@@ -114,7 +114,7 @@ module _ (limit : ℕ) (rooms : Rooms) (s : List ℕ) (m : Metadata) (c : Conten
   abbrev f : List ℕ
   f = take used s
 
-  x : Accepted limit rooms s m c used
+  x : Accepted (haproxys rooms) limit s m c used
   x = frame-accepted limit rooms s m c used small e
 
   over : drop used f ≡ []

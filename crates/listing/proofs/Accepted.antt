@@ -80,7 +80,7 @@ whole-moved k n p h =
 named-moved : (k n : ℕ) (m : Message) → Named n m → Named (k + n) (movedMessage k m)
 named-moved k n m h = omega arith
 
-held-moved : (k n : ℕ) (c : Contents) → Held n c → Held (k + n) (movedContents k c)
+pub held-moved : (k n : ℕ) (c : Contents) → Held n c → Held (k + n) (movedContents k c)
 held-moved k n c h =
     record {
       messages = each-map (Named n) (Named (k + n)) (movedMessage k) (named-moved k n) (c .messages) (h .messages);
@@ -113,7 +113,7 @@ pair-read s p used e = by-key (string s) refl
     by-key (done (span start len) u) key = by-value start len u key (typed (drop u s)) refl
     by-key (refused n place) r = not-both e (pair-key s n place r)
 
-pair-there : (s : List ℕ) (at : ℕ) (p : Pair) (end : ℕ) → at ≤ length s → pairFrom at s ≡ done p end → Whole (length s) p
+pub pair-there : (s : List ℕ) (at : ℕ) (p : Pair) (end : ℕ) → at ≤ length s → pairFrom at s ≡ done p end → Whole (length s) p
 pair-there s at p end h e = by-pair (pair (drop at s)) refl
   where
     all : at + length (drop at s) ≡ length s
@@ -165,7 +165,7 @@ module _ (kv : Bool) (rooms : Rooms) (s : List ℕ) where
       (λ m. let o = end-held at c d end l (rw (le-ltb at (length s) m) at e) in (o .0, omega (arith, o .1)))
       (lt-or-le at (length s))
 
-  payload-held : (c : Contents) (end : ℕ) → payload kv rooms s ≡ done c end → Held (length s) c × (end ≡ length s)
+  pub payload-held : (c : Contents) (end : ℕ) → payload kv rooms s ≡ done c end → Held (length s) c × (end ≡ length s)
   unfolding payload
   payload-held c end e =
       to-end-held (length s) 0 (record { messages = []; pairs = []; left = 0 }) c end (omega arith) (omega arith) (record { messages = tt; pairs = tt }) e
