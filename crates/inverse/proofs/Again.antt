@@ -45,7 +45,7 @@ use Rattle.inverse.proofs.Listed.{messages-form, messages-only, Runs, r
 use Rattle.inverse.proofs.Head.{kinds-below, payload-same, Accepted, frame-accepted}
 
 -- 15 is a refusal
-fifteen : _≡_ {A = ℕ} 15 0 → ⊥
+pub fifteen : _≡_ {A = ℕ} 15 0 → ⊥
 fifteen z = omega arith
 
 -- ---- by index
@@ -75,7 +75,7 @@ frame-long : (h : Head) (p : List ℕ) → length (frameBytes h p) ≡ 4 + lengt
 unfolding frameBytes
 frame-long h p = length-append (fourBytes (length (headBytes h ++ p))) (headBytes h ++ p) ∙ ap (λ (n : ℕ). n + length (headBytes h ++ p)) (four-long (length (headBytes h ++ p)))
 
-limited-whole : (limit : ℕ) (h : Head) (p f : List ℕ) → frameBytes h p ≡ f → length f ≤ 4 + limit → limited limit h p ≡ written f
+pub limited-whole : (limit : ℕ) (h : Head) (p f : List ℕ) → frameBytes h p ≡ f → length f ≤ 4 + limit → limited limit h p ≡ written f
 unfolding limited inOrder
 limited-whole limit h p f is l =
     let fits : length (headBytes h ++ p) ≤ limit = omega (arith, frame-long h p, ap length is) in

@@ -2,10 +2,13 @@
 pub mod Plain
 pub mod Value
 pub mod Pair
+pub mod Action
+pub mod Actions
 pub mod Payload
 pub mod Listed
 pub mod Head
 pub mod Again
+pub mod Ack
 pub mod Apart
 pub mod Inverse
 pub mod Examples
