@@ -230,6 +230,10 @@ module _ {A : Type 0} (x : Entry A) (all : (kind : ℕ) (p : List ℕ) (c : A) (
       let n : 4 + fourNumber s ≡ used = omega (arith, o .long, length-take-le (4 + fourNumber s) s w) in
       record { four = omega arith; there = omega arith; says = sym n; fits = l; holds = subst (λ (k : ℕ). Held (take k s) m c used) n o })
 
+  -- Law: of the bytes that a frame was read from, it takes some that are there.
+  pub entry-there : (limit : ℕ) (s : List ℕ) (m : Metadata) (c : A) (used : ℕ) → front x limit s ≡ answered (done (m, c) used) → used ≤ length s
+  entry-there limit s m c used e = front-cut limit s m c used e .there
+
   module _ (limit : ℕ) (s : List ℕ) (m : Metadata) (c : A) (used : ℕ) (small : Bytes (take used s)) (e : front x limit s ≡ answered (done (m, c) used)) where
     abbrev f : List ℕ
     f = take used s
@@ -270,10 +274,6 @@ module _ {A : Type 0} (x : Entry A) (all : (kind : ℕ) (p : List ℕ) (c : A) (
           moved = h .moved;
           ends = h .sum;
         }
-
-    -- of its bytes it takes those that are there
-    pub entry-there : used ≤ length s
-    entry-there = o .there
 
 -- Law: so is every frame that HAProxy sends.
 pub frame-accepted : (limit : ℕ) (rooms : Rooms) (s : List ℕ) (m : Metadata) (c : Contents) (used : ℕ) → Bytes (take used s)

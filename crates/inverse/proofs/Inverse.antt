@@ -41,18 +41,18 @@ use Rattle.inverse.proofs.Again.{kv-inverse, kv-refuses, kv-differs, no
 
 -- A call that is to write f, with room for it; one that is refused; and one that is to write another frame.
 module _ {a : Answer (List ℕ)} {out : Written} {old new : List ℕ} (p : Writes (within (length old) a) out old new) where
-  caller-written : (f : List ℕ) (n : ℕ) → length f ≡ n → a ≡ written f → n ≤ length old → (out ≡ w.Done n) × (new ≡ f ++ drop n old)
+  pub caller-written : (f : List ℕ) (n : ℕ) → length f ≡ n → a ≡ written f → n ≤ length old → (out ≡ w.Done n) × (new ≡ f ++ drop n old)
   caller-written f n long is room =
       let fits = le-leb (length f) (length old) (omega arith) in
       (said-same out (w.Done n) (rw (is, fits) at (p .says) ∙ ap (done tt) long), rw (is, fits) at (p .holds) ∙ ap (λ (k : ℕ). f ++ drop k old) long)
 
-  caller-refused : (number place : ℕ) → a ≡ refused number place → (out ≡ w.Refused (record { number = number; place = place })) × (new ≡ old)
+  pub caller-refused : (number place : ℕ) → a ≡ refused number place → (out ≡ w.Refused (record { number = number; place = place })) × (new ≡ old)
   caller-refused number place is = (said-same out (w.Refused (record { number = number; place = place })) (rw is at (p .says)), rw is at (p .holds))
 
   caller-done : (n : ℕ) → out ≡ w.Done n → (number place : ℕ) → a ≡ refused number place → ⊥
   caller-done n is number place e = not-both {x = done tt n} refl (sym (ap said is) ∙ rw e at (p .says))
 
-  caller-other : (limit : ℕ) (h : Head) (q f : List ℕ) → a ≡ limited limit h q → (frameBytes h q ≡ f → ⊥) → (n : ℕ) → out ≡ w.Done n → take n new ≡ f → ⊥
+  pub caller-other : (limit : ℕ) (h : Head) (q f : List ℕ) → a ≡ limited limit h q → (frameBytes h q ≡ f → ⊥) → (n : ℕ) → out ≡ w.Done n → take n new ≡ f → ⊥
   unfolding limited inOrder
   caller-other limit h q f is other n told same =
       bool-cases (leb (length (headBytes h ++ q)) limit)
@@ -62,11 +62,11 @@ module _ {a : Answer (List ℕ)} {out : Written} {old new : List ℕ} (p : Write
       (λ t. caller-done n told 12 0 (is ∙ rw t))
 
 -- an answer does not tell of both
-done-refused : {out : Written} {n : ℕ} {r : Refusal} → out ≡ w.Done n → out ≡ w.Refused r → ⊥
+pub done-refused : {out : Written} {n : ℕ} {r : Refusal} → out ≡ w.Done n → out ≡ w.Refused r → ⊥
 done-refused e g = let z : _≡_ {A = ℕ} 0 1 = cc in omega arith
 
 -- so many tests hold, or there is the first that does not
-first-or-all : (test : ℕ → Bool) (n : ℕ)
+pub first-or-all : (test : ℕ → Bool) (n : ℕ)
     → ((i : ℕ) → i < n → test i ≡ true) ⊎ ((i : ℕ) × (i < n) × (test i ≡ false) × ((k : ℕ) → k < i → test k ≡ true))
 first-or-all test zero = inl (λ i l. absurd (omega arith))
 first-or-all test (suc n) =

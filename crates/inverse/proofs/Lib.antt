@@ -11,4 +11,5 @@ pub mod Again
 pub mod Ack
 pub mod Apart
 pub mod Inverse
+pub mod Agents
 pub mod Examples
