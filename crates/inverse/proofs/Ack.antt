@@ -33,7 +33,7 @@ use Rattle.writer.proofs.Answers.{actions-list, list-refused, list-passed}
 use Rattle.inverse.proofs.Plain.{plainAction, wellAction, WellActions, PlainActions}
 use Rattle.inverse.proofs.Actions.{ActionRun, actions-stand, of-actions, sent-all, PlainOf, Refuses, actions-form, actions-only, actions-refuse, table-actions}
 use Rattle.inverse.proofs.Head.{payload-same, Accepted, entry-accepted}
-use Rattle.inverse.proofs.Again.{fifteen, each-of, limited-whole}
+use Rattle.inverse.proofs.Kv.{fifteen, each-of, limited-whole}
 
 -- ---- an accepted frame, and the tables that the reader left
 

@@ -31,11 +31,12 @@ use Rattle.parser.specs.Frame.{answered, frameRead}
 use Rattle.parser.specs.Promise.{Counts, countsOf, frameSaid, roomsOf, ReadFrame}
 use Rattle.parser.proofs.Entries.{said-done}
 use Rattle.listing.proofs.Accepted.{frame-used}
-use Rattle.writer.specs.Frame.{limited, headOf, kvAnswer, notifyAnswer}
+use Rattle.writer.specs.Frame.{limited, headOf, kvAllowed, kvAnswer, notifyAnswer}
 use Rattle.writer.specs.Promise.{WriteKv, WriteNotify}
 use Rattle.inverse.proofs.Plain.{plainPair, wellPair, wellName, WellPairs, WellNames, PlainPairs}
 use Rattle.inverse.proofs.Head.{frame-accepted}
-use Rattle.inverse.proofs.Again.{kv-inverse, kv-refuses, kv-differs, notify-inverse, notify-refuses-name, notify-refuses-pair, notify-differs}
+use Rattle.inverse.proofs.Kv.{Kv, list-written, list-ill, list-differs}
+use Rattle.inverse.proofs.Again.{kv-listed, kv-may, notify-inverse, notify-refuses-name, notify-refuses-pair, notify-differs}
 
 -- ---- what a writer's caller learns
 
@@ -119,11 +120,17 @@ module _ (limit : ℕ) (s : List ℕ) (small : Bytes s) (r : FrameRead) (oldMess
     listed : kvAnswer head limit f newPairs total ≡ kvAnswer head limit f newPairs (length (c .pairs))
     listed = ap (kvAnswer head limit f newPairs) (sym pair-count)
 
+    x : Kv limit f head newPairs (c .pairs)
+    x = kv-listed limit s oldMessages newMessages oldPairs newPairs m c used bytes (found .1) (reads .fills) kv
+
+    may : kvAllowed head ≡ true
+    may = kv-may limit s oldMessages newMessages oldPairs newPairs m c used bytes (found .1) (reads .fills) kv
+
     -- Law: with room for the frame, where all texts are UTF-8 and all values plain, exactly the frame's bytes are written.
     pub kv-back : WellPairs f newPairs total → PlainPairs f newPairs total → used ≤ length old → (out ≡ w.Done used) × (new ≡ f ++ drop used old)
     kv-back ws ps room =
         caller-written writes f used long
-        (listed ∙ kv-inverse limit s oldMessages newMessages oldPairs newPairs m c used bytes (found .1) (reads .fills) kv (rw (sym pair-count) at ws) (rw (sym pair-count) at ps))
+        (listed ∙ list-written limit f bytes head newPairs (c .pairs) x may (rw (sym pair-count) at ws) (rw (sym pair-count) at ps))
         room
 
     -- Law: where a pair has a text that is not UTF-8, and none before it has, it is 15 with the pair's index, and no byte is written.
@@ -131,12 +138,12 @@ module _ (limit : ℕ) (s : List ℕ) (small : Bytes s) (r : FrameRead) (oldMess
         → (out ≡ w.Refused (record { number = 15; place = i })) × (new ≡ old)
     kv-text i l ill ws =
         caller-refused writes 15 i
-        (listed ∙ kv-refuses limit s oldMessages newMessages oldPairs newPairs m c used bytes (found .1) (reads .fills) kv i (rw (sym pair-count) at l) ill ws)
+        (listed ∙ list-ill limit f bytes head newPairs (c .pairs) x may i (rw (sym pair-count) at l) ill ws)
 
     -- Law: where all texts are UTF-8 and a value is not plain, what is written, if anything is, is another frame.
     pub kv-other : WellPairs f newPairs total → (i : ℕ) → i < total → plainPair f (pairAt newPairs i) ≡ false → (n : ℕ) → out ≡ w.Done n → take n new ≡ f → ⊥
     kv-other ws i l differs n =
-        let d = kv-differs limit s oldMessages newMessages oldPairs newPairs m c used bytes (found .1) (reads .fills) kv (rw (sym pair-count) at ws) i (rw (sym pair-count) at l) differs in
+        let d = list-differs limit f bytes head newPairs (c .pairs) x may (rw (sym pair-count) at ws) i (rw (sym pair-count) at l) differs in
         caller-other writes limit head _ f (listed ∙ d .0) (d .1) n
 
     -- Law: so the frame's bytes are written only where all texts are UTF-8 and all values plain.
