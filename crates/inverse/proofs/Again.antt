@@ -90,7 +90,6 @@ module _ (limit : ℕ) (s oldMessages newMessages oldPairs newPairs : List ℕ) 
         let ends : x .start + x .end ≡ length f = x .ends ∙ sym (x .long) in
         record {
           start = x .start;
-          there = x .there;
           form = x .form;
           fits = omega (arith, x .long, x .fits);
           hold = table .0;

@@ -26,7 +26,7 @@ use Rattle.writer.specs.Promise.{WriteActions}
 use Rattle.inverse.proofs.Plain.{plainAction, wellAction, WellActions, PlainActions}
 use Rattle.inverse.proofs.Actions.{sent-all}
 use Rattle.inverse.proofs.Head.{entry-there}
-use Rattle.inverse.proofs.Ack.{ack-inverse, ack-refuses, ack-differs}
+use Rattle.inverse.proofs.Sent.{ack-inverse, ack-refuses, ack-differs}
 use Rattle.inverse.proofs.Inverse.{caller-written, caller-refused, caller-other, done-refused, first-or-all}
 
 -- ---- a frame that `read_agent_frame` accepted

@@ -66,6 +66,15 @@ kinds-below k t h =
     true-false t
     (rw (a, b, c, ne-eqb k 101 (λ e. omega arith), ne-eqb k 102 (λ e. omega arith), ne-eqb k 103 (λ e. omega arith))))))
 
+-- and one from 101 on that is neither 101 nor 102 is 103
+pub kinds-above : (k : ℕ) → some (eqb k) frameTypes ≡ true → 101 ≤ k → (k ≡ 101 → ⊥) → (k ≡ 102 → ⊥) → k ≡ 103
+unfolding some
+kinds-above k t h a b =
+    bool-cases (eqb k 103) (λ c. eqb-true k 103 c)
+    (λ c.
+    true-false t
+    (rw (c, ne-eqb k 1 (λ e. omega arith), ne-eqb k 2 (λ e. omega arith), ne-eqb k 3 (λ e. omega arith), ne-eqb k 101 a, ne-eqb k 102 b)))
+
 -- Where the parts of accepted metadata stand.
 record Parts (agents : Bool) (f : List ℕ) (m : Metadata) (start : ℕ) : Type 0 where
   long : 9 ≤ length f

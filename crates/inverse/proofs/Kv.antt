@@ -97,16 +97,15 @@ module _ (f pairs : List ℕ) (ps : List Pair) (hold : records (pairAt pairs) 0 
   pair-ill i l w = pair-says i l ∙ rw w
 
 -- pairs that stand one behind the other lie in the bytes
-run-whole : (f : List ℕ) (at : ℕ) (ps : List Pair) (end : ℕ) → at ≤ length f → Run f at ps end → Each (Whole (length f)) ps
-run-whole f at [] end h r = tt
-run-whole f at (p ∷ ps) end h r = (pair-there f at p (r .0) h (r .1), run-whole f (r .0) ps end (omega (arith, from-next f at p (r .0) (r .1))) (r .2))
+run-whole : (f : List ℕ) (at : ℕ) (ps : List Pair) (end : ℕ) → Run f at ps end → Each (Whole (length f)) ps
+run-whole f at [] end r = tt
+run-whole f at (p ∷ ps) end r = (pair-there f at p (r .0) (from-next f at p (r .0) (r .1) .1) (r .1), run-whole f (r .0) ps end (r .2))
 
 -- ---- a KV list in a frame
 
 -- An accepted frame with these pairs, and the table that a reader left of them.
 pub record Kv (limit : ℕ) (f : List ℕ) (h : Head) (pairs : List ℕ) (ps : List Pair) : Type 0 where
   pub start : ℕ
-  pub there : start ≤ length f
   pub form : f ≡ frameBytes h (drop start f)
   pub fits : length f ≤ 4 + limit
   pub hold : records (pairAt pairs) 0 (length ps) ≡ ps
@@ -126,7 +125,7 @@ module _ (limit : ℕ) (f : List ℕ) (small : Bytes f) (h : Head) (pairs : List
   total = length ps
 
   whole : Each (Whole (length f)) ps
-  whole = run-whole f (x .start) ps (length f) (x .there) (x .run)
+  whole = run-whole f (x .start) ps (length f) (x .run)
 
   -- behind the frame there is nothing
   over : drop (length f) f ≡ []

@@ -9,7 +9,7 @@ pub mod Listed
 pub mod Head
 pub mod Kv
 pub mod Again
-pub mod Ack
+pub mod Sent
 pub mod Apart
 pub mod Inverse
 pub mod Agents
