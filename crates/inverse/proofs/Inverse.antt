@@ -67,7 +67,7 @@ pub done-refused : {out : Written} {n : ℕ} {r : Refusal} → out ≡ w.Done n 
 done-refused e g = let z : _≡_ {A = ℕ} 0 1 = cc in omega arith
 
 -- so many tests hold, or there is the first that does not
-pub first-or-all : (test : ℕ → Bool) (n : ℕ)
+first-or-all : (test : ℕ → Bool) (n : ℕ)
     → ((i : ℕ) → i < n → test i ≡ true) ⊎ ((i : ℕ) × (i < n) × (test i ≡ false) × ((k : ℕ) → k < i → test k ≡ true))
 first-or-all test zero = inl (λ i l. absurd (omega arith))
 first-or-all test (suc n) =
@@ -78,6 +78,17 @@ first-or-all test (suc n) =
     (λ t. inr (n, omega arith, t, all)))
     (λ x. inr (x .0, omega (arith, x .1), x .2, x .3))
     (first-or-all test n)
+
+-- where neither the first ill one nor one that differs can be, all are well and plain
+pub all-both : (well plain : ℕ → Bool) (n : ℕ)
+    → ((i : ℕ) → i < n → well i ≡ false → ((k : ℕ) → k < i → well k ≡ true) → ⊥)
+    → (((i : ℕ) → i < n → well i ≡ true) → (i : ℕ) → i < n → plain i ≡ false → ⊥)
+    → ((i : ℕ) → i < n → well i ≡ true) × ((i : ℕ) → i < n → plain i ≡ true)
+all-both well plain n ill differs =
+    ⊎-elim
+    (λ ws. ⊎-elim (λ ps. (ws, ps)) (λ y. absurd (differs ws (y .0) (y .1) (y .2))) (first-or-all plain n))
+    (λ y. absurd (ill (y .0) (y .1) (y .2) (y .3)))
+    (first-or-all well n)
 
 -- ---- a frame that `read_frame` accepted
 
@@ -149,14 +160,9 @@ module _ (limit : ℕ) (s : List ℕ) (small : Bytes s) (r : FrameRead) (oldMess
     -- Law: so the frame's bytes are written only where all texts are UTF-8 and all values plain.
     pub kv-only : (n : ℕ) → out ≡ w.Done n → take n new ≡ f → WellPairs f newPairs total × PlainPairs f newPairs total
     kv-only n so same =
-        ⊎-elim
-        (λ ws.
-        ⊎-elim
-        (λ ps. (ws, ps))
-        (λ y. absurd (kv-other ws (y .0) (y .1) (y .2) n so same))
-        (first-or-all (λ (i : ℕ). plainPair f (pairAt newPairs i)) total))
-        (λ y. absurd (done-refused so (kv-text (y .0) (y .1) (y .2) (y .3) .0)))
-        (first-or-all (λ (i : ℕ). wellPair f (pairAt newPairs i)) total)
+        all-both (λ (i : ℕ). wellPair f (pairAt newPairs i)) (λ (i : ℕ). plainPair f (pairAt newPairs i)) total
+        (λ i l ill ws. done-refused so (kv-text i l ill ws .0))
+        (λ ws i l differs. kv-other ws i l differs n so same)
 
   -- ---- of type 3
 
@@ -203,13 +209,9 @@ module _ (limit : ℕ) (s : List ℕ) (small : Bytes s) (r : FrameRead) (oldMess
     notify-only n so same =
         ⊎-elim
         (λ ns.
-        ⊎-elim
-        (λ ws.
-        ⊎-elim
-        (λ ps. (ns, ws, ps))
-        (λ y. absurd (notify-other ns ws (y .0) (y .1) (y .2) n so same))
-        (first-or-all (λ (i : ℕ). plainPair f (pairAt newPairs i)) total))
-        (λ y. absurd (done-refused so (notify-text ns (y .0) (y .1) (y .2) (y .3) .0)))
-        (first-or-all (λ (i : ℕ). wellPair f (pairAt newPairs i)) total))
+        let o = all-both (λ (i : ℕ). wellPair f (pairAt newPairs i)) (λ (i : ℕ). plainPair f (pairAt newPairs i)) total
+        (λ i l ill ws. done-refused so (notify-text ns i l ill ws .0))
+        (λ ws i l differs. notify-other ns ws i l differs n so same) in
+        (ns, o .0, o .1))
         (λ y. absurd (done-refused so (notify-name (y .0) (y .1) (y .2) (y .3) .0)))
         (first-or-all (λ (i : ℕ). wellName f (messageAt newMessages i)) rows)
