@@ -23,6 +23,7 @@ use Rattle.parser.specs.declared.Rooms.{Rooms}
 use Rattle.parser.specs.Pair.{movedPair}
 use Rattle.parser.specs.Payload.{Contents, payload}
 use Rattle.parser.specs.Frame.{answered}
+use Rattle.parser.specs.Inner.{Run}
 use Rattle.parser.proofs.Filling.{joined-width}
 use Rattle.agent.specs.Action.{actions}
 use Rattle.agent.specs.Frame.{Sent, agents}
@@ -36,10 +37,32 @@ use Rattle.writer.proofs.Answers.{kv-agent-hello, kv-agent-disconnect, actions-
 use Rattle.inverse.proofs.Plain.{plainAction, wellAction, WellActions, PlainActions}
 use Rattle.inverse.proofs.Actions.{ActionRun, actions-stand, of-actions, of-pairs, sent-all, PlainOf, Refuses, actions-form, actions-only, actions-refuse, table-actions}
 use Rattle.inverse.proofs.Head.{kinds-above, payload-same, Accepted, entry-accepted}
-use Rattle.inverse.proofs.Payload.{kv-distinct, kv-stands}
+use Rattle.inverse.proofs.Payload.{Distinct, kv-distinct, kv-stands}
 use Rattle.inverse.proofs.Kv.{fifteen, each-of, limited-whole, Kv, table-in}
 
--- ---- an accepted frame, and the tables that the reader left
+-- ---- an accepted frame
+
+module _ (pairs room limit : ℕ) (s : List ℕ) (m : Metadata) (c : Sent) (used : ℕ) (x : Accepted (agents pairs room) limit s m c used) where
+  ends : x .start + x .end ≡ length (take used s)
+  ends = x .ends ∙ sym (x .long)
+
+  -- Law: its pairs stand one behind the other up to its end, and no key is met twice; and so do an ACK's actions.
+  pub sent-run : (m .kind ≡ 103 → ⊥) → Run (take used s) (x .start) (c .pairs) (length (take used s)) × Distinct (take used s) [] (c .pairs)
+  sent-run kv =
+      let f = take used s in
+      let rooms : Rooms = record { messages = 0; pairs = pairs } in
+      let o = of-pairs (payload true rooms (drop (x .start) f)) (x .contents) (x .end) (rw (ne-eqb (m .kind) 103 kv) at (x .read)) in
+      let same : map (movedPair (x .start)) (o .0 .pairs) ≡ c .pairs = ap (map (movedPair (x .start))) (o .2) ∙ ap (λ (d : Sent). d .pairs) (x .moved) in
+      (rw (same, ends) at (kv-stands rooms f (x .start) (o .0) (x .end) (o .1)), rw same at (kv-distinct rooms f (x .start) (o .0) (x .end) (o .1)))
+
+  pub sent-actions : m .kind ≡ 103 → ActionRun (take used s) (x .start) (c .actions) (length (take used s))
+  sent-actions ack =
+      let f = take used s in
+      let o = of-actions (actions room (drop (x .start) f)) (x .contents) (x .end) (rw (eq-eqb (m .kind) 103 ack) at (x .read)) in
+      let same = ap (λ (d : Sent). d .actions) (x .moved) in
+      rw (same, ends) at (actions-stand room f (x .start) (x .contents .actions) (x .end) (o .0))
+
+-- ---- and the tables that the reader left
 
 module _ (limit : ℕ) (s oldPairs newPairs oldActions newActions : List ℕ) (m : Metadata) (c : Sent) (used : ℕ) (small : Bytes (take used s))
     (e : readInto oldPairs oldActions limit s ≡ answered (done (m, c) used))
@@ -63,16 +86,9 @@ module _ (limit : ℕ) (s oldPairs newPairs oldActions newActions : List ℕ) (m
 
   -- their pairs and the table that holds them, and what of their head may be written
   module _ (kv : m .kind ≡ 103 → ⊥) where
-    abbrev rooms : Rooms
-    rooms = record { messages = 0; pairs = length oldPairs / pairWidth }
-
-    inner : (d : Contents) × (payload true rooms (drop (x .start) f) ≡ done d (x .end)) × (d .pairs ≡ x .contents .pairs)
-    inner = of-pairs (payload true rooms (drop (x .start) f)) (x .contents) (x .end) (rw (ne-eqb (m .kind) 103 kv) at (x .read))
-
     pub sent-listed : Kv limit f h newPairs (c .pairs)
     sent-listed =
-        let same : map (movedPair (x .start)) (inner .0 .pairs) ≡ c .pairs = ap (map (movedPair (x .start))) (inner .2) ∙ ap (λ (d : Sent). d .pairs) (x .moved) in
-        let ends : x .start + x .end ≡ length f = x .ends ∙ sym (x .long) in
+        let o = sent-run (length oldPairs / pairWidth) room limit s m c used x kv in
         let table = table-in (c .pairs) newPairs _ (rw e at (fills .pairs)) in
         record {
           start = x .start;
@@ -80,8 +96,8 @@ module _ (limit : ℕ) (s oldPairs newPairs oldActions newActions : List ℕ) (m
           fits = omega (arith, x .long, x .fits);
           hold = table .0;
           room = table .1;
-          run = rw (same, ends) at (kv-stands rooms f (x .start) (inner .0) (x .end) (inner .1));
-          distinct = rw same at (kv-distinct rooms f (x .start) (inner .0) (x .end) (inner .1));
+          run = o .0;
+          distinct = o .1;
         }
 
     pub sent-may : kvAllowed h ≡ eqb (m .stream) 0 && eqb (m .frame) 0
@@ -106,14 +122,11 @@ module _ (limit : ℕ) (s oldPairs newPairs oldActions newActions : List ℕ) (m
     actions-room =
         omega (arith, ap length (in-actions .1), length-append (joined actionNumbers (c .actions)) (in-actions .0), joined-width actionNumbers actionWidth (λ p. refl) (c .actions))
 
-    over : drop used f ≡ []
-    over = drop-of-length-le f {i = used} (omega (arith, x .long))
+    over : drop (length f) f ≡ []
+    over = drop-of-length-le f {i = length f} (omega arith)
 
-    stand : ActionRun f (x .start) (c .actions) used
-    stand =
-        let o = of-actions (actions room (drop (x .start) f)) (x .contents) (x .end) (rw (eq-eqb (m .kind) 103 ack) at (x .read)) in
-        let same = ap (λ (d : Sent). d .actions) (x .moved) in
-        rw (same, x .ends) at (actions-stand room f (x .start) (x .contents .actions) (x .end) (o .0))
+    stand : ActionRun f (x .start) (c .actions) (length f)
+    stand = sent-actions (length oldPairs / pairWidth) room limit s m c used x ack
 
     each-plain : PlainActions f newActions rows → Each (PlainOf f) (c .actions)
     each-plain p = rw hold-actions at (each-of (PlainOf f) (actionAt newActions) rows 0 (λ i l. let here : 0 + i ≡ i = omega arith in rw here (p i l)))
@@ -125,7 +138,7 @@ module _ (limit : ℕ) (s oldPairs newPairs oldActions newActions : List ℕ) (m
     action-says i l =
         let here : 0 + i ≡ i = omega arith in
         action-number f newActions i
-        ∙ rw here at (each-at (Refuses f) (actionAt newActions) rows 0 (rw hold-actions (actions-refuse f small (x .start) (c .actions) used stand)) i l)
+        ∙ rw here at (each-at (Refuses f) (actionAt newActions) rows 0 (rw hold-actions (actions-refuse f small (x .start) (c .actions) (length f) stand)) i l)
 
     action-well : (i : ℕ) → i < rows → wellAction f (actionAt newActions i) ≡ true → actionRefusal f newActions i ≡ 0
     action-well i l w = action-says i l ∙ rw w
@@ -142,13 +155,13 @@ module _ (limit : ℕ) (s oldPairs newPairs oldActions newActions : List ℕ) (m
     ack-payload : PlainActions f newActions rows → bytes ≡ drop (x .start) f
     ack-payload p =
         let all = joined (actionBytes f) (c .actions) in
-        ack-bytes ∙ sym (actions-form f small (x .start) (c .actions) used stand (each-plain p) ∙ ap (λ (l : List ℕ). all ++ l) over ∙ append-nil all)
+        ack-bytes ∙ sym (actions-form f small (x .start) (c .actions) (length f) stand (each-plain p) ∙ ap (λ (l : List ℕ). all ++ l) over ∙ append-nil all)
 
     ack-plain : frameBytes h bytes ≡ f → PlainActions f newActions rows
     ack-plain is =
         let all = joined (actionBytes f) (c .actions) in
         plain-each
-        (actions-only f small (x .start) (c .actions) used stand [] (append-nil all ∙ sym ack-bytes ∙ payload-same h bytes (drop (x .start) f) (is ∙ x .form)))
+        (actions-only f small (x .start) (c .actions) (length f) stand [] (append-nil all ∙ sym ack-bytes ∙ payload-same h bytes (drop (x .start) f) (is ∙ x .form)))
 
     ack-taken : WellActions f newActions rows → actionsAnswer h limit f newActions rows ≡ limited limit h bytes
     ack-taken w =
