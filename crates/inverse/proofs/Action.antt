@@ -1,40 +1,35 @@
 -- Laws about actions that stand at a place: the bytes from there on are what each is written as, and the rest; of an action exactly where its value, if it has
 -- one, is plain. And what a writer refuses of them.
 use mathlib.Core.Path.{_≡_, refl, sym, ap, ap₂, _∙_}
-use mathlib.Core.Bool.{Bool, true, false, cond, not, _||_}
+use mathlib.Core.Bool.{true, cond, not, _||_}
 use mathlib.Core.Logic.{⊎-elim}
-use mathlib.Core.List.{List, [], _∷_, _++_, map, append-assoc}
-use Prim.Native.Nat.{ℕ, zero, suc, _+_, _≤_, _<_}
+use mathlib.Core.List.{List, [], _∷_, _++_}
+use Prim.Native.Nat.{ℕ, _+_, _≤_}
 use native.Mathlib.Omega.{arith}
 use lib.Dec.{eqb}
 use lib.ListN.{length, drop, getD, length-drop}
 use lib.Seq.{drop-drop}
-use borrow.Author.Tests.{lt-ltb, le-ltb, eq-eqb, eqb-true, eqb-false}
+use borrow.Author.Tests.{eq-eqb, eqb-true, eqb-false}
 use Rattle.answer.specs.Answer.{Answer, done, refused, next, behind}
 use Rattle.answer.specs.Order.{first}
-use Rattle.answer.specs.Table.{joined}
 use Rattle.answer.proofs.Cases.{lt-or-le, bool-cases, true-false, answer-cases, not-both}
-use Rattle.answer.proofs.Records.{joined-none, joined-on}
 use Rattle.varint.proofs.Reading.{Bytes}
-use Rattle.types.specs.Value.{Span, span, string, value, points, shape, inFields, inFlags}
-use Rattle.types.specs.Form.{part, stringBytes}
+use Rattle.types.specs.Value.{Span, span, string, value, shape}
 use Rattle.frame.specs.declared.Pair.{Pair}
 use Rattle.frame.specs.declared.Action.{Action}
 use Rattle.parser.specs.Pair.{pairOf, movedPair, pair, pairFrom}
 use Rattle.parser.specs.Payload.{movedSpan, stringFrom}
-use Rattle.parser.proofs.Pairs.{done-same, moved-twice}
+use Rattle.parser.proofs.Pairs.{done-same}
 use Rattle.parser.proofs.Walk.{string-next}
-use Rattle.agent.specs.Action.{argumentsOf, variable, action, movedAction, actionFrom, oneAction, toEnd, actions}
+use Rattle.agent.specs.Action.{argumentsOf, variable, action, movedAction, actionFrom, actions}
 use Rattle.agent.specs.Inner.{Headed}
-use Rattle.agent.proofs.Actions.{action-none, action-verb, action-short, action-count, action-shorter, action-scope, action-headed, set-is, unset-refused, unset-done, from-next}
-use Rattle.agent.proofs.Lists.{one-says}
+use Rattle.agent.proofs.Actions.{action-none, action-verb, action-short, action-count, action-shorter, action-scope, action-headed, set-is, unset-refused, unset-done}
 use Rattle.walker.proofs.Walking.{from-moved}
-use Rattle.listing.proofs.Accepted.{Each, Whole, pair-there}
-use Rattle.writer.specs.Pair.{pairBytes, pairChecks}
+use Rattle.listing.proofs.Accepted.{Whole, pair-there}
 use Rattle.writer.specs.Action.{actionWritable, actionBytes, actionChecks}
 use Rattle.writer.proofs.Actions.{writable-set, writable-unset, action-pair, set-bytes, unset-bytes}
 use Rattle.inverse.proofs.Plain.{plainPair, plainAction, wellPair}
-use Rattle.inverse.proofs.Pair.{cancel, pair-at-form, pair-at-only, string-at-form, pair-refuses}
+use Rattle.inverse.proofs.Pair.{pair-at-form, pair-at-only, string-at-form, pair-refuses}
 
 -- ---- an action at the front
 

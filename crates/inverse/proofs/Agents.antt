@@ -1,6 +1,6 @@
 -- The same of agents' frames, as the calls promise it: `read_agent_frame` leaves records of an accepted frame of types 101 to 103, and `write_kv` or
 -- `write_actions` is given them, with the frame's own bytes as its buffer and the same limit.
-use mathlib.Core.Path.{_≡_, refl, sym, ap, _∙_}
+use mathlib.Core.Path.{_≡_, sym, ap, _∙_}
 use mathlib.Core.Bool.{true, false, _&&_}
 use mathlib.Core.List.{List, _++_}
 use Prim.Native.Nat.{ℕ, _/_, _≤_, _<_}

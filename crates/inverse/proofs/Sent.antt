@@ -15,13 +15,12 @@ use Rattle.answer.proofs.Cases.{bool-cases, true-false}
 use Rattle.answer.proofs.Order.{none-refused, refused-here}
 use Rattle.varint.proofs.Reading.{Bytes}
 use Rattle.frame.specs.declared.Head.{Head}
-use Rattle.frame.specs.declared.Action.{Action}
 use Rattle.frame.specs.Head.{frameBytes}
 use Rattle.frame.specs.Records.{pairWidth, actionWidth, actionAt, actionNumbers}
 use Rattle.parser.specs.declared.Metadata.{Metadata}
 use Rattle.parser.specs.declared.Rooms.{Rooms}
 use Rattle.parser.specs.Pair.{movedPair}
-use Rattle.parser.specs.Payload.{Contents, payload}
+use Rattle.parser.specs.Payload.{payload}
 use Rattle.parser.specs.Frame.{answered}
 use Rattle.parser.specs.Inner.{Run}
 use Rattle.parser.proofs.Filling.{joined-width}

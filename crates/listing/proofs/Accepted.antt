@@ -80,7 +80,7 @@ whole-moved k n p h =
 named-moved : (k n : ℕ) (m : Message) → Named n m → Named (k + n) (movedMessage k m)
 named-moved k n m h = omega arith
 
-pub held-moved : (k n : ℕ) (c : Contents) → Held n c → Held (k + n) (movedContents k c)
+held-moved : (k n : ℕ) (c : Contents) → Held n c → Held (k + n) (movedContents k c)
 held-moved k n c h =
     record {
       messages = each-map (Named n) (Named (k + n)) (movedMessage k) (named-moved k n) (c .messages) (h .messages);
@@ -165,7 +165,7 @@ module _ (kv : Bool) (rooms : Rooms) (s : List ℕ) where
       (λ m. let o = end-held at c d end l (rw (le-ltb at (length s) m) at e) in (o .0, omega (arith, o .1)))
       (lt-or-le at (length s))
 
-  pub payload-held : (c : Contents) (end : ℕ) → payload kv rooms s ≡ done c end → Held (length s) c × (end ≡ length s)
+  payload-held : (c : Contents) (end : ℕ) → payload kv rooms s ≡ done c end → Held (length s) c × (end ≡ length s)
   unfolding payload
   payload-held c end e =
       to-end-held (length s) 0 (record { messages = []; pairs = []; left = 0 }) c end (omega arith) (omega arith) (record { messages = tt; pairs = tt }) e
