@@ -40,13 +40,23 @@ impl Resent {
     fn checked(&self) -> Result<Option<Seen>, Difference> {
         let [mut pairs, mut actions] = ROOMY.map(|numbers| vec![0; numbers]);
         let (mut head, mut at) = ([0; 6], 0);
-        let number = both::read_agent_frame(&self.input, self.limit, &mut pairs, &mut actions, &mut head, &mut at);
+        let number = both::read_agent_frame(
+            &self.input,
+            self.limit,
+            &mut pairs,
+            &mut actions,
+            &mut head,
+            &mut at,
+        );
         if number != DONE {
             return Ok(None);
         }
         let [kind, flags, stream, id, count, rows] = head;
         let frame = self.input[..at as usize].to_vec();
-        let (pairs, actions) = (&pairs[..count as usize * PAIR_WIDTH], &actions[..rows as usize * ACTION_WIDTH]);
+        let (pairs, actions) = (
+            &pairs[..count as usize * PAIR_WIDTH],
+            &actions[..rows as usize * ACTION_WIDTH],
+        );
         let Ok(told) = Told::of(&frame, true) else {
             return Err(self.difference("what the port accepts is accepted by a plain reading"));
         };
@@ -67,7 +77,9 @@ impl Resent {
         let expected = Wrote::expected(should, self.limit, room);
         if wrote != expected {
             let rows = self.difference("what is written again is what the frame's bytes say");
-            let rows = rows.row("paper", expected.answer).row("", hex(&expected.area));
+            let rows = rows
+                .row("paper", expected.answer)
+                .row("", hex(&expected.area));
             return Err(rows.row("port", wrote.answer).row("", hex(&wrote.area)));
         }
         let Some(meaning) = Meaning::of_sent(head, pairs, actions, &frame) else {
@@ -111,7 +123,11 @@ fn drawn(random: &mut Random) -> Resent {
         4 => random.index(12),
         _ => 4_096,
     };
-    Resent { input, limit, spare }
+    Resent {
+        input,
+        limit,
+        spare,
+    }
 }
 
 /// The frame with one to three bits changed behind its length field.
@@ -154,13 +170,18 @@ pub fn diff(random: &mut Random, rounds: u64) -> Result<String, Difference> {
         }
     }
     if rounds >= ENOUGH {
-        met.same.all("an agent's frame written again as it was", "random")?;
-        met.refused.all("an agent's frame written again, refused", "random")?;
-        met.other.all("an agent's frame written again as another", "random")?;
-        met.twins.all("two frames of agents that are read", "random")?;
+        met.same
+            .all("an agent's frame written again as it was", "random")?;
+        met.refused
+            .all("an agent's frame written again, refused", "random")?;
+        met.other
+            .all("an agent's frame written again as another", "random")?;
+        met.twins
+            .all("two frames of agents that are read", "random")?;
     }
     met.print();
-    let [same, refused, other, twins] = [&met.same, &met.refused, &met.other, &met.twins].map(|counts| counts.inputs);
+    let [same, refused, other, twins] =
+        [&met.same, &met.refused, &met.other, &met.twins].map(|counts| counts.inputs);
     Ok(format!(
         "of agents {same} frames that came out as they went in, {refused} answered 14 or 15, {other} with other bytes, {twins} \
          frames with some bits changed"
@@ -187,7 +208,10 @@ impl Met {
         }
         self.twins.add(&[
             ("both with plain values", other && plain),
-            ("with another value, and read as the same", other && same && !plain),
+            (
+                "with another value, and read as the same",
+                other && same && !plain,
+            ),
         ]);
         Ok(())
     }
@@ -195,7 +219,9 @@ impl Met {
     fn print(&self) {
         println!("frames of agents written again as they were:");
         self.same.print();
-        println!("frames of agents with a text that is not UTF-8 or another id, answered 15 or 14:");
+        println!(
+            "frames of agents with a text that is not UTF-8 or another id, answered 15 or 14:"
+        );
         self.refused.print();
         println!("frames of agents with another value, written as other bytes:");
         self.other.print();
@@ -217,7 +243,10 @@ fn same(call: &Resent, seen: &Seen) -> Vec<Class> {
         ("without a record", told.pairs == 0),
         ("sets and unsets", told.sets > 0 && told.unsets > 0),
         ("flags of a value", told.kept_flags),
-        ("under a limit that is just enough", call.limit as usize + 4 == seen.frame.len()),
+        (
+            "under a limit that is just enough",
+            call.limit as usize + 4 == seen.frame.len(),
+        ),
         ("into an output that is just long enough", call.spare == 0),
         ("with bytes behind it", call.input.len() > seen.frame.len()),
     ]
@@ -233,7 +262,10 @@ fn refused(seen: &Seen) -> Vec<Class> {
         ("a value of a KV list", !ack && text(Text::Value)),
         ("an action's name", ack && text(Text::Key)),
         ("an action's value", ack && text(Text::Value)),
-        ("not the first record", ill.is_some_and(|(index, _)| index > 0)),
+        (
+            "not the first record",
+            ill.is_some_and(|(index, _)| index > 0),
+        ),
     ]
 }
 
