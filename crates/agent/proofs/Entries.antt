@@ -20,11 +20,11 @@ use Rattle.agent.proofs.Unique.{agent-same}
 use Rattle.agent.proofs.Kept.{agent-accepted-kept}
 
 -- how many pairs and actions were sent
-abbrev countsOf : Sent → Counts
+abbrev pub countsOf : Sent → Counts
 countsOf c = (length (c .pairs), length (c .actions))
 
 -- what a frame is that is said to be accepted
-said-done : (x : Reading (Metadata × Sent)) (m : Metadata) (k : Counts) (used : ℕ) → answered (done (m, k) used) ≡ agentTells x
+pub said-done : (x : Reading (Metadata × Sent)) (m : Metadata) (k : Counts) (used : ℕ) → answered (done (m, k) used) ≡ agentTells x
     → (c : Sent) × (x ≡ answered (done (m, c) used)) × (countsOf c ≡ k)
 said-done (wait n) m k used e = wait-answered (sym e)
 said-done (answered (done (m′, c) u)) m k used e =

@@ -1,85 +1,43 @@
--- What a writer answers to the records that the frame reader left of an accepted frame, with the frame's own bytes as its buffer: the frame's bytes, where
--- its texts are UTF-8 and its values plain; 15 at the first record with another text; and else other bytes.
+-- What the writers answer to the records that the frame reader left of an accepted frame, with the frame's own bytes as their buffer: the frame's bytes, where
+-- its texts are UTF-8 and its values plain; 15 at the first record with another text; and else other bytes. Of a KV list it is Kv that says so.
 use mathlib.Core.Path.{_≡_, refl, sym, ap, _∙_}
-use mathlib.Core.Bool.{true, false, cond, not, _||_}
-use mathlib.Core.List.{List, [], _∷_, _++_, append-nil}
-use Prim.Native.Nat.{ℕ, zero, suc, _+_, _*_, _≤_, _<_}
+use mathlib.Core.Bool.{true, false, not, _||_}
+use mathlib.Core.List.{List, [], _++_, append-nil}
+use Prim.Native.Nat.{ℕ, _+_, _*_, _≤_, _<_}
 use native.Mathlib.Omega.{arith}
 use lib.Dec.{eqb}
 use lib.ListN.{length, take, drop, length-append, drop-of-length-le}
-use borrow.Author.Tests.{le-leb, eq-eqb, ne-eqb, eqb-true, eqb-false}
+use borrow.Author.Tests.{le-leb, ltb-true, eq-eqb, ne-eqb, eqb-true, eqb-false}
 use Rattle.answer.specs.Answer.{done, refused, written}
-use Rattle.answer.specs.Order.{inOrder, first, firstRefused}
+use Rattle.answer.specs.Order.{first, firstRefused}
 use Rattle.answer.specs.declared.Refusal.{Refusal}
-use Rattle.answer.specs.Table.{records, joined, some}
+use Rattle.answer.specs.Table.{records, joined}
 use Rattle.answer.proofs.Cases.{bool-cases, true-false}
 use Rattle.answer.proofs.Order.{none-refused, refused-here}
-use Rattle.answer.proofs.Records.{records-none, records-snoc}
 use Rattle.varint.proofs.Reading.{Bytes}
 use Rattle.types.specs.Check.{stringChecks}
 use Rattle.types.proofs.Checking.{string-ill, string-well}
 use Rattle.frame.specs.declared.Head.{Head}
-use Rattle.frame.specs.declared.Pair.{Pair}
-use Rattle.frame.specs.Head.{fourBytes, headBytes, frameBytes}
-use Rattle.frame.specs.Records.{messageWidth, messageAt, messageNumbers, pairWidth, pairAt, pairNumbers, sameKey}
-use Rattle.frame.proofs.Laws.{four-long}
+use Rattle.frame.specs.Head.{frameBytes}
+use Rattle.frame.specs.Records.{messageWidth, messageAt, messageNumbers, pairWidth, pairAt}
 use Rattle.parser.specs.declared.Metadata.{Metadata}
 use Rattle.parser.specs.Payload.{Contents}
-use Rattle.parser.specs.Frame.{answered, frameRead}
-use Rattle.parser.specs.Inner.{Run}
+use Rattle.parser.specs.Frame.{answered, haproxys, frameRead}
 use Rattle.parser.specs.Promise.{roomsOf, contentsRead, Fills}
 use Rattle.parser.proofs.Filling.{joined-width}
 use Rattle.records.specs.Inner.{Laid}
-use Rattle.listing.proofs.Accepted.{Each, Named, Whole, Held, whole-held, frame-used}
-use Rattle.listing.proofs.Tables.{table-messages, table-pairs, each-at}
-use Rattle.writer.specs.Pair.{pairBytes, pairRefusal, kvRefusal}
+use Rattle.listing.proofs.Accepted.{Named, Held, whole-held, frame-used}
+use Rattle.listing.proofs.Tables.{table-messages, each-at}
+use Rattle.writer.specs.Pair.{pairRefusal}
 use Rattle.writer.specs.Message.{messageBytes, runStart, messageRefusal}
-use Rattle.writer.specs.Frame.{headOf, limited, kvAllowed, pairsBytes, kvAnswer, messagesBytes, notifyAnswer}
-use Rattle.writer.proofs.Pairs.{pair-number, kv-own, kv-new}
+use Rattle.writer.specs.Frame.{headOf, limited, kvAllowed, messagesBytes, notifyAnswer}
 use Rattle.writer.proofs.Messages.{message-name, message-number}
-use Rattle.writer.proofs.Answers.{kv-haproxy-hello, kv-haproxy-disconnect, kv-list, list-refused, list-passed, notify-message, notify-pair, notify-passed}
+use Rattle.writer.proofs.Answers.{kv-haproxy-hello, kv-haproxy-disconnect, notify-message, notify-pair, notify-passed}
 use Rattle.inverse.proofs.Plain.{plainPair, wellPair, wellName, WellPairs, WellNames, PlainPairs}
-use Rattle.inverse.proofs.Pair.{Plain, run-form, run-only, pair-refuses}
-use Rattle.inverse.proofs.Payload.{Distinct, kv-distinct, kv-stands, messages-stand}
+use Rattle.inverse.proofs.Payload.{kv-distinct, kv-stands, messages-stand}
 use Rattle.inverse.proofs.Listed.{messages-form, messages-only, Runs, runs-stand, no-stray}
-use Rattle.inverse.proofs.Head.{payload-same, Accepted, frame-accepted}
-
--- 15 is a refusal
-fifteen : _≡_ {A = ℕ} 15 0 → ⊥
-fifteen z = omega arith
-
--- ---- by index
-
-pub each-of : {A : Type 0} (P : A → Type 0) (at : ℕ → A) (n j : ℕ) → ((i : ℕ) → i < n → P (at (j + i))) → Each P (records at j n)
-unfolding records
-each-of P at zero j h = tt
-each-of P at (suc n) j h =
-    let here : j + 0 ≡ j = omega arith in
-    (rw here at (h 0 (omega arith)), each-of P at n (suc j) (λ i l. let on : j + suc i ≡ suc j + i = omega arith in rw on at (h (suc i) (omega arith))))
-
--- pair i of pairs whose keys are met once has a key that none before it has
-distinct-at : (f : List ℕ) (at : ℕ → Pair) (n j : ℕ) → Distinct f (records at 0 j) (records at j n) → (i : ℕ) → i < n → some (sameKey f (at (j + i))) (records at 0 (j + i)) ≡ false
-unfolding records
-distinct-at f at zero j d i h = absurd (omega arith)
-distinct-at f at (suc n) j d zero h = let here : j + 0 ≡ j = omega arith in rw here (d .0)
-distinct-at f at (suc n) j d (suc i) h =
-    let on : j + suc i ≡ suc j + i = omega arith in
-    let one : suc j ≡ j + 1 = omega arith in
-    let more : records at 0 j ++ (at j ∷ []) ≡ records at 0 (suc j) = sym (records-snoc at j) ∙ ap (records at 0) (sym one) in
-    rw on (distinct-at f at n (suc j) (rw more at (d .1)) i (omega arith))
-
--- ---- what a writer answers to bytes within the limit
-
--- a frame's length, and one that is these bytes and within the limit
-frame-long : (h : Head) (p : List ℕ) → length (frameBytes h p) ≡ 4 + length (headBytes h ++ p)
-unfolding frameBytes
-frame-long h p = length-append (fourBytes (length (headBytes h ++ p))) (headBytes h ++ p) ∙ ap (λ (n : ℕ). n + length (headBytes h ++ p)) (four-long (length (headBytes h ++ p)))
-
-limited-whole : (limit : ℕ) (h : Head) (p f : List ℕ) → frameBytes h p ≡ f → length f ≤ 4 + limit → limited limit h p ≡ written f
-unfolding limited inOrder
-limited-whole limit h p f is l =
-    let fits : length (headBytes h ++ p) ≤ limit = omega (arith, frame-long h p, ap length is) in
-    rw (le-leb (length (headBytes h ++ p)) limit fits) (ap written is)
+use Rattle.inverse.proofs.Head.{kinds-below, payload-same, Accepted, frame-accepted}
+use Rattle.inverse.proofs.Kv.{fifteen, limited-whole, each-plain, plain-each, pair-well, pair-ill, Kv, table-in}
 
 -- ---- an accepted frame, and the tables that the reader left
 
@@ -98,27 +56,20 @@ module _ (limit : ℕ) (s oldMessages newMessages oldPairs newPairs : List ℕ) 
   abbrev total : ℕ
   total = length (c .pairs)
 
-  x : Accepted limit (roomsOf oldMessages oldPairs) s m c used
+  x : Accepted (haproxys (roomsOf oldMessages oldPairs)) limit s m c used
   x = frame-accepted limit (roomsOf oldMessages oldPairs) s m c used small e
 
   held : Held (length f) c
   held = whole-held (roomsOf oldMessages oldPairs) f m c used (frame-used limit (roomsOf oldMessages oldPairs) s m c used e .2) .0
 
-  in-pairs : (t : List ℕ) × (newPairs ≡ joined pairNumbers (c .pairs) ++ t)
-  in-pairs = (_, rw e at (fills .pairs))
+  table : (records (pairAt newPairs) 0 total ≡ c .pairs) × (total * pairWidth ≤ length newPairs)
+  table = table-in (c .pairs) newPairs _ (rw e at (fills .pairs))
 
   in-messages : (t : List ℕ) × (newMessages ≡ joined messageNumbers (c .messages) ++ t)
   in-messages = (_, rw e at (fills .messages))
 
-  hold-pairs : records (pairAt newPairs) 0 total ≡ c .pairs
-  hold-pairs = rw (in-pairs .1) (table-pairs (c .pairs) (in-pairs .0))
-
   hold-messages : records (messageAt newMessages) 0 rows ≡ c .messages
   hold-messages = rw (in-messages .1) (table-messages (c .messages) (in-messages .0))
-
-  pairs-room : total * pairWidth ≤ length newPairs
-  pairs-room =
-      omega (arith, ap length (in-pairs .1), length-append (joined pairNumbers (c .pairs)) (in-pairs .0), joined-width pairNumbers pairWidth (λ p. refl) (c .pairs))
 
   messages-room : rows * messageWidth ≤ length newMessages
   messages-room =
@@ -128,45 +79,27 @@ module _ (limit : ℕ) (s oldMessages newMessages oldPairs newPairs : List ℕ) 
   over : drop used f ≡ []
   over = drop-of-length-le f {i = used} (omega (arith, x .long))
 
-  -- ---- its conditions
-
-  each-plain : PlainPairs f newPairs total → Each (Plain f) (c .pairs)
-  each-plain p =
-      rw hold-pairs at (each-of (Plain f) (pairAt newPairs) total 0 (λ i l. let here : 0 + i ≡ i = omega arith in rw here (p i l)))
-
-  plain-each : Each (Plain f) (c .pairs) → PlainPairs f newPairs total
-  plain-each g i l =
-      let here : 0 + i ≡ i = omega arith in rw here at (each-at (Plain f) (pairAt newPairs) total 0 (rw hold-pairs g) i l)
-
-  -- a pair's own checks are its texts'
-  pair-says : (i : ℕ) → i < total → pairRefusal f newPairs i ≡ cond (wellPair f (pairAt newPairs i)) 0 15
-  pair-says i l =
-      let here : 0 + i ≡ i = omega arith in
-      pair-number f newPairs i
-      ∙ pair-refuses f (pairAt newPairs i) (rw here at (each-at (Whole (length f)) (pairAt newPairs) total 0 (rw hold-pairs (held .pairs)) i l))
-
-  pair-well : (i : ℕ) → i < total → wellPair f (pairAt newPairs i) ≡ true → pairRefusal f newPairs i ≡ 0
-  pair-well i l w = pair-says i l ∙ rw w
-
-  pair-ill : (i : ℕ) → i < total → wellPair f (pairAt newPairs i) ≡ false → pairRefusal f newPairs i ≡ 15
-  pair-ill i l w = pair-says i l ∙ rw w
-
   -- ---- KV frames
 
+  -- their pairs and the table that holds them, and that their head may be written
   module _ (kv : m .kind ≡ 3 → ⊥) where
-    is-list : not (eqb (m .kind) 3) ≡ true
-    is-list = rw (ne-eqb (m .kind) 3 kv)
+    pub kv-listed : Kv limit f h newPairs (c .pairs)
+    kv-listed =
+        let is = rw (ap not (ne-eqb (m .kind) 3 kv)) at (x .read) in
+        let same = ap (λ (d : Contents). d .pairs) (x .moved) in
+        let ends : x .start + x .end ≡ length f = x .ends ∙ sym (x .long) in
+        record {
+          start = x .start;
+          form = x .form;
+          fits = omega (arith, x .long, x .fits);
+          hold = table .0;
+          room = table .1;
+          run = rw (same, ends) at (kv-stands (roomsOf oldMessages oldPairs) f (x .start) (x .contents) (x .end) is);
+          distinct = rw same at (kv-distinct (roomsOf oldMessages oldPairs) f (x .start) (x .contents) (x .end) is);
+        }
 
-    stand : Run f (x .start) (c .pairs) used × Distinct f [] (c .pairs)
-    stand =
-        let is = rw is-list at (x .read) in
-        let same = ap (λ (d : Contents). d .pairs) (x .moved) in (
-          rw (same, x .ends) at (kv-stands (roomsOf oldMessages oldPairs) f (x .start) (x .contents) (x .end) is),
-          rw same at (kv-distinct (roomsOf oldMessages oldPairs) f (x .start) (x .contents) (x .end) is),
-        )
-
-    allowed : kvAllowed h ≡ true
-    allowed =
+    pub kv-may : kvAllowed h ≡ true
+    kv-may =
         bool-cases (eqb (m .kind) 1)
         (λ t. kv-haproxy-hello h (eqb-true (m .kind) 1 t))
         (λ t.
@@ -175,56 +108,7 @@ module _ (limit : ℕ) (s oldMessages newMessages oldPairs newPairs : List ℕ) 
         (λ u. absurd (kv (by-elimination (eqb-false (m .kind) 1 t) (eqb-false (m .kind) 2 u)))))
       where
         by-elimination : (m .kind ≡ 1 → ⊥) → (m .kind ≡ 2 → ⊥) → m .kind ≡ 3
-        by-elimination a b = omega (arith, x .kinds)
-
-    fresh : (i : ℕ) → i < total → some (sameKey f (pairAt newPairs i)) (records (pairAt newPairs) 0 i) ≡ false
-    fresh i l =
-        let here : 0 + i ≡ i = omega arith in
-        let none : Distinct f (records (pairAt newPairs) 0 0) (records (pairAt newPairs) 0 total) = rw (records-none (pairAt newPairs) 0, hold-pairs) (stand .1) in
-        rw here at (distinct-at f (pairAt newPairs) total 0 none i l)
-
-    kv-well : (i : ℕ) → i < total → wellPair f (pairAt newPairs i) ≡ true → kvRefusal f newPairs i ≡ 0
-    kv-well i l w = kv-new f newPairs i (pair-well i l w) (fresh i l)
-
-    kv-bytes : pairsBytes f newPairs total ≡ joined (pairBytes f) (c .pairs)
-    kv-bytes = ap (joined (pairBytes f)) hold-pairs
-
-    kv-payload : PlainPairs f newPairs total → pairsBytes f newPairs total ≡ drop (x .start) f
-    kv-payload p =
-        kv-bytes
-        ∙ sym (run-form f small (x .start) (c .pairs) used (stand .0) (each-plain p) ∙ ap (λ (l : List ℕ). joined (pairBytes f) (c .pairs) ++ l) over ∙ append-nil (joined (pairBytes f) (c .pairs)))
-
-    kv-plain : frameBytes h (pairsBytes f newPairs total) ≡ f → PlainPairs f newPairs total
-    kv-plain is =
-        plain-each
-        (run-only f small (x .start) (c .pairs) used (stand .0) []
-        (append-nil (joined (pairBytes f) (c .pairs)) ∙ sym kv-bytes ∙ payload-same h (pairsBytes f newPairs total) (drop (x .start) f) (is ∙ x .form)) .0)
-
-    kv-taken : WellPairs f newPairs total → kvAnswer h limit f newPairs total ≡ limited limit h (pairsBytes f newPairs total)
-    kv-taken w =
-        kv-list h limit f newPairs total
-        ∙ list-passed (kvAllowed h) pairWidth newPairs total (kvRefusal f newPairs) (limited limit h (pairsBytes f newPairs total)) allowed pairs-room
-        (ap (λ (r : Refusal). r .number) (none-refused (kvRefusal f newPairs) total (record { each = λ i l. kv-well i l (w i l) })))
-
-    -- Law: the writer writes exactly the frame's bytes where all texts are UTF-8 and all values plain.
-    pub kv-inverse : WellPairs f newPairs total → PlainPairs f newPairs total → kvAnswer h limit f newPairs total ≡ written f
-    kv-inverse w p =
-        kv-taken w
-        ∙ limited-whole limit h (pairsBytes f newPairs total) f (ap (frameBytes h) (kv-payload p) ∙ sym (x .form)) (omega (arith, x .long, x .fits))
-
-    -- Law: where a pair has a text that is not UTF-8, and none before it has, the writer refuses with 15 and the pair's index.
-    pub kv-refuses : (i : ℕ) → i < total → wellPair f (pairAt newPairs i) ≡ false → WellPairs f newPairs i → kvAnswer h limit f newPairs total ≡ refused 15 i
-    kv-refuses i l ill w =
-        kv-list h limit f newPairs total
-        ∙ list-refused (kvAllowed h) pairWidth newPairs total (kvRefusal f newPairs) (limited limit h (pairsBytes f newPairs total)) allowed pairs-room
-        (record { number = 15; place = i })
-        (sym (refused-here (kvRefusal f newPairs) total i 15 l (record { each = λ k b. kv-well k (omega arith) (w k b) }) (kv-own f newPairs i 15 (pair-ill i l ill) fifteen) fifteen))
-        fifteen
-
-    -- Law: where all texts are UTF-8 and a value is not plain, the writer writes another frame, if that is within the limit.
-    pub kv-differs : WellPairs f newPairs total → (i : ℕ) → i < total → plainPair f (pairAt newPairs i) ≡ false
-        → (kvAnswer h limit f newPairs total ≡ limited limit h (pairsBytes f newPairs total)) × (frameBytes h (pairsBytes f newPairs total) ≡ f → ⊥)
-    kv-differs w i l p = (kv-taken w, λ is. true-false (kv-plain is i l) p)
+        by-elimination a b = omega (arith, kinds-below (m .kind) (x .known) (ltb-true (m .kind) 101 (x .sent)))
 
   -- ---- NOTIFY frames
 
@@ -280,13 +164,13 @@ module _ (limit : ℕ) (s oldMessages newMessages oldPairs newPairs : List ℕ) 
     notify-payload p =
         let all = joined (messageBytes f newPairs) (c .messages) in
         notify-bytes
-        ∙ sym (messages-form f small newPairs (x .start) 0 (c .messages) (c .pairs) used lie hold-pairs (each-plain p) ∙ ap (λ (l : List ℕ). all ++ l) over ∙ append-nil all)
+        ∙ sym (messages-form f small newPairs (x .start) 0 (c .messages) (c .pairs) used lie (table .0) (each-plain f newPairs (c .pairs) (table .0) (held .pairs) p) ∙ ap (λ (l : List ℕ). all ++ l) over ∙ append-nil all)
 
     notify-plain : frameBytes h bytes ≡ f → PlainPairs f newPairs total
     notify-plain is =
         let all = joined (messageBytes f newPairs) (c .messages) in
-        plain-each
-        (messages-only f small newPairs (x .start) 0 (c .messages) (c .pairs) used lie hold-pairs []
+        plain-each f newPairs (c .pairs) (table .0) (held .pairs)
+        (messages-only f small newPairs (x .start) 0 (c .messages) (c .pairs) used lie (table .0) []
         (append-nil all ∙ sym notify-bytes ∙ payload-same h bytes (drop (x .start) f) (is ∙ x .form)))
 
     no-name : WellNames f newMessages rows → firstRefused (messageRefusal f total newMessages rows) rows .number ≡ 0
@@ -294,8 +178,8 @@ module _ (limit : ℕ) (s oldMessages newMessages oldPairs newPairs : List ℕ) 
 
     notify-taken : WellNames f newMessages rows → WellPairs f newPairs total → notifyAnswer h limit f newMessages rows newPairs total ≡ limited limit h bytes
     notify-taken ws w =
-        notify-passed h limit f newMessages rows newPairs total refl messages-room pairs-room no-pair (no-name ws)
-        (ap (λ (r : Refusal). r .number) (none-refused (pairRefusal f newPairs) total (record { each = λ i l. pair-well i l (w i l) })))
+        notify-passed h limit f newMessages rows newPairs total refl messages-room (table .1) no-pair (no-name ws)
+        (ap (λ (r : Refusal). r .number) (none-refused (pairRefusal f newPairs) total (record { each = λ i l. pair-well f newPairs (c .pairs) (table .0) (held .pairs) i l (w i l) })))
 
     -- Law: the writer writes exactly the frame's bytes where all texts are UTF-8 and all values plain.
     pub notify-inverse : WellNames f newMessages rows → WellPairs f newPairs total → PlainPairs f newPairs total → notifyAnswer h limit f newMessages rows newPairs total ≡ written f
@@ -306,7 +190,7 @@ module _ (limit : ℕ) (s oldMessages newMessages oldPairs newPairs : List ℕ) 
     pub notify-refuses-name : (i : ℕ) → i < rows → wellName f (messageAt newMessages i) ≡ false → WellNames f newMessages i
         → notifyAnswer h limit f newMessages rows newPairs total ≡ refused 15 i
     notify-refuses-name i l ill w =
-        notify-message h limit f newMessages rows newPairs total refl messages-room pairs-room no-pair (record { number = 15; place = i })
+        notify-message h limit f newMessages rows newPairs total refl messages-room (table .1) no-pair (record { number = 15; place = i })
         (sym (refused-here (messageRefusal f total newMessages rows) rows i 15 l (record { each = λ k b. name-well k (omega arith) (w k b) }) (name-ill i l ill) fifteen))
         fifteen
 
@@ -314,8 +198,8 @@ module _ (limit : ℕ) (s oldMessages newMessages oldPairs newPairs : List ℕ) 
     pub notify-refuses-pair : WellNames f newMessages rows → (i : ℕ) → i < total → wellPair f (pairAt newPairs i) ≡ false → WellPairs f newPairs i
         → notifyAnswer h limit f newMessages rows newPairs total ≡ refused 15 i
     notify-refuses-pair ws i l ill w =
-        notify-pair h limit f newMessages rows newPairs total refl messages-room pairs-room no-pair (no-name ws) (record { number = 15; place = i })
-        (sym (refused-here (pairRefusal f newPairs) total i 15 l (record { each = λ k b. pair-well k (omega arith) (w k b) }) (pair-ill i l ill) fifteen))
+        notify-pair h limit f newMessages rows newPairs total refl messages-room (table .1) no-pair (no-name ws) (record { number = 15; place = i })
+        (sym (refused-here (pairRefusal f newPairs) total i 15 l (record { each = λ k b. pair-well f newPairs (c .pairs) (table .0) (held .pairs) k (omega arith) (w k b) }) (pair-ill f newPairs (c .pairs) (table .0) (held .pairs) i l ill) fifteen))
         fifteen
 
     -- Law: where all texts are UTF-8 and a value is not plain, the writer writes another frame, if that is within the limit.

@@ -8,6 +8,7 @@ use native.Mathlib.Omega.{arith}
 use lib.Dec.{eqb}
 use lib.ListN.{length, take, drop, drop-of-length-le}
 use lib.Seq.{take-at, drop-at}
+use borrow.Author.Tests.{eqb-true, eqb-false}
 use Rattle.answer.specs.Answer.{done}
 use Rattle.answer.specs.Table.{joined}
 use Rattle.answer.proofs.Cases.{bool-cases}
@@ -20,23 +21,28 @@ use Rattle.types.proofs.Writing.{value-bytes}
 use Rattle.types.proofs.Roundtrip.{Meaning, means, meaning}
 use Rattle.frame.specs.declared.Pair.{Pair}
 use Rattle.frame.specs.declared.Message.{Message}
+use Rattle.frame.specs.declared.Action.{Action}
 use Rattle.frame.specs.Head.{frameBytes}
-use Rattle.frame.proofs.Meaning.{pairMeaning, messageMeaning}
+use Rattle.frame.proofs.Meaning.{pairMeaning, messageMeaning, actionMeaning}
 use Rattle.parser.specs.declared.Rooms.{Rooms}
 use Rattle.parser.specs.declared.Metadata.{Metadata}
 use Rattle.parser.specs.Payload.{Contents}
-use Rattle.parser.specs.Frame.{answered, frameRead}
+use Rattle.parser.specs.Frame.{answered, haproxys, frameRead}
 use Rattle.parser.proofs.Frames.{length-map}
+use Rattle.agent.specs.Frame.{Sent, agents, agentRead}
 use Rattle.records.specs.Inner.{Laid}
 use Rattle.listing.proofs.Accepted.{Each}
 use Rattle.writer.specs.Pair.{pairBytes}
+use Rattle.writer.specs.Action.{actionBytes}
 use Rattle.writer.specs.Frame.{headOf}
 use Rattle.writer.proofs.Pairs.{pair-bytes}
 use Rattle.writer.proofs.Messages.{name-bytes}
 use Rattle.inverse.proofs.Pair.{Plain, run-form}
 use Rattle.inverse.proofs.Payload.{map-both, kv-stands, messages-stand}
 use Rattle.inverse.proofs.Listed.{parts-plain, there-form}
-use Rattle.inverse.proofs.Head.{Accepted, frame-accepted}
+use Rattle.inverse.proofs.Head.{Accepted, entry-accepted, frame-accepted}
+use Rattle.inverse.proofs.Actions.{sent-all, PlainOf, actions-form}
+use Rattle.inverse.proofs.Sent.{sent-run, sent-actions}
 
 -- ---- written forms go by meanings
 
@@ -114,7 +120,7 @@ module _ (limit : ℕ) (rooms : Rooms) (s : List ℕ) (m : Metadata) (c : Conten
   abbrev f : List ℕ
   f = take used s
 
-  x : Accepted limit rooms s m c used
+  x : Accepted (haproxys rooms) limit s m c used
   x = frame-accepted limit rooms s m c used small e
 
   over : drop used f ≡ []
@@ -158,3 +164,65 @@ frames-apart limit other rooms others s t m k c d used taken small smalls e g pl
     ∙ ap₂ (frameForm m) messages pairs
     ∙ rw (kind, stream, frame) refl
     ∙ sym (frame-meant other others t k d taken smalls g plains)
+
+-- ---- an agent's frame goes by them
+
+-- an action, and the payload of a frame of a type, by what it means
+abbrev actionForm : ℕ × ℕ × (List ℕ × Meaning) → List ℕ
+actionForm x = cond (eqb (x .0) 1) (1 ∷ 3 ∷ x .1 ∷ pairForm (x .2)) (2 ∷ 2 ∷ x .1 ∷ stringBytes (x .2 .0))
+
+abbrev sentForm : Metadata → List (List ℕ × Meaning) → List (ℕ × ℕ × (List ℕ × Meaning)) → List ℕ
+sentForm m ps xs = frameBytes (headOf (m .kind) true false (m .stream) (m .frame)) (cond (eqb (m .kind) 103) (joined actionForm xs) (joined pairForm ps))
+
+action-meant : (f : List ℕ) (x : Action) → actionBytes f x ≡ actionForm (actionMeaning f x)
+unfolding actionBytes
+action-meant f x = bool-cases (eqb (x .verb) 1) (λ t. rw t (ap (λ (l : List ℕ). 1 ∷ 3 ∷ x .scope ∷ l) (pair-meant f (x .pair)))) (λ t. rw t refl)
+
+actions-meant : (f : List ℕ) (xs : List Action) → joined (actionBytes f) xs ≡ joined actionForm (map (actionMeaning f) xs)
+actions-meant f [] = joined-none (actionBytes f) ∙ sym (joined-none actionForm)
+actions-meant f (x ∷ xs) =
+    joined-on (actionBytes f) x xs ∙ ap₂ _++_ (action-meant f x) (actions-meant f xs) ∙ sym (joined-on actionForm (actionMeaning f x) (map (actionMeaning f) xs))
+
+module _ (limit pairs room : ℕ) (s : List ℕ) (m : Metadata) (c : Sent) (used : ℕ) (small : Bytes (take used s))
+    (e : agentRead limit pairs room s ≡ answered (done (m, c) used)) (plain : Each (Plain (take used s)) (c .pairs)) (acts : Each (PlainOf (take used s)) (c .actions)) where
+  abbrev g : List ℕ
+  g = take used s
+
+  y : Accepted (agents pairs room) limit s m c used
+  y = entry-accepted (agents pairs room) (sent-all pairs room) limit s m c used small e
+
+  done-there : drop (length g) g ≡ []
+  done-there = drop-of-length-le g {i = length g} (omega arith)
+
+  sent-payload : drop (y .start) g ≡ cond (eqb (m .kind) 103) (joined actionForm (map (actionMeaning g) (c .actions))) (joined pairForm (map (pairMeaning g) (c .pairs)))
+  sent-payload =
+      bool-cases (eqb (m .kind) 103)
+      (λ t.
+      rw t
+      (actions-form g small (y .start) (c .actions) (length g) (sent-actions pairs room limit s m c used y (eqb-true (m .kind) 103 t)) acts
+      ∙ ap₂ _++_ (actions-meant g (c .actions)) done-there
+      ∙ append-nil (joined actionForm (map (actionMeaning g) (c .actions)))))
+      (λ t.
+      rw t
+      (run-form g small (y .start) (c .pairs) (length g) (sent-run pairs room limit s m c used y (eqb-false (m .kind) 103 t) .0) plain
+      ∙ ap₂ _++_ (pairs-meant g (c .pairs)) done-there
+      ∙ append-nil (joined pairForm (map (pairMeaning g) (c .pairs)))))
+
+  sent-meant : g ≡ sentForm m (map (pairMeaning g) (c .pairs)) (map (actionMeaning g) (c .actions))
+  sent-meant = y .form ∙ ap (frameBytes (headOf (m .kind) true false (m .stream) (m .frame))) sent-payload
+
+-- Law: so are two accepted frames of agents.
+pub agents-apart : (limit pairs room other others rooms : ℕ) (s t : List ℕ) (m k : Metadata) (c d : Sent) (used taken : ℕ)
+    → Bytes (take used s) → Bytes (take taken t)
+    → agentRead limit pairs room s ≡ answered (done (m, c) used) → agentRead other others rooms t ≡ answered (done (k, d) taken)
+    → Each (Plain (take used s)) (c .pairs) → Each (Plain (take taken t)) (d .pairs)
+    → Each (PlainOf (take used s)) (c .actions) → Each (PlainOf (take taken t)) (d .actions)
+    → m .kind ≡ k .kind → m .stream ≡ k .stream → m .frame ≡ k .frame
+    → map (pairMeaning (take used s)) (c .pairs) ≡ map (pairMeaning (take taken t)) (d .pairs)
+    → map (actionMeaning (take used s)) (c .actions) ≡ map (actionMeaning (take taken t)) (d .actions)
+    → take used s ≡ take taken t
+agents-apart limit pairs room other others rooms s t m k c d used taken small smalls e g plain plains acts actss kind stream frame ps xs =
+    sent-meant limit pairs room s m c used small e plain acts
+    ∙ ap₂ (sentForm m) ps xs
+    ∙ rw (kind, stream, frame) refl
+    ∙ sym (sent-meant other others rooms t k d taken smalls g plains actss)

@@ -1,15 +1,15 @@
 -- The one law about a frame around its payload: an accepted frame is its head, as it is written, and behind it its payload.
-use mathlib.Core.Path.{_≡_, refl, sym, ap, ap₂, _∙_}
-use mathlib.Core.Bool.{true, false, not}
+use mathlib.Core.Path.{_≡_, refl, sym, ap, ap₂, subst, _∙_}
+use mathlib.Core.Bool.{Bool, true, false, not}
 use mathlib.Core.Logic.{⊎-elim}
 use mathlib.Core.List.{List, [], _∷_, _++_, append-assoc}
-use Prim.Native.Nat.{ℕ, _+_, _-_, _*_, _/_, _%_, _^_, _≤_, _<_}
+use Prim.Native.Nat.{ℕ, _+_, _*_, _/_, _%_, _^_, _≤_, _<_}
 use native.Mathlib.Omega.{arith}
 use lib.Dec.{eqb}
 use lib.ListN.{length, take, drop, getD, length-drop, take-append-drop}
 use lib.Seq.{drop-cons, drop-drop, length-take-le}
-use borrow.Author.Tests.{lt-ltb, le-ltb, eqb-true, eqb-false, ne-eqb}
-use Rattle.answer.specs.Answer.{done}
+use borrow.Author.Tests.{eqb-true, eqb-false, ne-eqb}
+use Rattle.answer.specs.Answer.{Answer, done, refused, next, behind}
 use Rattle.answer.specs.Table.{some}
 use Rattle.answer.proofs.Cases.{lt-or-le, bool-cases, true-false, answer-cases, not-both}
 use Rattle.varint.specs.Number.{number, numberBytes}
@@ -19,14 +19,13 @@ use Rattle.frame.specs.Head.{fourBytes, fourNumber, headBytes, frameBytes}
 use Rattle.frame.proofs.Laws.{four-kept}
 use Rattle.parser.specs.declared.Rooms.{Rooms}
 use Rattle.parser.specs.declared.Metadata.{Metadata}
-use Rattle.parser.specs.Payload.{Contents, payload, movedContents}
-use Rattle.parser.specs.Frame.{frameTypes, ids, metadata, answered, frameRead}
+use Rattle.parser.specs.Payload.{Contents}
+use Rattle.parser.specs.Frame.{frameTypes, sentBy, ids, metadata, Entry, whole, answered, front, haproxys, frameRead}
 use Rattle.parser.proofs.Pairs.{done-same}
-use Rattle.parser.proofs.Frames.{last-refused, last-other, last-done, ids-refused, ids-on, metadata-none, metadata-type, metadata-short, metadata-flags, metadata-abort, metadata-ids, metadata-start, frame-start, frame-over, frame-wait, frame-whole}
+use Rattle.parser.proofs.Frames.{last-refused, last-other, last-done, ids-refused, ids-on, metadata-none, metadata-type, metadata-short, metadata-flags, metadata-abort, metadata-ids, metadata-start, head-refused, head-done, cut-start, cut-over, cut-wait, cut-whole}
 use Rattle.parser.proofs.Kept.{by-cut, wait-answered, answered-same}
 use Rattle.parser.proofs.Exact.{bytes-drop}
-use Rattle.walker.proofs.Walking.{frame-holds}
-use Rattle.listing.proofs.Accepted.{whole-held, frame-used}
+use Rattle.walker.proofs.Walking.{payload-all}
 use Rattle.writer.specs.Frame.{headOf}
 use Rattle.inverse.proofs.Value.{form-rest}
 use Rattle.inverse.proofs.Pair.{cancel}
@@ -55,7 +54,7 @@ four-exact (a ∷ b ∷ c ∷ d ∷ s) small h =
 -- ---- what stands before the payload
 
 -- a frame's type below 101 is 1, 2 or 3
-kinds-below : (k : ℕ) → some (eqb k) frameTypes ≡ true → k < 101 → (1 ≤ k) × (k ≤ 3)
+pub kinds-below : (k : ℕ) → some (eqb k) frameTypes ≡ true → k < 101 → (1 ≤ k) × (k ≤ 3)
 unfolding some
 kinds-below k t h =
     bool-cases (eqb k 1) (λ a. let is = eqb-true k 1 a in omega arith)
@@ -67,11 +66,21 @@ kinds-below k t h =
     true-false t
     (rw (a, b, c, ne-eqb k 101 (λ e. omega arith), ne-eqb k 102 (λ e. omega arith), ne-eqb k 103 (λ e. omega arith))))))
 
+-- and one from 101 on that is neither 101 nor 102 is 103
+pub kinds-above : (k : ℕ) → some (eqb k) frameTypes ≡ true → 101 ≤ k → (k ≡ 101 → ⊥) → (k ≡ 102 → ⊥) → k ≡ 103
+unfolding some
+kinds-above k t h a b =
+    bool-cases (eqb k 103) (λ c. eqb-true k 103 c)
+    (λ c.
+    true-false t
+    (rw (c, ne-eqb k 1 (λ e. omega arith), ne-eqb k 2 (λ e. omega arith), ne-eqb k 3 (λ e. omega arith), ne-eqb k 101 a, ne-eqb k 102 b)))
+
 -- Where the parts of accepted metadata stand.
-record Parts (f : List ℕ) (m : Metadata) (start : ℕ) : Type 0 where
+record Parts (agents : Bool) (f : List ℕ) (m : Metadata) (start : ℕ) : Type 0 where
   long : 9 ≤ length f
   kind : getD f 4 0 ≡ m .kind
-  kinds : (1 ≤ m .kind) × (m .kind ≤ 3)
+  known : some (eqb (m .kind)) frameTypes ≡ true
+  sent : sentBy agents (m .kind) ≡ true
   flags : fourNumber (drop 5 f) ≡ 1
   first : ℕ
   second : ℕ
@@ -79,26 +88,26 @@ record Parts (f : List ℕ) (m : Metadata) (start : ℕ) : Type 0 where
   frame : number (drop (9 + first) f) ≡ done (m .frame) second
   ends : 9 + first + second ≡ start
 
-module _ (f : List ℕ) (m : Metadata) (start : ℕ) where
+module _ (agents : Bool) (f : List ℕ) (m : Metadata) (start : ℕ) where
   ids-parts : 9 ≤ length f → some (eqb (getD f 4 0)) frameTypes ≡ true → fourNumber (drop 5 f) ≡ 1
-      → ids false (getD f 4 0) (fourNumber (drop 5 f)) f ≡ done m start → Parts f m start
+      → ids agents (getD f 4 0) (fourNumber (drop 5 f)) f ≡ done m start → Parts agents f m start
   ids-parts l t one e =
       let kind = getD f 4 0 in
       let flags = fourNumber (drop 5 f) in
       answer-cases (number (drop 9 f))
       (λ n u d.
-      let last = sym (ids-on false kind flags f n u d) ∙ e in
+      let last = sym (ids-on agents kind flags f n u d) ∙ e in
       answer-cases (number (drop (9 + u) f))
       (λ k v g.
-      ⊎-elim
+      bool-cases (sentBy agents kind)
       (λ h.
-      let o = done-same (sym (last-done false kind flags n (9 + u) f k v g (lt-ltb kind 101 h)) ∙ last) in
+      let o = done-same (sym (last-done agents kind flags n (9 + u) f k v g h) ∙ last) in
       let same : kind ≡ m .kind = ap (λ (x : Metadata). x .kind) (o .0) in
-      let allowed = kinds-below kind t h in
       record {
         long = l;
         kind = same;
-        kinds = rw same at allowed;
+        known = ap (λ (i : ℕ). some (eqb i) frameTypes) (sym same) ∙ t;
+        sent = ap (sentBy agents) (sym same) ∙ h;
         flags = one;
         first = u;
         second = v;
@@ -106,32 +115,31 @@ module _ (f : List ℕ) (m : Metadata) (start : ℕ) where
         frame = g ∙ ap (λ (x : Metadata). done (x .frame) v) (o .0);
         ends = o .1;
       })
-      (λ h. not-both last (last-other false kind flags n (9 + u) f k v g (le-ltb kind 101 h)))
-      (lt-or-le kind 101))
-      (λ k place r. not-both last (last-refused false kind flags n (9 + u) f k place r)))
-      (λ n place r. not-both e (ids-refused false kind flags f n place r))
+      (λ h. not-both last (last-other agents kind flags n (9 + u) f k v g h)))
+      (λ k place r. not-both last (last-refused agents kind flags n (9 + u) f k place r)))
+      (λ n place r. not-both e (ids-refused agents kind flags f n place r))
 
-  parts : metadata false f ≡ done m start → Parts f m start
+  parts : metadata agents f ≡ done m start → Parts agents f m start
   parts e =
       ⊎-elim
       (λ h.
       bool-cases (some (eqb (getD f 4 0)) frameTypes)
-      (λ t. ⊎-elim (λ l. not-both e (metadata-short false f h t l)) (λ l. by-flags h t l (fourNumber (drop 5 f)) refl) (lt-or-le (length f) 9))
-      (λ t. not-both e (metadata-type false f h t)))
-      (λ h. not-both e (metadata-none false f h))
+      (λ t. ⊎-elim (λ l. not-both e (metadata-short agents f h t l)) (λ l. by-flags h t l (fourNumber (drop 5 f)) refl) (lt-or-le (length f) 9))
+      (λ t. not-both e (metadata-type agents f h t)))
+      (λ h. not-both e (metadata-none agents f h))
       (lt-or-le 4 (length f))
     where
-      by-flags : 4 < length f → some (eqb (getD f 4 0)) frameTypes ≡ true → 9 ≤ length f → (n : ℕ) → fourNumber (drop 5 f) ≡ n → Parts f m start
+      by-flags : 4 < length f → some (eqb (getD f 4 0)) frameTypes ≡ true → 9 ≤ length f → (n : ℕ) → fourNumber (drop 5 f) ≡ n → Parts agents f m start
       by-flags h t l n is =
           bool-cases (eqb n 1)
-          (λ one. let so = is ∙ eqb-true n 1 one in ids-parts l t so (sym (metadata-ids false f h t l so) ∙ e))
+          (λ one. let so = is ∙ eqb-true n 1 one in ids-parts l t so (sym (metadata-ids agents f h t l so) ∙ e))
           (λ one.
           bool-cases (eqb n 3)
-          (λ three. not-both e (metadata-abort false f h t l (is ∙ eqb-true n 3 three)))
-          (λ three. not-both e (metadata-flags false f h t l (λ z. eqb-false n 1 one (sym is ∙ z)) (λ z. eqb-false n 3 three (sym is ∙ z)))))
+          (λ three. not-both e (metadata-abort agents f h t l (is ∙ eqb-true n 3 three)))
+          (λ three. not-both e (metadata-flags agents f h t l (λ z. eqb-false n 1 one (sym is ∙ z)) (λ z. eqb-false n 3 three (sym is ∙ z)))))
 
   -- behind its length bytes a frame is its head, as it is written, and then its payload
-  head-form : Bytes f → Parts f m start → drop 4 f ≡ headBytes (headOf (m .kind) true false (m .stream) (m .frame)) ++ drop start f
+  head-form : Bytes f → Parts agents f m start → drop 4 f ≡ headBytes (headOf (m .kind) true false (m .stream) (m .frame)) ++ drop start f
   unfolding headBytes
   head-form small p =
       let n = p .first in
@@ -156,75 +164,128 @@ pub payload-same : (h : Head) (p q : List ℕ) → frameBytes h p ≡ frameBytes
 unfolding frameBytes fourBytes
 payload-same h p q e = cancel (headBytes h) p q (ap (drop 4) e)
 
--- ---- the law
+-- ---- a frame of any entry
 
 -- An accepted frame, of its own bytes f: its head, as it is written, and its payload, which was read from where it starts.
-pub record Accepted (limit : ℕ) (rooms : Rooms) (s : List ℕ) (m : Metadata) (c : Contents) (used : ℕ) : Type 0 where
+pub record Accepted {A : Type 0} (x : Entry A) (limit : ℕ) (s : List ℕ) (m : Metadata) (c : A) (used : ℕ) : Type 0 where
   pub start : ℕ
-  pub contents : Contents
+  pub contents : A
   pub end : ℕ
   pub long : length (take used s) ≡ used
   pub fits : used ≤ 4 + limit
   pub there : start ≤ length (take used s)
-  pub kinds : (1 ≤ m .kind) × (m .kind ≤ 3)
+  pub known : some (eqb (m .kind)) frameTypes ≡ true
+  pub sent : sentBy (x .agents) (m .kind) ≡ true
   pub form : take used s ≡ frameBytes (headOf (m .kind) true false (m .stream) (m .frame)) (drop start (take used s))
-  pub read : payload (not (eqb (m .kind) 3)) rooms (drop start (take used s)) ≡ done contents end
-  pub moved : movedContents start contents ≡ c
+  pub read : x .payloadOf (m .kind) (drop start (take used s)) ≡ done contents end
+  pub moved : x .moved start contents ≡ c
   pub ends : start + end ≡ used
 
--- what a frame's length bytes say
-frame-says : (limit : ℕ) (rooms : Rooms) (s : List ℕ) (m : Metadata) (c : Contents) (used : ℕ) → frameRead limit rooms s ≡ answered (done (m, c) used)
-    → (used ≡ 4 + fourNumber s) × (fourNumber s ≤ limit)
-frame-says limit rooms s m c used e =
-    by-cut limit s
-    (λ x. wait-answered (sym (frame-start limit rooms s x) ∙ e))
-    (λ x y. not-both refl (answered-same (sym e ∙ frame-over limit rooms s x y)))
-    (λ x y z. wait-answered (sym (frame-wait limit rooms s x y z) ∙ e))
-    (λ x y z. (
-      whole-held rooms (take (4 + fourNumber s) s) m c used (answered-same (sym (frame-whole limit rooms s x y z) ∙ e)) .1 ∙ length-take-le (4 + fourNumber s) s z,
-      y,
-    ))
+-- of an entry that takes all bytes of a payload
+module _ {A : Type 0} (x : Entry A) (all : (kind : ℕ) (p : List ℕ) (c : A) (end : ℕ) → x .payloadOf kind p ≡ done c end → end ≡ length p) where
+  record Held (f : List ℕ) (m : Metadata) (c : A) (used : ℕ) : Type 0 where
+    start : ℕ
+    head : metadata (x .agents) f ≡ done m start
+    held : A
+    end : ℕ
+    is : x .payloadOf (m .kind) (drop start f) ≡ done held end
+    moved : x .moved start held ≡ c
+    sum : start + end ≡ used
+    long : used ≡ length f
 
-module _ (limit : ℕ) (rooms : Rooms) (s : List ℕ) (m : Metadata) (c : Contents) (used : ℕ) (small : Bytes (take used s))
-    (e : frameRead limit rooms s ≡ answered (done (m, c) used)) where
-  abbrev f : List ℕ
-  f = take used s
+  -- a payload that stands there, in its frame
+  abbrev inFrame : Metadata → ℕ → Answer A → Answer (Metadata × A)
+  inFrame m start a = next (behind (x .moved) start a) (λ (c : A) (end : ℕ). done (m, c) end)
 
-  there : (4 ≤ used) × (used ≤ length s)
-  there = let o = frame-used limit rooms s m c used e in (o .0, o .1)
+  whole-holds : (f : List ℕ) (m : Metadata) (c : A) (used : ℕ) → whole x f ≡ done (m, c) used → Held f m c used
+  whole-holds f m c used e =
+      answer-cases (metadata (x .agents) f)
+      (λ n start h. go n start h (x .payloadOf (n .kind) (drop start f)) refl (sym (head-done x f n start h) ∙ e))
+      (λ n place r. not-both e (head-refused x f n place r))
+    where
+      go : (n : Metadata) (start : ℕ) → metadata (x .agents) f ≡ done n start → (a : Answer A) → x .payloadOf (n .kind) (drop start f) ≡ a
+          → inFrame n start a ≡ done (m, c) used → Held f m c used
+      go n start h (done d end) is g =
+          let o = done-same g in
+          let same : n ≡ m = ap (λ (y : Metadata × A). y .0) (o .0) in
+          record {
+            start = start;
+            head = h ∙ ap (λ (y : Metadata). done y start) same;
+            held = d;
+            end = end;
+            is = ap (λ (y : Metadata). x .payloadOf (y .kind) (drop start f)) (sym same) ∙ is;
+            moved = ap (λ (y : Metadata × A). y .1) (o .0);
+            sum = o .1;
+            long = omega (arith, o .1, all (n .kind) (drop start f) d end is, length-drop start f, metadata-start (x .agents) f n start h);
+          }
+      go n start h (refused k place) is g = not-both g refl
 
-  says : (used ≡ 4 + fourNumber s) × (fourNumber s ≤ limit)
-  says = frame-says limit rooms s m c used e
+  -- what a frame's length bytes say, and what it holds
+  record Cut (limit : ℕ) (s : List ℕ) (m : Metadata) (c : A) (used : ℕ) : Type 0 where
+    four : 4 ≤ used
+    there : used ≤ length s
+    says : used ≡ 4 + fourNumber s
+    fits : fourNumber s ≤ limit
+    holds : Held (take used s) m c used
 
-  long : length f ≡ used
-  long = length-take-le used s (there .1)
+  front-cut : (limit : ℕ) (s : List ℕ) (m : Metadata) (c : A) (used : ℕ) → front x limit s ≡ answered (done (m, c) used) → Cut limit s m c used
+  front-cut limit s m c used e =
+      by-cut limit s
+      (λ h. wait-answered (sym (cut-start x limit s h) ∙ e))
+      (λ h l. not-both refl (answered-same (sym e ∙ cut-over x limit s h l)))
+      (λ h l w. wait-answered (sym (cut-wait x limit s h l w) ∙ e))
+      (λ h l w.
+      let o = whole-holds (take (4 + fourNumber s) s) m c used (answered-same (sym (cut-whole x limit s h l w) ∙ e)) in
+      let n : 4 + fourNumber s ≡ used = omega (arith, o .long, length-take-le (4 + fourNumber s) s w) in
+      record { four = omega arith; there = omega arith; says = sym n; fits = l; holds = subst (λ (k : ℕ). Held (take k s) m c used) n o })
 
-  four : fourNumber f ≡ length (drop 4 f)
-  four =
-      let same : fourNumber f ≡ fourNumber s = sym (four-kept f (drop used s) (omega (arith, long, there .0))) ∙ ap fourNumber (take-append-drop used s) in
-      omega (arith, same, says .0, long, length-drop 4 f)
+  -- Law: of the bytes that a frame was read from, it takes some that are there.
+  pub entry-there : (limit : ℕ) (s : List ℕ) (m : Metadata) (c : A) (used : ℕ) → front x limit s ≡ answered (done (m, c) used) → used ≤ length s
+  entry-there limit s m c used e = front-cut limit s m c used e .there
 
-  whole : (h : Head) (start : ℕ) → drop 4 f ≡ headBytes h ++ drop start f → f ≡ frameBytes h (drop start f)
-  unfolding frameBytes
-  whole h start behind =
-      form-rest (fourBytes (fourNumber f)) f 4 (four-exact f small (omega (arith, long, there .0)))
-      ∙ ap₂ (λ (k : ℕ) (l : List ℕ). fourBytes k ++ l) (four ∙ ap length behind) behind
+  module _ (limit : ℕ) (s : List ℕ) (m : Metadata) (c : A) (used : ℕ) (small : Bytes (take used s)) (e : front x limit s ≡ answered (done (m, c) used)) where
+    abbrev f : List ℕ
+    f = take used s
 
-  -- Law: every accepted frame of types 1 to 3 is so.
-  pub frame-accepted : Accepted limit rooms s m c used
-  frame-accepted =
-      let h = frame-holds limit rooms s m c used e in
-      let p = parts f m (h .start) (h .head) in
-      record {
-        start = h .start;
-        contents = h .held;
-        end = h .end;
-        long = long;
-        fits = omega (arith, says);
-        there = metadata-start false f m (h .start) (h .head);
-        kinds = p .kinds;
-        form = whole (headOf (m .kind) true false (m .stream) (m .frame)) (h .start) (head-form f m (h .start) small p);
-        read = h .is;
-        moved = h .moved;
-        ends = h .all;
-      }
+    o : Cut limit s m c used
+    o = front-cut limit s m c used e
+
+    long : length f ≡ used
+    long = length-take-le used s (o .there)
+
+    four : fourNumber f ≡ length (drop 4 f)
+    four =
+        let same : fourNumber f ≡ fourNumber s = sym (four-kept f (drop used s) (omega (arith, long, o .four))) ∙ ap fourNumber (take-append-drop used s) in
+        omega (arith, same, o .says, long, length-drop 4 f)
+
+    framed : (h : Head) (start : ℕ) → drop 4 f ≡ headBytes h ++ drop start f → f ≡ frameBytes h (drop start f)
+    unfolding frameBytes
+    framed h start behind =
+        form-rest (fourBytes (fourNumber f)) f 4 (four-exact f small (omega (arith, long, o .four)))
+        ∙ ap₂ (λ (k : ℕ) (l : List ℕ). fourBytes k ++ l) (four ∙ ap length behind) behind
+
+    -- Law: every accepted frame is so.
+    pub entry-accepted : Accepted x limit s m c used
+    entry-accepted =
+        let h = o .holds in
+        let p = parts (x .agents) f m (h .start) (h .head) in
+        record {
+          start = h .start;
+          contents = h .held;
+          end = h .end;
+          long = long;
+          fits = omega (arith, o .says, o .fits);
+          there = metadata-start (x .agents) f m (h .start) (h .head);
+          known = p .known;
+          sent = p .sent;
+          form = framed (headOf (m .kind) true false (m .stream) (m .frame)) (h .start) (head-form (x .agents) f m (h .start) small p);
+          read = h .is;
+          moved = h .moved;
+          ends = h .sum;
+        }
+
+-- Law: so is every frame that HAProxy sends.
+pub frame-accepted : (limit : ℕ) (rooms : Rooms) (s : List ℕ) (m : Metadata) (c : Contents) (used : ℕ) → Bytes (take used s)
+    → frameRead limit rooms s ≡ answered (done (m, c) used) → Accepted (haproxys rooms) limit s m c used
+unfolding frameRead
+frame-accepted limit rooms s m c used small e = entry-accepted (haproxys rooms) (λ kind p d end is. payload-all (not (eqb kind 3)) rooms p d end is) limit s m c used small e

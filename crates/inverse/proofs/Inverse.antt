@@ -31,28 +31,29 @@ use Rattle.parser.specs.Frame.{answered, frameRead}
 use Rattle.parser.specs.Promise.{Counts, countsOf, frameSaid, roomsOf, ReadFrame}
 use Rattle.parser.proofs.Entries.{said-done}
 use Rattle.listing.proofs.Accepted.{frame-used}
-use Rattle.writer.specs.Frame.{limited, headOf, kvAnswer, notifyAnswer}
+use Rattle.writer.specs.Frame.{limited, headOf, kvAllowed, kvAnswer, notifyAnswer}
 use Rattle.writer.specs.Promise.{WriteKv, WriteNotify}
 use Rattle.inverse.proofs.Plain.{plainPair, wellPair, wellName, WellPairs, WellNames, PlainPairs}
 use Rattle.inverse.proofs.Head.{frame-accepted}
-use Rattle.inverse.proofs.Again.{kv-inverse, kv-refuses, kv-differs, notify-inverse, notify-refuses-name, notify-refuses-pair, notify-differs}
+use Rattle.inverse.proofs.Kv.{Kv, list-written, list-ill, list-differs}
+use Rattle.inverse.proofs.Again.{kv-listed, kv-may, notify-inverse, notify-refuses-name, notify-refuses-pair, notify-differs}
 
 -- ---- what a writer's caller learns
 
 -- A call that is to write f, with room for it; one that is refused; and one that is to write another frame.
 module _ {a : Answer (List ℕ)} {out : Written} {old new : List ℕ} (p : Writes (within (length old) a) out old new) where
-  caller-written : (f : List ℕ) (n : ℕ) → length f ≡ n → a ≡ written f → n ≤ length old → (out ≡ w.Done n) × (new ≡ f ++ drop n old)
+  pub caller-written : (f : List ℕ) (n : ℕ) → length f ≡ n → a ≡ written f → n ≤ length old → (out ≡ w.Done n) × (new ≡ f ++ drop n old)
   caller-written f n long is room =
       let fits = le-leb (length f) (length old) (omega arith) in
       (said-same out (w.Done n) (rw (is, fits) at (p .says) ∙ ap (done tt) long), rw (is, fits) at (p .holds) ∙ ap (λ (k : ℕ). f ++ drop k old) long)
 
-  caller-refused : (number place : ℕ) → a ≡ refused number place → (out ≡ w.Refused (record { number = number; place = place })) × (new ≡ old)
+  pub caller-refused : (number place : ℕ) → a ≡ refused number place → (out ≡ w.Refused (record { number = number; place = place })) × (new ≡ old)
   caller-refused number place is = (said-same out (w.Refused (record { number = number; place = place })) (rw is at (p .says)), rw is at (p .holds))
 
   caller-done : (n : ℕ) → out ≡ w.Done n → (number place : ℕ) → a ≡ refused number place → ⊥
   caller-done n is number place e = not-both {x = done tt n} refl (sym (ap said is) ∙ rw e at (p .says))
 
-  caller-other : (limit : ℕ) (h : Head) (q f : List ℕ) → a ≡ limited limit h q → (frameBytes h q ≡ f → ⊥) → (n : ℕ) → out ≡ w.Done n → take n new ≡ f → ⊥
+  pub caller-other : (limit : ℕ) (h : Head) (q f : List ℕ) → a ≡ limited limit h q → (frameBytes h q ≡ f → ⊥) → (n : ℕ) → out ≡ w.Done n → take n new ≡ f → ⊥
   unfolding limited inOrder
   caller-other limit h q f is other n told same =
       bool-cases (leb (length (headBytes h ++ q)) limit)
@@ -62,7 +63,7 @@ module _ {a : Answer (List ℕ)} {out : Written} {old new : List ℕ} (p : Write
       (λ t. caller-done n told 12 0 (is ∙ rw t))
 
 -- an answer does not tell of both
-done-refused : {out : Written} {n : ℕ} {r : Refusal} → out ≡ w.Done n → out ≡ w.Refused r → ⊥
+pub done-refused : {out : Written} {n : ℕ} {r : Refusal} → out ≡ w.Done n → out ≡ w.Refused r → ⊥
 done-refused e g = let z : _≡_ {A = ℕ} 0 1 = cc in omega arith
 
 -- so many tests hold, or there is the first that does not
@@ -77,6 +78,17 @@ first-or-all test (suc n) =
     (λ t. inr (n, omega arith, t, all)))
     (λ x. inr (x .0, omega (arith, x .1), x .2, x .3))
     (first-or-all test n)
+
+-- where neither the first ill one nor one that differs can be, all are well and plain
+pub all-both : (well plain : ℕ → Bool) (n : ℕ)
+    → ((i : ℕ) → i < n → well i ≡ false → ((k : ℕ) → k < i → well k ≡ true) → ⊥)
+    → (((i : ℕ) → i < n → well i ≡ true) → (i : ℕ) → i < n → plain i ≡ false → ⊥)
+    → ((i : ℕ) → i < n → well i ≡ true) × ((i : ℕ) → i < n → plain i ≡ true)
+all-both well plain n ill differs =
+    ⊎-elim
+    (λ ws. ⊎-elim (λ ps. (ws, ps)) (λ y. absurd (differs ws (y .0) (y .1) (y .2))) (first-or-all plain n))
+    (λ y. absurd (ill (y .0) (y .1) (y .2) (y .3)))
+    (first-or-all well n)
 
 -- ---- a frame that `read_frame` accepted
 
@@ -119,11 +131,17 @@ module _ (limit : ℕ) (s : List ℕ) (small : Bytes s) (r : FrameRead) (oldMess
     listed : kvAnswer head limit f newPairs total ≡ kvAnswer head limit f newPairs (length (c .pairs))
     listed = ap (kvAnswer head limit f newPairs) (sym pair-count)
 
+    x : Kv limit f head newPairs (c .pairs)
+    x = kv-listed limit s oldMessages newMessages oldPairs newPairs m c used bytes (found .1) (reads .fills) kv
+
+    may : kvAllowed head ≡ true
+    may = kv-may limit s oldMessages newMessages oldPairs newPairs m c used bytes (found .1) (reads .fills) kv
+
     -- Law: with room for the frame, where all texts are UTF-8 and all values plain, exactly the frame's bytes are written.
     pub kv-back : WellPairs f newPairs total → PlainPairs f newPairs total → used ≤ length old → (out ≡ w.Done used) × (new ≡ f ++ drop used old)
     kv-back ws ps room =
         caller-written writes f used long
-        (listed ∙ kv-inverse limit s oldMessages newMessages oldPairs newPairs m c used bytes (found .1) (reads .fills) kv (rw (sym pair-count) at ws) (rw (sym pair-count) at ps))
+        (listed ∙ list-written limit f bytes head newPairs (c .pairs) x may (rw (sym pair-count) at ws) (rw (sym pair-count) at ps))
         room
 
     -- Law: where a pair has a text that is not UTF-8, and none before it has, it is 15 with the pair's index, and no byte is written.
@@ -131,25 +149,20 @@ module _ (limit : ℕ) (s : List ℕ) (small : Bytes s) (r : FrameRead) (oldMess
         → (out ≡ w.Refused (record { number = 15; place = i })) × (new ≡ old)
     kv-text i l ill ws =
         caller-refused writes 15 i
-        (listed ∙ kv-refuses limit s oldMessages newMessages oldPairs newPairs m c used bytes (found .1) (reads .fills) kv i (rw (sym pair-count) at l) ill ws)
+        (listed ∙ list-ill limit f bytes head newPairs (c .pairs) x may i (rw (sym pair-count) at l) ill ws)
 
     -- Law: where all texts are UTF-8 and a value is not plain, what is written, if anything is, is another frame.
     pub kv-other : WellPairs f newPairs total → (i : ℕ) → i < total → plainPair f (pairAt newPairs i) ≡ false → (n : ℕ) → out ≡ w.Done n → take n new ≡ f → ⊥
     kv-other ws i l differs n =
-        let d = kv-differs limit s oldMessages newMessages oldPairs newPairs m c used bytes (found .1) (reads .fills) kv (rw (sym pair-count) at ws) i (rw (sym pair-count) at l) differs in
+        let d = list-differs limit f bytes head newPairs (c .pairs) x may (rw (sym pair-count) at ws) i (rw (sym pair-count) at l) differs in
         caller-other writes limit head _ f (listed ∙ d .0) (d .1) n
 
     -- Law: so the frame's bytes are written only where all texts are UTF-8 and all values plain.
     pub kv-only : (n : ℕ) → out ≡ w.Done n → take n new ≡ f → WellPairs f newPairs total × PlainPairs f newPairs total
     kv-only n so same =
-        ⊎-elim
-        (λ ws.
-        ⊎-elim
-        (λ ps. (ws, ps))
-        (λ y. absurd (kv-other ws (y .0) (y .1) (y .2) n so same))
-        (first-or-all (λ (i : ℕ). plainPair f (pairAt newPairs i)) total))
-        (λ y. absurd (done-refused so (kv-text (y .0) (y .1) (y .2) (y .3) .0)))
-        (first-or-all (λ (i : ℕ). wellPair f (pairAt newPairs i)) total)
+        all-both (λ (i : ℕ). wellPair f (pairAt newPairs i)) (λ (i : ℕ). plainPair f (pairAt newPairs i)) total
+        (λ i l ill ws. done-refused so (kv-text i l ill ws .0))
+        (λ ws i l differs. kv-other ws i l differs n so same)
 
   -- ---- of type 3
 
@@ -196,13 +209,9 @@ module _ (limit : ℕ) (s : List ℕ) (small : Bytes s) (r : FrameRead) (oldMess
     notify-only n so same =
         ⊎-elim
         (λ ns.
-        ⊎-elim
-        (λ ws.
-        ⊎-elim
-        (λ ps. (ns, ws, ps))
-        (λ y. absurd (notify-other ns ws (y .0) (y .1) (y .2) n so same))
-        (first-or-all (λ (i : ℕ). plainPair f (pairAt newPairs i)) total))
-        (λ y. absurd (done-refused so (notify-text ns (y .0) (y .1) (y .2) (y .3) .0)))
-        (first-or-all (λ (i : ℕ). wellPair f (pairAt newPairs i)) total))
+        let o = all-both (λ (i : ℕ). wellPair f (pairAt newPairs i)) (λ (i : ℕ). plainPair f (pairAt newPairs i)) total
+        (λ i l ill ws. done-refused so (notify-text ns i l ill ws .0))
+        (λ ws i l differs. notify-other ns ws i l differs n so same) in
+        (ns, o .0, o .1))
         (λ y. absurd (done-refused so (notify-name (y .0) (y .1) (y .2) (y .3) .0)))
         (first-or-all (λ (i : ℕ). wellName f (messageAt newMessages i)) rows)

@@ -2,10 +2,15 @@
 pub mod Plain
 pub mod Value
 pub mod Pair
+pub mod Action
+pub mod Actions
 pub mod Payload
 pub mod Listed
 pub mod Head
+pub mod Kv
 pub mod Again
+pub mod Sent
 pub mod Apart
 pub mod Inverse
+pub mod Agents
 pub mod Examples

@@ -185,27 +185,32 @@ module _ (f : List ℕ) (small : Bytes f) where
 
 -- ---- a name at a place
 
--- Law: from the place of a message on stand the bytes that its name and its count are written as, and then what comes next.
-pub name-at-form : (f : List ℕ) (at : ℕ) (m : Message) (place : ℕ) → Bytes f → stringFrom at f ≡ done (span (m .start) (m .len)) place → place < length f
-    → getD f place 0 ≡ m .count → drop at f ≡ nameBytes f m ++ drop (place + 1) f
-name-at-form f at m place small e byte count = go (string (drop at f)) refl
+-- Law: from the place of a string on stand the bytes that it is written as, and then what comes next.
+pub string-at-form : (f : List ℕ) (at start len place : ℕ) → Bytes f → stringFrom at f ≡ done (span start len) place
+    → drop at f ≡ stringBytes (part f start len) ++ drop place f
+string-at-form f at start len place small e = go (string (drop at f)) refl
   where
     spans : {a b k l : ℕ} → span a k ≡ span b l → (a ≡ b) × (k ≡ l)
     spans q = ((cc), (cc))
 
-    go : (x : Answer Span) → string (drop at f) ≡ x → drop at f ≡ nameBytes f m ++ drop (place + 1) f
-    go (done (span start len) used) d =
+    go : (x : Answer Span) → string (drop at f) ≡ x → drop at f ≡ stringBytes (part f start len) ++ drop place f
+    go (done (span a n) used) d =
         let o = done-same (sym (ap (behind movedSpan at) d) ∙ e) in
         let q = spans (o .0) in
-        let same : part f (m .start) (m .len) ≡ part (drop at f) start len = ap₂ (part f) (sym (q .0)) (sym (q .1)) ∙ part-moved f at start len in
-        let k = stringBytes (part f (m .start) (m .len)) in
-        let tail : drop used (drop at f) ≡ m .count ∷ drop (place + 1) f =
-        drop-drop used at f ∙ ap (λ (n : ℕ). drop n f) (o .1) ∙ drop-cons f place 0 byte ∙ ap₂ (λ (n l : ℕ). n ∷ drop l f) count (sym (add-one place)) in
-        form-rest (stringBytes (part (drop at f) start len)) (drop at f) used (string-form (drop at f) start len used (bytes-drop at f small) d)
-        ∙ ap₂ (λ (w l : List ℕ). stringBytes w ++ l) (sym same) tail
-        ∙ sym (append-assoc k (m .count ∷ []) (drop (place + 1) f))
-        ∙ ap (λ (l : List ℕ). l ++ drop (place + 1) f) (sym (name-bytes f m))
+        let same : part f start len ≡ part (drop at f) a n = ap₂ (part f) (sym (q .0)) (sym (q .1)) ∙ part-moved f at a n in
+        form-rest (stringBytes (part (drop at f) a n)) (drop at f) used (string-form (drop at f) a n used (bytes-drop at f small) d)
+        ∙ ap₂ (λ (w l : List ℕ). stringBytes w ++ l) (sym same) (drop-drop used at f ∙ ap (λ (n : ℕ). drop n f) (o .1))
     go (refused n place) r = not-both e (ap (behind movedSpan at) r)
+
+-- Law: from the place of a message on stand the bytes that its name and its count are written as, and then what comes next.
+pub name-at-form : (f : List ℕ) (at : ℕ) (m : Message) (place : ℕ) → Bytes f → stringFrom at f ≡ done (span (m .start) (m .len)) place → place < length f
+    → getD f place 0 ≡ m .count → drop at f ≡ nameBytes f m ++ drop (place + 1) f
+name-at-form f at m place small e byte count =
+    let k = stringBytes (part f (m .start) (m .len)) in
+    string-at-form f at (m .start) (m .len) place small e
+    ∙ ap (λ (l : List ℕ). k ++ l) (drop-cons f place 0 byte ∙ ap₂ (λ (n l : ℕ). n ∷ drop l f) count (sym (add-one place)))
+    ∙ sym (append-assoc k (m .count ∷ []) (drop (place + 1) f))
+    ∙ ap (λ (l : List ℕ). l ++ drop (place + 1) f) (sym (name-bytes f m))
 
 -- ---- what a writer refuses of a pair
 

@@ -14,7 +14,8 @@ use Rattle.types.specs.Value.{Shape, nothing, flag, integer, address, text, res
 use Rattle.types.specs.Form.{part}
 use Rattle.frame.specs.declared.Pair.{Pair}
 use Rattle.frame.specs.declared.Message.{Message}
-use Rattle.frame.specs.Records.{keyOf, pairAt, messageAt}
+use Rattle.frame.specs.declared.Action.{Action}
+use Rattle.frame.specs.Records.{keyOf, pairAt, messageAt, actionAt}
 
 -- a number of a kind of this width, as it was read, before its low 32 bits are kept
 abbrev pub plainNumber : Width → Answer ℕ → Bool
@@ -46,6 +47,13 @@ wellPair f p = isUtf8 (keyOf f p) && (not (eqb (p .value .kind) 8) || isUtf8 (pa
 abbrev pub wellName : List ℕ → Message → Bool
 wellName f m = isUtf8 (part f (m .start) (m .len))
 
+-- An action's are those of its variable. An unset has a name alone, and its value's numbers are those of a null.
+abbrev pub plainAction : List ℕ → Action → Bool
+plainAction f x = not (eqb (x .verb) 1) || plainPair f (x .pair)
+
+abbrev pub wellAction : List ℕ → Action → Bool
+wellAction f x = wellPair f (x .pair)
+
 -- ---- of the first n records of a table
 
 abbrev pub WellPairs : List ℕ → List ℕ → ℕ → Type 0
@@ -56,3 +64,9 @@ WellNames f messages n = (i : ℕ) → i < n → wellName f (messageAt messages 
 
 abbrev pub PlainPairs : List ℕ → List ℕ → ℕ → Type 0
 PlainPairs f pairs n = (i : ℕ) → i < n → plainPair f (pairAt pairs i) ≡ true
+
+abbrev pub WellActions : List ℕ → List ℕ → ℕ → Type 0
+WellActions f actions n = (i : ℕ) → i < n → wellAction f (actionAt actions i) ≡ true
+
+abbrev pub PlainActions : List ℕ → List ℕ → ℕ → Type 0
+PlainActions f actions n = (i : ℕ) → i < n → plainAction f (actionAt actions i) ≡ true

@@ -113,7 +113,7 @@ pair-read s p used e = by-key (string s) refl
     by-key (done (span start len) u) key = by-value start len u key (typed (drop u s)) refl
     by-key (refused n place) r = not-both e (pair-key s n place r)
 
-pair-there : (s : List ℕ) (at : ℕ) (p : Pair) (end : ℕ) → at ≤ length s → pairFrom at s ≡ done p end → Whole (length s) p
+pub pair-there : (s : List ℕ) (at : ℕ) (p : Pair) (end : ℕ) → at ≤ length s → pairFrom at s ≡ done p end → Whole (length s) p
 pair-there s at p end h e = by-pair (pair (drop at s)) refl
   where
     all : at + length (drop at s) ≡ length s

@@ -45,7 +45,7 @@ unfolding records
 records-first at n = refl
 
 -- A number of a record behind the first stands there without the first too, one record earlier.
-number-next : (width : ℕ) (front t : List ℕ) → length front ≡ width → (i k : ℕ) → numberAt width (front ++ t) (suc i) k ≡ numberAt width t i k
+pub number-next : (width : ℕ) (front t : List ℕ) → length front ≡ width → (i k : ℕ) → numberAt width (front ++ t) (suc i) k ≡ numberAt width t i k
 number-next width front t long i k =
     let one : suc i ≡ 1 + i = omega arith in
     ap (λ (n : ℕ). numberAt width (front ++ t) n k) one ∙ number-later width 1 front t (long ∙ sym (one-mul width)) i k
@@ -54,7 +54,7 @@ number-next width front t long i k =
 module _ {A : Type 0} (numbers : A → List ℕ) (at : List ℕ → ℕ → A)
     (here : (x : A) (t : List ℕ) → at (numbers x ++ t) 0 ≡ x) (later : (x : A) (t : List ℕ) (i : ℕ) → at (numbers x ++ t) (suc i) ≡ at t i) where
   -- Law: a table with the numbers of some records at its front holds them.
-  table-holds : (xs : List A) (t : List ℕ) → records (at (joined numbers xs ++ t)) 0 (length xs) ≡ xs
+  pub table-holds : (xs : List A) (t : List ℕ) → records (at (joined numbers xs ++ t)) 0 (length xs) ≡ xs
   table-holds [] t = records-none (at (joined numbers [] ++ t)) 0
   table-holds (x ∷ xs) t =
       let rest = joined numbers xs ++ t in

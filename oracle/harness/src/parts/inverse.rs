@@ -9,6 +9,7 @@ use crate::{
     port::{MESSAGE_WIDTH, PAIR_WIDTH},
     reader::{
         call::{Call, declared},
+        resent,
         rewritten::{Rewritten, Seen, Text},
         wire,
     },
@@ -31,12 +32,13 @@ pub fn diff(random: &mut Random, rounds: u64) -> Result<String, Difference> {
         met.all()?;
     }
     met.print();
+    let sent = resent::diff(random, rounds)?;
     let [same, refused, other, twins] =
         [&met.same, &met.refused, &met.other, &met.twins].map(|counts| counts.inputs);
     Ok(format!(
         "{} frames of HAProxy and {} of the listing's input that came out as they went in, {} and {} answered 15; {rounds} \
          rounds, {same} frames that came out as they went in, {refused} answered 15, {other} with other bytes, {twins} frames \
-         with some bits changed",
+         with some bits changed; {sent}",
         haproxy.same, listed.same, haproxy.refused, listed.refused
     ))
 }

@@ -6,6 +6,7 @@ pub mod call;
 pub mod classes;
 pub mod lent;
 pub mod model;
+pub mod resent;
 pub mod rewritten;
 pub mod rust;
 pub mod sides;

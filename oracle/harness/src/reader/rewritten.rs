@@ -10,7 +10,7 @@ use super::{
 use crate::{
     answers::DONE,
     both,
-    port::{MESSAGE_WIDTH, PAIR_WIDTH},
+    port::{ACTION_WIDTH, MESSAGE_WIDTH, PAIR_WIDTH},
     records::{self, NOT_TEXT, Wrote},
     text::{Difference, hex},
 };
@@ -37,7 +37,9 @@ pub struct Seen {
 pub struct Meaning {
     head: [u64; 4],
     messages: Vec<(Vec<u8>, [u64; 2])>,
-    pairs: Vec<(Vec<u8>, [u64; 3], Vec<u8>)>,
+    /// Of each action whether it sets, and its scope. Its name and its value are a pair.
+    actions: Vec<[u64; 2]>,
+    pairs: Vec<Row>,
 }
 
 /// What does not hold, in the words of a difference.
@@ -59,7 +61,7 @@ impl Rewritten {
             return Ok(None);
         }
         let frame = self.frame();
-        let told = Told::of(&frame).map_err(|_| REFUSED)?;
+        let told = Told::of(&frame, false).map_err(|_| REFUSED)?;
         if told.is_plain() == (told.bytes != frame) {
             return Err(DIFFERS);
         }
@@ -127,7 +129,7 @@ impl Rewritten {
         let reading = self.read.by_port();
         let frame = self.frame();
         let rows = rows.row("read", &reading).row("room", self.room(&frame));
-        let rows = match Told::of(&frame) {
+        let rows = match Told::of(&frame, false) {
             Ok(told) => {
                 let expected = self.expected(&told, &frame);
                 rows.row("paper", expected.answer)
@@ -146,28 +148,46 @@ impl Meaning {
     /// Where each start and length point into the frame.
     fn of(reading: &Reading, frame: &[u8]) -> Option<Self> {
         let [messages, pairs] = reading.records()?;
-        let part = |start, length| Some(records::part(frame, start, length).ok()?.to_vec());
-        let message = |row: &[u64]| Some((part(row[0], row[1])?, [row[2], row[3]]));
-        let pair = |row: &[u64]| {
-            let [kind, a, b, flags] = [row[2], row[3], row[4], row[5]];
-            let (number, bytes) = match kind {
-                6..=9 => (0, part(a, b)?),
-                _ => (a, Vec::new()),
-            };
-            Some((part(row[0], row[1])?, [kind, number, flags], bytes))
-        };
+        let message = |row: &[u64]| Some((part(frame, row[0], row[1])?, [row[2], row[3]]));
+        let messages = messages.chunks_exact(MESSAGE_WIDTH).map(message);
         Some(Self {
             head: *reading.head.first_chunk()?,
-            messages: messages
-                .chunks_exact(MESSAGE_WIDTH)
-                .map(message)
-                .collect::<Option<_>>()?,
-            pairs: pairs
-                .chunks_exact(PAIR_WIDTH)
-                .map(pair)
-                .collect::<Option<_>>()?,
+            messages: messages.collect::<Option<_>>()?,
+            actions: Vec::new(),
+            pairs: rows(pairs.chunks_exact(PAIR_WIDTH), frame)?,
         })
     }
+
+    /// The same of an agent's frame, which has pairs or actions.
+    pub fn of_sent(head: [u64; 6], pairs: &[u64], actions: &[u64], frame: &[u8]) -> Option<Self> {
+        let actions = actions.chunks_exact(ACTION_WIDTH);
+        let variables = actions.clone().map(|row| &row[2..]);
+        Some(Self {
+            head: *head.first_chunk()?,
+            messages: Vec::new(),
+            actions: actions.map(|row| [row[0], row[1]]).collect(),
+            pairs: rows(pairs.chunks_exact(PAIR_WIDTH).chain(variables), frame)?,
+        })
+    }
+}
+
+fn part(frame: &[u8], start: u64, length: u64) -> Option<Vec<u8>> {
+    Some(records::part(frame, start, length).ok()?.to_vec())
+}
+
+/// A key, kind, number and flags, and the bytes that a value points at.
+type Row = (Vec<u8>, [u64; 3], Vec<u8>);
+
+fn rows<'a>(rows: impl Iterator<Item = &'a [u64]>, frame: &[u8]) -> Option<Vec<Row>> {
+    rows.map(|row| {
+        let [kind, a, b, flags] = [row[2], row[3], row[4], row[5]];
+        let (number, bytes) = match kind {
+            6..=9 => (0, part(frame, a, b)?),
+            _ => (a, Vec::new()),
+        };
+        Some((part(frame, row[0], row[1])?, [kind, number, flags], bytes))
+    })
+    .collect()
 }
 
 // ---------------------------------------------------------------- what the bytes say
@@ -195,20 +215,24 @@ pub struct Told {
     pub kept_flags: bool,
     pub ill_binary: bool,
     pub messages: u64,
+    /// An action's name and value are a pair here, and an unset's name is one.
     pub pairs: u64,
+    pub sets: u64,
+    pub unsets: u64,
 }
 
 impl Told {
-    pub fn of(frame: &[u8]) -> Result<Self, Refusal> {
+    pub fn of(frame: &[u8], agents: bool) -> Result<Self, Refusal> {
         let mut walk = Walk {
             bytes: Bytes { all: frame, at: 4 },
             told: Self::default(),
         };
-        let [kind, ..] = walk.bytes.head(false)?;
+        let [kind, ..] = walk.bytes.head(agents)?;
         walk.copy_from(0);
         while !walk.bytes.at_end() {
             match kind {
                 3 => walk.message()?,
+                103 => walk.action()?,
                 _ => walk.pair()?,
             }
         }
@@ -259,18 +283,43 @@ impl<'a> Walk<'a> {
         Ok(())
     }
 
+    /// Three bytes, and a set's name and value or an unset's name.
+    fn action(&mut self) -> Result<(), Refusal> {
+        let start = self.bytes.at;
+        let verb = self.bytes.byte()?;
+        self.bytes.take(2)?;
+        self.copy_from(start);
+        match verb {
+            1 => {
+                self.told.sets += 1;
+                self.pair()
+            }
+            _ => {
+                self.told.unsets += 1;
+                let name = !is_text(self.string()?);
+                self.add([name, false]);
+                Ok(())
+            }
+        }
+    }
+
     fn pair(&mut self) -> Result<(), Refusal> {
         let key = !is_text(self.string()?);
         let value = self.value()?;
-        let text = match (key, value) {
-            (true, _) => Some(Text::Key),
-            (false, true) => Some(Text::Value),
-            (false, false) => None,
+        self.add([key, value]);
+        Ok(())
+    }
+
+    /// Counts a pair whose key or value is not UTF-8, or neither.
+    fn add(&mut self, ill: [bool; 2]) {
+        let text = match ill {
+            [true, _] => Some(Text::Key),
+            [false, true] => Some(Text::Value),
+            [false, false] => None,
         };
         let ill = text.map(|text| (self.told.pairs, text));
         self.told.ill_pair = self.told.ill_pair.or(ill);
         self.told.pairs += 1;
-        Ok(())
     }
 
     /// Whether it is a string that is not UTF-8.

@@ -83,6 +83,25 @@ pub fn frame(random: &mut Random) -> Drawn {
     }
 }
 
+/// An agent's frame, right most of the time: an ACK, or a KV list, of which most have both ids 0.
+pub fn sent(random: &mut Random) -> Vec<u8> {
+    let kind = [101, 102, 103, 103][random.index(4)];
+    let mut bytes = vec![0, 0, 0, 0, kind];
+    bytes.extend(flags(random).to_be_bytes());
+    for _ in 0..2 {
+        match kind == 103 || random.below(16) == 0 {
+            true => number(random, &mut bytes),
+            false => bytes.push(0),
+        }
+    }
+    match kind {
+        103 => actions(random, &mut bytes),
+        _ => _ = list(random, 16, 400, &mut bytes),
+    }
+    fit(&mut bytes);
+    bytes
+}
+
 /// Sets the length field to what stands behind it.
 pub fn fit(bytes: &mut [u8]) {
     let length = bytes.len().saturating_sub(4) as u32;
@@ -140,6 +159,23 @@ fn messages_of(random: &mut Random, bytes: &mut Vec<u8>) -> (usize, usize) {
         };
     }
     (count as usize, pairs)
+}
+
+/// Sets and unsets, of which few have another scope than there are.
+fn actions(random: &mut Random, bytes: &mut Vec<u8>) {
+    for _ in 0..random.within(0, PAIRS) {
+        let verb = random.within(1, 2) as u8;
+        let scope = match random.below(64) {
+            0 => random.byte(),
+            _ => random.below(5) as u8,
+        };
+        bytes.extend([verb, 4 - verb, scope]);
+        let name = lone_key(random);
+        string(random, &name, bytes);
+        if verb == 1 {
+            value(random, bytes);
+        }
+    }
 }
 
 /// Pairs, up to `most` of them, of which one of `rarely` repeats an earlier key.
