@@ -1,5 +1,5 @@
--- Non-malleable: an accepted frame whose values are plain is told by its type, its ids and what its messages and pairs mean. For the bytes that these are written
--- as go by their meaning alone, and are the frame's.
+-- Non-malleable: an accepted frame whose values are plain is told by its type, its ids and what its messages, pairs and actions mean. For the bytes that these
+-- are written as go by their meaning alone, and are the frame's.
 use mathlib.Core.Path.{_≡_, refl, sym, ap, ap₂, _∙_}
 use mathlib.Core.Bool.{Bool, true, false, cond, not}
 use mathlib.Core.List.{List, [], _∷_, _++_, map, append-assoc, append-nil}
@@ -211,7 +211,7 @@ module _ (limit pairs room : ℕ) (s : List ℕ) (m : Metadata) (c : Sent) (used
   sent-meant : g ≡ sentForm m (map (pairMeaning g) (c .pairs)) (map (actionMeaning g) (c .actions))
   sent-meant = y .form ∙ ap (frameBytes (headOf (m .kind) true false (m .stream) (m .frame))) sent-payload
 
--- Law: so are two accepted frames of agents.
+-- Law: so two accepted frames of agents whose values are plain, of one type and with the same ids and the same meanings, are the same bytes.
 pub agents-apart : (limit pairs room other others rooms : ℕ) (s t : List ℕ) (m k : Metadata) (c d : Sent) (used taken : ℕ)
     → Bytes (take used s) → Bytes (take taken t)
     → agentRead limit pairs room s ≡ answered (done (m, c) used) → agentRead other others rooms t ≡ answered (done (k, d) taken)
