@@ -124,12 +124,15 @@ fn decode_more(first: u64, input: &[u8]) -> Number
 pub fn decode_alone(input: &[u8]) -> Number
     ensures { λ r. ⌜ DecodeVarint (now (input .entry)) r ⌝ }
 {
-    if input.len() < 10 {
-        return decode_varint(input);
+    if input.len() == 0 {
+        return refused(TOO_SOON, 0);
     }
     let first = input[0];
     if 240 <= first {
-        return decode_twos(first as u64, input);
+        if 10 <= input.len() {
+            return decode_twos(first as u64, input);
+        }
+        return decode_more(first as u64, input);
     }
     Number::Done {
         value: first as u64,
