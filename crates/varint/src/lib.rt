@@ -124,20 +124,10 @@ fn decode_more(first: u64, input: &[u8]) -> Number
 pub fn decode_alone(input: &[u8]) -> Number
     ensures { λ r. ⌜ DecodeVarint (now (input .entry)) r ⌝ }
 {
-    if input.len() == 0 {
-        return refused(TOO_SOON, 0);
+    if 10 <= input.len() && 240 <= input[0] {
+        return decode_twos(input[0] as u64, input);
     }
-    let first = input[0];
-    if 240 <= first {
-        if 10 <= input.len() {
-            return decode_twos(first as u64, input);
-        }
-        return decode_more(first as u64, input);
-    }
-    Number::Done {
-        value: first as u64,
-        used: 1,
-    }
+    decode_varint(input)
 }
 
 // Reads on after a first byte that is not the number itself, two bytes at a time. The second of them counts where the first goes on.
