@@ -3,7 +3,7 @@
 // No public call has a `requires`: each does its own refusing. A first pass over a payload finds the answer and writes nothing (`look`);
 // only what is accepted is filled in, by a second pass (`fill`). A small list of messages is read in one pass, into tables of its own
 // (`small`). `look_frame` is the first pass alone, and `read_few` gives up to four pairs by value (`by_value`): for readers whose table of pairs is
-// not one of numbers.
+// not one of numbers. `read_start` and `read_list` are the head and a KV list by themselves: for the entry that reads what agents send.
 mod by_value;
 mod fill;
 mod head;
