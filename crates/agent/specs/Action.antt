@@ -1,4 +1,4 @@
--- Actions, read: SPOE.txt, section 3.4.
+-- Actions, read: SPOE.txt, sections 3.2 and 3.4.
 --
 --     LIST-OF-ACTIONS   : [ <ACTION-TYPE:1 byte> <NB-ARGS:1 byte> <ACTION-ARGS> ... ]
 --

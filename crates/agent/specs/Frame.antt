@@ -1,4 +1,4 @@
--- A frame that an agent sends, read: SPOE.txt, sections 3.2.2 and 3.2.7 to 3.2.9. Its head is the same as that of HAProxy's frames.
+-- A frame that an agent sends, read: SPOE.txt, sections 3.2.2, 3.2.5, 3.2.7 and 3.2.9. Its head is the same as that of HAProxy's frames.
 --
 --     AGENT-HELLO, 101, and AGENT-DISCONNECT, 102 : KV-LIST
 --     ACK, 103                                    : LIST-OF-ACTIONS

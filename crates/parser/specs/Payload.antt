@@ -1,4 +1,4 @@
--- Payloads, read to their end: SPOE.txt, sections 3.2.4 to 3.2.6.
+-- Payloads, read to their end: SPOE.txt, sections 3.2 and 3.2.4 to 3.2.9.
 --
 --     KV-LIST          : [ <KV-NAME> <KV-VALUE> ... ]
 --     LIST-OF-MESSAGES : [ <MESSAGE-NAME> <NB-ARGS:1 byte> <KV-LIST> ... ]
