@@ -1,11 +1,12 @@
 -- Laws about lines: a value's text by its kind, lines in the parts in which they are written, and the checks before them.
 use mathlib.Core.Path.{_≡_, sym, ap, _∙_}
-use mathlib.Core.Bool.{true, false}
+use mathlib.Core.Bool.{true, false, _&&_, _||_}
 use mathlib.Core.List.{List, [], _∷_, _++_, append-assoc}
 use Prim.Native.Nat.{ℕ, _+_, _≤_, _<_}
 use native.Mathlib.Omega.{arith}
+use lib.Dec.{leb, eqb}
 use lib.ListN.{length, length-append}
-use borrow.Author.Tests.{leb-true, ne-eqb}
+use borrow.Author.Tests.{leb-true, eq-eqb, ne-eqb}
 use Rattle.answer.specs.Answer.{Answer, refused}
 use Rattle.answer.specs.Order.{Check, first, after}
 use Rattle.answer.proofs.Order.{first-none, first-fails, first-holds, first-passed, unless-refused, unless-none}
@@ -15,9 +16,12 @@ use Rattle.types.specs.Promise.{recordOf}
 use Rattle.types.proofs.Shapes.{shape-is, row, shape-cases, points-no, points-yes, writable-kind}
 use Rattle.frame.specs.declared.Message.{Message}
 use Rattle.frame.specs.declared.Pair.{Pair}
+use Rattle.frame.specs.declared.Action.{Action}
+use Rattle.frame.specs.Records.{keyOf}
 use Rattle.listing.specs.Digits.{dash, decimal, signed, shown}
-use Rattle.listing.specs.Lines.{filled, messageForm, pairForm, dataText, valueText}
-use Rattle.listing.specs.Check.{messageChecks, pairChecks}
+use Rattle.listing.specs.Lines.{filled, messageForm, pairForm, setForm, unsetForm, dataText, valueText, actionLine}
+use Rattle.listing.specs.Check.{messageChecks, pairChecks, actionChecks}
+use Rattle.listing.specs.Inner.{kindForm}
 
 -- ---- a value's text
 
@@ -92,42 +96,72 @@ wordKind = 32 ∷ 107 ∷ 105 ∷ 110 ∷ 100 ∷ 32 ∷ []
 abbrev wordValue : List ℕ
 wordValue = 32 ∷ 118 ∷ 97 ∷ 108 ∷ 117 ∷ 101 ∷ 32 ∷ []
 
--- `pair # key `, ` kind # value `
+-- `pair # key `
 abbrev pub pairFront : List ℕ
 pairFront = 112 ∷ 97 ∷ 105 ∷ 114 ∷ 32 ∷ 35 ∷ 32 ∷ 107 ∷ 101 ∷ 121 ∷ 32 ∷ []
 
-abbrev pub pairBack : List ℕ
-pairBack = 32 ∷ 107 ∷ 105 ∷ 110 ∷ 100 ∷ 32 ∷ 35 ∷ 32 ∷ 118 ∷ 97 ∷ 108 ∷ 117 ∷ 101 ∷ 32 ∷ []
-
 pub pair-parts : (i t k v : List ℕ)
-    → filled pairForm (i ∷ t ∷ k ∷ v ∷ []) ≡ filled pairFront (i ∷ []) ++ (t ++ (filled pairBack (k ∷ []) ++ (v ++ (10 ∷ []))))
+    → filled pairForm (i ∷ t ∷ k ∷ v ∷ []) ≡ filled pairFront (i ∷ []) ++ (t ++ (filled kindForm (k ∷ []) ++ (v ++ (10 ∷ []))))
 unfolding filled
 pair-parts i t k v =
     ap (λ (l : List ℕ). wordPair ++ (i ++ (wordKey ++ (t ++ (wordKind ++ l))))) (sym (append-assoc k wordValue (v ++ (10 ∷ []))))
-    ∙ ap (λ (l : List ℕ). wordPair ++ l) (sym (append-assoc i wordKey (t ++ (filled pairBack (k ∷ []) ++ (v ++ (10 ∷ []))))))
+    ∙ ap (λ (l : List ℕ). wordPair ++ l) (sym (append-assoc i wordKey (t ++ (filled kindForm (k ∷ []) ++ (v ++ (10 ∷ []))))))
 
--- how long they are
-pub message-length : (i t n : List ℕ)
-    → length (filled messageForm (i ∷ t ∷ n ∷ [])) ≡ length (filled messageFront (i ∷ [])) + length (filled messageBack (n ∷ [])) + length t
-message-length i t n =
-    let front = filled messageFront (i ∷ []) in
-    let back = filled messageBack (n ∷ []) in
-    omega (arith, ap length (message-parts i t n), length-append front (t ++ back), length-append t back)
+-- `action `, ` set scope `, ` unset scope `, before the two numbers of an action, and its name
+abbrev wordAction : List ℕ
+wordAction = 97 ∷ 99 ∷ 116 ∷ 105 ∷ 111 ∷ 110 ∷ 32 ∷ []
 
-pub pair-length : (i t k v : List ℕ)
-    → length (filled pairForm (i ∷ t ∷ k ∷ v ∷ []))
-    ≡ length (filled pairFront (i ∷ [])) + length (filled pairBack (k ∷ [])) + 1 + length t + length v
-pair-length i t k v =
-    let front = filled pairFront (i ∷ []) in
-    let back = filled pairBack (k ∷ []) in
+abbrev wordSet : List ℕ
+wordSet = 32 ∷ 115 ∷ 101 ∷ 116 ∷ 32 ∷ 115 ∷ 99 ∷ 111 ∷ 112 ∷ 101 ∷ 32 ∷ []
+
+abbrev wordUnset : List ℕ
+wordUnset = 32 ∷ 117 ∷ 110 ∷ 115 ∷ 101 ∷ 116 ∷ 32 ∷ 115 ∷ 99 ∷ 111 ∷ 112 ∷ 101 ∷ 32 ∷ []
+
+abbrev pub setFront : List ℕ
+setFront = 97 ∷ 99 ∷ 116 ∷ 105 ∷ 111 ∷ 110 ∷ 32 ∷ 35 ∷ 32 ∷ 115 ∷ 101 ∷ 116 ∷ 32 ∷ 115 ∷ 99 ∷ 111 ∷ 112 ∷ 101 ∷ 32 ∷ 35 ∷ 32 ∷ 110 ∷ 97 ∷ 109 ∷ 101 ∷ 32 ∷ []
+
+abbrev pub unsetFront : List ℕ
+unsetFront = 97 ∷ 99 ∷ 116 ∷ 105 ∷ 111 ∷ 110 ∷ 32 ∷ 35 ∷ 32 ∷ 117 ∷ 110 ∷ 115 ∷ 101 ∷ 116 ∷ 32 ∷ 115 ∷ 99 ∷ 111 ∷ 112 ∷ 101 ∷ 32 ∷ 35 ∷ 32 ∷ 110 ∷ 97 ∷ 109 ∷ 101 ∷ 32 ∷ []
+
+pub set-parts : (i c t k v : List ℕ)
+    → filled setForm (i ∷ c ∷ t ∷ k ∷ v ∷ []) ≡ filled setFront (i ∷ c ∷ []) ++ (t ++ (filled kindForm (k ∷ []) ++ (v ++ (10 ∷ []))))
+unfolding filled
+set-parts i c t k v =
+    let rest = t ++ (filled kindForm (k ∷ []) ++ (v ++ (10 ∷ []))) in
+    ap (λ (l : List ℕ). wordAction ++ (i ++ (wordSet ++ (c ++ (wordName ++ (t ++ (wordKind ++ l))))))) (sym (append-assoc k wordValue (v ++ (10 ∷ []))))
+    ∙ ap (λ (l : List ℕ). wordAction ++ (i ++ (wordSet ++ l))) (sym (append-assoc c wordName rest))
+    ∙ ap (λ (l : List ℕ). wordAction ++ l) (sym (append-assoc i (wordSet ++ (c ++ wordName)) rest))
+
+pub unset-parts : (i c t : List ℕ)
+    → filled unsetForm (i ∷ c ∷ t ∷ []) ≡ filled unsetFront (i ∷ c ∷ []) ++ (t ++ filled (10 ∷ []) [])
+unfolding filled
+unset-parts i c t =
+    ap (λ (l : List ℕ). wordAction ++ (i ++ (wordUnset ++ l))) (sym (append-assoc c wordName (t ++ (10 ∷ []))))
+    ∙ ap (λ (l : List ℕ). wordAction ++ l) (sym (append-assoc i (wordUnset ++ (c ++ wordName)) (t ++ (10 ∷ []))))
+
+-- how long they are: a line with a name, and one that ends in a value
+pub named-length : (front t back : List ℕ) → length (front ++ (t ++ back)) ≡ length front + length back + length t
+named-length front t back = omega (arith, length-append front (t ++ back), length-append t back)
+
+pub valued-length : (front t back v : List ℕ)
+    → length (front ++ (t ++ (back ++ (v ++ (10 ∷ []))))) ≡ length front + length back + 1 + length t + length v
+valued-length front t back v =
     omega (
       arith,
-      ap length (pair-parts i t k v),
       length-append front (t ++ (back ++ (v ++ (10 ∷ [])))),
       length-append t (back ++ (v ++ (10 ∷ []))),
       length-append back (v ++ (10 ∷ [])),
       length-append v (10 ∷ []),
     )
+
+pub message-length : (i t n : List ℕ)
+    → length (filled messageForm (i ∷ t ∷ n ∷ [])) ≡ length (filled messageFront (i ∷ [])) + length (filled messageBack (n ∷ [])) + length t
+message-length i t n = ap length (message-parts i t n) ∙ named-length (filled messageFront (i ∷ [])) t (filled messageBack (n ∷ []))
+
+pub pair-length : (i t k v : List ℕ)
+    → length (filled pairForm (i ∷ t ∷ k ∷ v ∷ []))
+    ≡ length (filled pairFront (i ∷ [])) + length (filled kindForm (k ∷ [])) + 1 + length t + length v
+pair-length i t k v = ap length (pair-parts i t k v) ∙ valued-length (filled pairFront (i ∷ [])) t (filled kindForm (k ∷ [])) v
 
 -- ---- checks
 
@@ -173,3 +207,27 @@ module _ (f : List ℕ) (p : Pair) where
       let two = first-passed 16 (inside f (p .start) (p .len)) _ (λ z. omega arith) (one .1) in
       let three = first-passed 16 (ranged f (recordOf (p .value))) [] (λ z. omega arith) (two .1) in
       (one .0, two .0, three .0)
+
+module _ (f : List ℕ) (x : Action) where
+  pub action-unknown : (leb (x .scope) 4 && (eqb (x .verb) 1 || eqb (x .verb) 2)) ≡ false → first (actionChecks f x) ≡ 14
+  action-unknown h = first-fails 14 _ _ h
+
+  pub action-known : (leb (x .scope) 4 && (eqb (x .verb) 1 || eqb (x .verb) 2)) ≡ true → first (actionChecks f x) ≡ first (pairChecks f (x .pair))
+  action-known h = first-holds 14 _ _ h
+
+  pub action-pair : first (actionChecks f x) ≡ 0 → first (pairChecks f (x .pair)) ≡ 0
+  action-pair e = first-passed 14 (leb (x .scope) 4 && (eqb (x .verb) 1 || eqb (x .verb) 2)) (pairChecks f (x .pair)) (λ z. omega arith) e .1
+
+  -- its line in parts: a set's, and an unset's
+  pub action-set : (i : ℕ) → x .verb ≡ 1
+      → actionLine i f x
+      ≡ filled setFront (decimal i ∷ decimal (x .scope) ∷ []) ++ (shown (keyOf f (x .pair)) ++ (filled kindForm (decimal (x .pair .value .kind) ∷ []) ++ (valueText f (recordOf (x .pair .value)) ++ (10 ∷ []))))
+  unfolding actionLine
+  action-set i e =
+      rw (eq-eqb (x .verb) 1 e)
+      (set-parts (decimal i) (decimal (x .scope)) (shown (keyOf f (x .pair))) (decimal (x .pair .value .kind)) (valueText f (recordOf (x .pair .value))))
+
+  pub action-unset : (i : ℕ) → (x .verb ≡ 1 → ⊥)
+      → actionLine i f x ≡ filled unsetFront (decimal i ∷ decimal (x .scope) ∷ []) ++ (shown (keyOf f (x .pair)) ++ filled (10 ∷ []) [])
+  unfolding actionLine
+  action-unset i ne = rw (ne-eqb (x .verb) 1 ne) (unset-parts (decimal i) (decimal (x .scope)) (shown (keyOf f (x .pair))))

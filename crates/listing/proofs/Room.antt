@@ -25,7 +25,8 @@ use Rattle.listing.specs.Digits.{decimal, shown}
 use Rattle.listing.specs.Lines.{filled, hasSign, dataText, valueText, messageLine, pairLine}
 use Rattle.listing.proofs.Decimal.{decimal-most}
 use Rattle.listing.proofs.Text.{signed-most, hex-length, shown-none, shown-some}
-use Rattle.listing.proofs.Pieces.{text-at, messageFront, messageBack, pairFront, pairBack, message-length, pair-length}
+use Rattle.listing.proofs.Pieces.{text-at, messageFront, messageBack, pairFront, message-length, pair-length}
+use Rattle.listing.specs.Inner.{kindForm}
 use Rattle.listing.proofs.Accepted.{Each, Named, Whole, whole-held}
 use Rattle.listing.proofs.Distinct.{below}
 
@@ -43,7 +44,7 @@ pair-front : (t : List ℕ) → length (filled pairFront (t ∷ [])) ≡ 10 + le
 unfolding filled
 pair-front t = omega (arith, length-append t (32 ∷ 107 ∷ 101 ∷ 121 ∷ 32 ∷ []))
 
-pair-back : (t : List ℕ) → length (filled pairBack (t ∷ [])) ≡ 13 + length t
+pair-back : (t : List ℕ) → length (filled kindForm (t ∷ [])) ≡ 13 + length t
 unfolding filled
 pair-back t = omega (arith, length-append t (32 ∷ 118 ∷ 97 ∷ 108 ∷ 117 ∷ 101 ∷ 32 ∷ []))
 

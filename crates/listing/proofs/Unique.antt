@@ -6,10 +6,11 @@ use Rattle.answer.specs.declared.Written.{Written}
 use Rattle.answer.proofs.Same.{writes-unique, one-only}
 use Rattle.frame.specs.declared.Message.{Message}
 use Rattle.frame.specs.declared.Pair.{Pair}
+use Rattle.frame.specs.declared.Action.{Action}
 use Rattle.parser.specs.declared.Metadata.{Metadata}
 use Rattle.listing.specs.declared.Place.{Place}
 use Rattle.listing.specs.declared.Step.{Step}
-use Rattle.listing.specs.Promise.{WriteFrameLine, WriteMessageLine, WritePairLine, WriteEndLine, WriteNextLine}
+use Rattle.listing.specs.Promise.{WriteFrameLine, WriteMessageLine, WritePairLine, WriteActionLine, WriteEndLine, WriteNextLine, WriteActionAt}
 
 module _ (r q : Written) (old new other : List ℕ) where
   pub write-frame-line-unique : (index bytes : ℕ) (m : Metadata)
@@ -23,6 +24,14 @@ module _ (r q : Written) (old new other : List ℕ) where
   pub write-pair-line-unique : (index : ℕ) (f : List ℕ) (x : Pair)
       → WritePairLine index f x r old new → WritePairLine index f x q old other → (r ≡ q) × (new ≡ other)
   write-pair-line-unique index f x p s = writes-unique p s
+
+  pub write-action-line-unique : (index : ℕ) (f : List ℕ) (x : Action)
+      → WriteActionLine index f x r old new → WriteActionLine index f x q old other → (r ≡ q) × (new ≡ other)
+  write-action-line-unique index f x p s = writes-unique p s
+
+  pub write-action-at-unique : (f actions : List ℕ) (k : ℕ)
+      → WriteActionAt f actions k r old new → WriteActionAt f actions k q old other → (r ≡ q) × (new ≡ other)
+  write-action-at-unique f actions k p s = writes-unique p s
 
   pub write-end-line-unique : (used number at : ℕ)
       → WriteEndLine used number at r old new → WriteEndLine used number at q old other → (r ≡ q) × (new ≡ other)

@@ -1,11 +1,14 @@
 -- What a record that is to have a line is refused with, in the order of a writer (docs/RULES.md).
+use mathlib.Core.Bool.{_&&_, _||_}
 use mathlib.Core.List.{List, [], _∷_}
 use Prim.Native.Nat.{ℕ}
+use lib.Dec.{leb, eqb}
 use Rattle.answer.specs.Order.{Check}
 use Rattle.types.specs.Form.{inside, writableRecord, ranged}
 use Rattle.types.specs.Promise.{recordOf}
 use Rattle.frame.specs.declared.Pair.{Pair}
 use Rattle.frame.specs.declared.Message.{Message}
+use Rattle.frame.specs.declared.Action.{Action}
 
 -- A name that lies outside the frame's bytes; numbers outside their fields, a key that lies outside, and a value that does.
 abbrev pub messageChecks : List ℕ → Message → List Check
@@ -16,3 +19,8 @@ pairChecks f p =
     (14, writableRecord (recordOf (p .value)))
     ∷ (16, inside f (p .start) (p .len))
     ∷ (16, ranged f (recordOf (p .value))) ∷ []
+
+-- An action's own numbers outside their fields (SPOE.txt, section 3.4: it is a set or an unset, of a scope up to 4), and what its pair is
+-- refused with. The value of an unset has no text, and is checked as that of a set.
+abbrev pub actionChecks : List ℕ → Action → List Check
+actionChecks f x = (14, leb (x .scope) 4 && (eqb (x .verb) 1 || eqb (x .verb) 2)) ∷ pairChecks f (x .pair)

@@ -1,12 +1,14 @@
 -- What only private contracts cite. No public promise rests on anything in this file.
 use mathlib.Core.Path.{_≡_}
 use mathlib.Core.Bool.{true}
-use mathlib.Core.List.{List}
+use mathlib.Core.List.{List, [], _∷_, _++_, map}
 use Rattle.answer.specs.declared.Written.{Written}
 use Rattle.answer.specs.declared.Written.the-variants as w
 use Rattle.types.specs.declared.Value.{Value}
 use Rattle.types.specs.Form.{writableRecord, ranged}
 use Rattle.types.specs.Promise.{recordOf}
+use Rattle.listing.specs.Digits.{decimal, shown}
+use Rattle.listing.specs.Lines.{filled, valueText}
 use Rattle.listing.specs.declared.Place.{Place}
 use Rattle.listing.specs.declared.Step.{Step}
 use Rattle.listing.specs.declared.Step.the-variants as s
@@ -16,6 +18,18 @@ use Prim.Native.Nat.{ℕ}
 pub record Listed (f : List ℕ) (v : Value) : Type 0 where
   pub fields : writableRecord (recordOf v) ≡ true
   pub range : ranged f (recordOf v) ≡ true
+
+-- ` kind # value `, between a key and a value
+abbrev pub kindForm : List ℕ
+kindForm = 32 ∷ 107 ∷ 105 ∷ 110 ∷ 100 ∷ 32 ∷ 35 ∷ 32 ∷ 118 ∷ 97 ∷ 108 ∷ 117 ∷ 101 ∷ 32 ∷ []
+
+-- A line with a name in it, between words with their numbers; and a line that ends in a value.
+abbrev pub namedText : List ℕ → List ℕ → List ℕ → List ℕ → List ℕ → List ℕ
+namedText front numbers name back others = filled front (map decimal numbers) ++ (shown name ++ filled back (map decimal others))
+
+abbrev pub valuedText : List ℕ → List ℕ → List ℕ → List ℕ → Value → List ℕ
+valuedText front numbers key f v =
+    filled front (map decimal numbers) ++ (shown key ++ (filled kindForm (decimal (v .kind) ∷ []) ++ (valueText f (recordOf v) ++ (10 ∷ []))))
 
 -- a line's answer as a step
 abbrev pub stepFrom : Written → Place → Step

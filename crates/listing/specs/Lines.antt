@@ -16,6 +16,7 @@ use Rattle.types.specs.Form.{part}
 use Rattle.types.specs.Promise.{recordOf}
 use Rattle.frame.specs.declared.Pair.{Pair}
 use Rattle.frame.specs.declared.Message.{Message}
+use Rattle.frame.specs.declared.Action.{Action}
 use Rattle.frame.specs.Records.{keyOf}
 use Rattle.parser.specs.declared.Metadata.{Metadata}
 use Rattle.listing.specs.Digits.{dash, decimal, signed, shown}
@@ -38,7 +39,7 @@ unfoldable pub filled : List ℕ → List (List ℕ) → List ℕ
 filled [] texts = []
 filled (b ∷ form) texts = piece b texts ++ filled form (others b texts)
 
--- The forms of the four kinds of line, each with the line's end.
+-- The forms of the kinds of line, each with the line's end.
 
 -- `frame # type # stream # id # bytes #`
 abbrev pub frameForm : List ℕ
@@ -51,6 +52,14 @@ messageForm = 109 ∷ 101 ∷ 115 ∷ 115 ∷ 97 ∷ 103 ∷ 101 ∷ 32 ∷ 35 �
 -- `pair # key # kind # value #`
 abbrev pub pairForm : List ℕ
 pairForm = 112 ∷ 97 ∷ 105 ∷ 114 ∷ 32 ∷ 35 ∷ 32 ∷ 107 ∷ 101 ∷ 121 ∷ 32 ∷ 35 ∷ 32 ∷ 107 ∷ 105 ∷ 110 ∷ 100 ∷ 32 ∷ 35 ∷ 32 ∷ 118 ∷ 97 ∷ 108 ∷ 117 ∷ 101 ∷ 32 ∷ 35 ∷ 10 ∷ []
+
+-- `action # set scope # name # kind # value #`
+abbrev pub setForm : List ℕ
+setForm = 97 ∷ 99 ∷ 116 ∷ 105 ∷ 111 ∷ 110 ∷ 32 ∷ 35 ∷ 32 ∷ 115 ∷ 101 ∷ 116 ∷ 32 ∷ 115 ∷ 99 ∷ 111 ∷ 112 ∷ 101 ∷ 32 ∷ 35 ∷ 32 ∷ 110 ∷ 97 ∷ 109 ∷ 101 ∷ 32 ∷ 35 ∷ 32 ∷ 107 ∷ 105 ∷ 110 ∷ 100 ∷ 32 ∷ 35 ∷ 32 ∷ 118 ∷ 97 ∷ 108 ∷ 117 ∷ 101 ∷ 32 ∷ 35 ∷ 10 ∷ []
+
+-- `action # unset scope # name #`
+abbrev pub unsetForm : List ℕ
+unsetForm = 97 ∷ 99 ∷ 116 ∷ 105 ∷ 111 ∷ 110 ∷ 32 ∷ 35 ∷ 32 ∷ 117 ∷ 110 ∷ 115 ∷ 101 ∷ 116 ∷ 32 ∷ 115 ∷ 99 ∷ 111 ∷ 112 ∷ 101 ∷ 32 ∷ 35 ∷ 32 ∷ 110 ∷ 97 ∷ 109 ∷ 101 ∷ 32 ∷ 35 ∷ 10 ∷ []
 
 -- `end # # #`
 abbrev pub endForm : List ℕ
@@ -92,6 +101,19 @@ messageLine index f m = messageText index (part f (m .start) (m .len)) (m .count
 
 unfoldable pub pairLine : ℕ → List ℕ → Pair → List ℕ
 pairLine index f p = pairText index (keyOf f p) f (p .value)
+
+-- an action that sets a variable of this scope and name, and one that unsets it
+abbrev pub setText : ℕ → ℕ → List ℕ → List ℕ → Value → List ℕ
+setText index scope name f v =
+    filled setForm (decimal index ∷ decimal scope ∷ shown name ∷ decimal (v .kind) ∷ valueText f (recordOf v) ∷ [])
+
+abbrev pub unsetText : ℕ → ℕ → List ℕ → List ℕ
+unsetText index scope name = filled unsetForm (decimal index ∷ decimal scope ∷ shown name ∷ [])
+
+unfoldable pub actionLine : ℕ → List ℕ → Action → List ℕ
+actionLine index f x =
+    let name = keyOf f (x .pair) in
+    cond (eqb (x .verb) 1) (setText index (x .scope) name f (x .pair .value)) (unsetText index (x .scope) name)
 
 -- bytes used by accepted frames, the answer that stopped it, and the missing count or the place
 unfoldable pub endLine : ℕ → ℕ → ℕ → List ℕ

@@ -6,10 +6,10 @@ use lib.Dec.{ltb, leb}
 use Rattle.answer.specs.Answer.{Answer, written}
 use Rattle.answer.specs.Order.{after}
 use Rattle.answer.specs.Table.{holds}
-use Rattle.frame.specs.Records.{messageWidth, pairWidth, messageAt, pairAt}
+use Rattle.frame.specs.Records.{messageWidth, pairWidth, actionWidth, messageAt, pairAt, actionAt}
 use Rattle.listing.specs.declared.Place.{Place}
-use Rattle.listing.specs.Lines.{messageLine, pairLine}
-use Rattle.listing.specs.Check.{messageChecks, pairChecks}
+use Rattle.listing.specs.Lines.{messageLine, pairLine, actionLine}
+use Rattle.listing.specs.Check.{messageChecks, pairChecks, actionChecks}
 
 -- ---- which
 
@@ -34,6 +34,10 @@ pairAnswer f pairs k =
 abbrev pub messageAnswer : List ℕ → List ℕ → ℕ → Answer (List ℕ)
 messageAnswer f messages i =
     after ((16, holds messageWidth messages (i + 1)) ∷ messageChecks f (messageAt messages i)) (written (messageLine i f (messageAt messages i)))
+
+abbrev pub actionAnswer : List ℕ → List ℕ → ℕ → Answer (List ℕ)
+actionAnswer f actions k =
+    after ((16, holds actionWidth actions (k + 1)) ∷ actionChecks f (actionAt actions k)) (written (actionLine k f (actionAt actions k)))
 
 -- a line and the place behind it, or no line
 pub data Coming : Type 0 where

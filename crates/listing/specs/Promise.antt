@@ -9,13 +9,14 @@ use Rattle.answer.specs.Writes.{Writes}
 use Rattle.answer.specs.Order.{after}
 use Rattle.frame.specs.declared.Pair.{Pair}
 use Rattle.frame.specs.declared.Message.{Message}
+use Rattle.frame.specs.declared.Action.{Action}
 use Rattle.parser.specs.declared.Metadata.{Metadata}
 use Rattle.listing.specs.declared.Place.{Place}
 use Rattle.listing.specs.declared.Step.{Step}
 use Rattle.listing.specs.declared.Step.the-variants as s
-use Rattle.listing.specs.Lines.{frameLine, messageLine, pairLine, endLine}
-use Rattle.listing.specs.Check.{messageChecks, pairChecks}
-use Rattle.listing.specs.Order.{Coming, line, none, coming}
+use Rattle.listing.specs.Lines.{frameLine, messageLine, pairLine, actionLine, endLine}
+use Rattle.listing.specs.Check.{messageChecks, pairChecks, actionChecks}
+use Rattle.listing.specs.Order.{Coming, line, none, coming, actionAnswer}
 
 -- ---- what the next line says
 
@@ -50,9 +51,17 @@ abbrev pub WritePairLine : ℕ → List ℕ → Pair → Written → List ℕ �
 WritePairLine index f p r old new =
     Writes (within (length old) (after (pairChecks f p) (written (pairLine index f p)))) r old new
 
+abbrev pub WriteActionLine : ℕ → List ℕ → Action → Written → List ℕ → List ℕ → Type 0
+WriteActionLine index f x r old new =
+    Writes (within (length old) (after (actionChecks f x) (written (actionLine index f x)))) r old new
+
 abbrev pub WriteEndLine : ℕ → ℕ → ℕ → Written → List ℕ → List ℕ → Type 0
 WriteEndLine used number at r old new = Writes (within (length old) (written (endLine used number at))) r old new
 
 -- what comes at a place
 abbrev pub WriteNextLine : List ℕ → List ℕ → ℕ → List ℕ → ℕ → Place → Step → List ℕ → List ℕ → Type 0
 WriteNextLine f messages count pairs total p r old new = Comes (coming f messages count pairs total p) r old new
+
+-- action k of a table
+abbrev pub WriteActionAt : List ℕ → List ℕ → ℕ → Written → List ℕ → List ℕ → Type 0
+WriteActionAt f actions k r old new = Writes (within (length old) (actionAnswer f actions k)) r old new

@@ -6,10 +6,12 @@ mod line;
 mod order;
 
 use answer::Refusal;
+pub use line::write_action_line;
 pub use line::write_end_line;
 pub use line::write_frame_line;
 pub use line::write_message_line;
 pub use line::write_pair_line;
+pub use order::write_action_at;
 pub use order::write_next_line;
 
 // Behind which lines of a frame: how many of its messages and pairs have theirs, and how many arguments of the last message are to come.

@@ -13,13 +13,17 @@ use answer::NOT_WRITABLE;
 use answer::OUTSIDE;
 use answer::Refusal;
 use answer::Written;
+use frame::Action;
 use frame::Message;
 use frame::Pair;
+use frame::SET_VAR;
+use frame::UNSET_VAR;
 use parser::Metadata;
 use types::Value;
 ghost use mathlib.Core.Path.{_≡_};
+ghost use mathlib.Core.Bool.{_&&_, _||_};
 ghost use Prim.Native.Nat.{_≤_};
-ghost use lib.Dec.{leb};
+ghost use lib.Dec.{leb, eqb};
 ghost use lib.ListN.{length};
 ghost use Rattle.answer.specs.Answer.{written, within};
 ghost use Rattle.answer.specs.Writes.{Writes};
@@ -27,10 +31,10 @@ ghost use Rattle.answer.specs.Order.{first as firstOf};
 ghost use Rattle.types.specs.Inner.{Puts};
 ghost use Rattle.types.specs.Form.{inside};
 ghost use Rattle.types.specs.Promise.{recordOf};
-ghost use Rattle.listing.specs.Lines.{valueText, messageText, pairText};
-ghost use Rattle.listing.specs.Check.{pairChecks};
-ghost use Rattle.listing.specs.Promise.{WriteFrameLine, WriteMessageLine, WritePairLine, WriteEndLine};
-ghost use Rattle.listing.specs.Inner.{Listed};
+ghost use Rattle.listing.specs.Lines.{valueText};
+ghost use Rattle.listing.specs.Check.{pairChecks, actionChecks};
+ghost use Rattle.listing.specs.Promise.{WriteFrameLine, WriteMessageLine, WritePairLine, WriteActionLine, WriteEndLine};
+ghost use Rattle.listing.specs.Inner.{Listed, namedText, valuedText};
 
 // Writes the line of a frame: its index, type, stream and id, and how many bytes it takes.
 pub fn write_frame_line(index: u64, metadata: Metadata, bytes: u64, out: &mut [u8]) -> Written
@@ -71,7 +75,14 @@ pub fn write_message_line(index: u64, frame: &[u8], message: Message, out: &mut 
     }
     let from = message.start as usize;
     let to = from + message.len as usize;
-    write_message(index, &frame[from..to], message.count, out)
+    write_named(
+        b"message # name ",
+        &[index],
+        &frame[from..to],
+        b" args #\n",
+        &[message.count],
+        out,
+    )
 }
 
 // Whether len bytes from start on lie in the frame.
@@ -85,21 +96,39 @@ fn is_inside(start: u64, len: u64, frame: &[u8]) -> bool
     len <= room - start
 }
 
-// Writes the line of a message of this name.
-fn write_message(index: u64, name: &[u8], count: u64, out: &mut [u8]) -> Written
-    ensures { λ r. ⌜ Writes (within (length (now (out .entry))) (written (messageText index (now (name .entry)) count))) r (now (out .entry)) (now (out .exit)) ⌝ }
+// Writes a line of words with their numbers, a name, and words with theirs.
+fn write_named(
+    front: &[u8],
+    numbers: &[u64],
+    name: &[u8],
+    back: &[u8],
+    others: &[u64],
+    out: &mut [u8],
+) -> Written
+    requires { ⌜ length (now front) ≤ 64 ⌝ }
+    requires { ⌜ length (now back) ≤ 64 ⌝ }
+    ensures { λ r. ⌜ Writes (within (length (now (out .entry))) (written (namedText (now (front .entry)) (now (numbers .entry)) (now (name .entry)) (now (back .entry)) (now (others .entry))))) r (now (out .entry)) (now (out .exit)) ⌝ }
 {
-    if !message_fits(index, name, count, out.len()) {
+    if !named_fits(front, numbers, name, back, others, out.len()) {
         return refused(NO_ROOM);
     }
-    Written::Done(put_message(index, name, count, out))
+    Written::Done(put_named(front, numbers, name, back, others, out))
 }
 
 // Whether the line has at most `room` bytes.
-fn message_fits(index: u64, name: &[u8], count: u64, room: usize) -> bool
-    ensures { λ r. ⌜ r ≡ leb (length (messageText index (now (name .entry)) count)) room ⌝ }
+fn named_fits(
+    front: &[u8],
+    numbers: &[u64],
+    name: &[u8],
+    back: &[u8],
+    others: &[u64],
+    room: usize,
+) -> bool
+    requires { ⌜ length (now front) ≤ 64 ⌝ }
+    requires { ⌜ length (now back) ≤ 64 ⌝ }
+    ensures { λ r. ⌜ r ≡ leb (length (namedText (now (front .entry)) (now (numbers .entry)) (now (name .entry)) (now (back .entry)) (now (others .entry)))) room ⌝ }
 {
-    let words = filled_len(b"message # name ", &[index]) + filled_len(b" args #\n", &[count]);
+    let words = filled_len(front, numbers) + filled_len(back, others);
     if room < words {
         return false;
     }
@@ -107,13 +136,20 @@ fn message_fits(index: u64, name: &[u8], count: u64, room: usize) -> bool
 }
 
 // Writes the line where there is room.
-fn put_message(index: u64, name: &[u8], count: u64, out: &mut [u8]) -> usize
-    requires { ⌜ length (messageText index (now name) count) ≤ length (now out) ⌝ }
-    ensures { λ r. ⌜ Puts (written (messageText index (now (name .entry)) count)) r (now (out .entry)) (now (out .exit)) ⌝ }
+fn put_named(
+    front: &[u8],
+    numbers: &[u64],
+    name: &[u8],
+    back: &[u8],
+    others: &[u64],
+    out: &mut [u8],
+) -> usize
+    requires { ⌜ length (namedText (now front) (now numbers) (now name) (now back) (now others)) ≤ length (now out) ⌝ }
+    ensures { λ r. ⌜ Puts (written (namedText (now (front .entry)) (now (numbers .entry)) (now (name .entry)) (now (back .entry)) (now (others .entry)))) r (now (out .entry)) (now (out .exit)) ⌝ }
 {
-    let mut at = put_filled(b"message # name ", &[index], out);
+    let mut at = put_filled(front, numbers, out);
     at += put_shown(name, &mut out[at..]);
-    at += put_filled(b" args #\n", &[count], &mut out[at..]);
+    at += put_filled(back, others, &mut out[at..]);
     at
 }
 
@@ -127,7 +163,14 @@ pub fn write_pair_line(index: u64, frame: &[u8], pair: Pair, out: &mut [u8]) -> 
     }
     let from = pair.start as usize;
     let to = from + pair.len as usize;
-    write_pair(index, &frame[from..to], pair.value, frame, out)
+    write_valued(
+        b"pair # key ",
+        &[index],
+        &frame[from..to],
+        pair.value,
+        frame,
+        out,
+    )
 }
 
 // What a pair is refused with: 14 or 16, the first that holds; else 0.
@@ -150,25 +193,92 @@ fn check_pair(pair: Pair, frame: &[u8]) -> u64
     0
 }
 
-// Writes the line of a pair of this key.
-fn write_pair(index: u64, key: &[u8], value: Value, frame: &[u8], out: &mut [u8]) -> Written
-    requires { ⌜ Listed (now frame) value ⌝ }
-    ensures { λ r. ⌜ Writes (within (length (now (out .entry))) (written (pairText index (now (key .entry)) (now (frame .entry)) value))) r (now (out .entry)) (now (out .exit)) ⌝ }
+// Writes the line of an action of the frame: its index, what it does, its scope, its variable's name, and what it sets it to.
+pub fn write_action_line(index: u64, frame: &[u8], action: Action, out: &mut [u8]) -> Written
+    ensures { λ r. ⌜ WriteActionLine index (now (frame .entry)) action r (now (out .entry)) (now (out .exit)) ⌝ }
 {
-    if !pair_fits(index, key, value, frame, out.len()) {
+    let number = check_action(action, frame);
+    if number != 0 {
+        return refused(number);
+    }
+    let from = action.pair.start as usize;
+    let to = from + action.pair.len as usize;
+    if action.verb == SET_VAR {
+        return write_valued(
+            b"action # set scope # name ",
+            &[index, action.scope],
+            &frame[from..to],
+            action.pair.value,
+            frame,
+            out,
+        );
+    }
+    write_named(
+        b"action # unset scope # name ",
+        &[index, action.scope],
+        &frame[from..to],
+        b"\n",
+        &[],
+        out,
+    )
+}
+
+// What an action is refused with: 14 or 16, the first that holds; else 0.
+fn check_action(action: Action, frame: &[u8]) -> u64
+    ensures { λ r. ⌜ r ≡ firstOf (actionChecks (now (frame .entry)) action) ⌝ }
+{
+    if !is_action(action) {
+        return NOT_WRITABLE;
+    }
+    check_pair(action.pair, frame)
+}
+
+// Whether it is a set or an unset, of a scope that there is.
+fn is_action(action: Action) -> bool
+    ensures { λ r. ⌜ r ≡ (leb (action .scope) 4 && (eqb (action .verb) 1 || eqb (action .verb) 2)) ⌝ }
+{
+    if 4 < action.scope {
+        return false;
+    }
+    if action.verb == SET_VAR {
+        return true;
+    }
+    action.verb == UNSET_VAR
+}
+
+// Writes a line of words with their numbers, a key, and a value's kind and text.
+fn write_valued(
+    front: &[u8],
+    numbers: &[u64],
+    key: &[u8],
+    value: Value,
+    frame: &[u8],
+    out: &mut [u8],
+) -> Written
+    requires { ⌜ length (now front) ≤ 64 ⌝ }
+    requires { ⌜ Listed (now frame) value ⌝ }
+    ensures { λ r. ⌜ Writes (within (length (now (out .entry))) (written (valuedText (now (front .entry)) (now (numbers .entry)) (now (key .entry)) (now (frame .entry)) value))) r (now (out .entry)) (now (out .exit)) ⌝ }
+{
+    if !valued_fits(front, numbers, key, value, frame, out.len()) {
         return refused(NO_ROOM);
     }
-    Written::Done(put_pair(index, key, value, frame, out))
+    Written::Done(put_valued(front, numbers, key, value, frame, out))
 }
 
 // Whether the line has at most `room` bytes.
-fn pair_fits(index: u64, key: &[u8], value: Value, frame: &[u8], room: usize) -> bool
+fn valued_fits(
+    front: &[u8],
+    numbers: &[u64],
+    key: &[u8],
+    value: Value,
+    frame: &[u8],
+    room: usize,
+) -> bool
+    requires { ⌜ length (now front) ≤ 64 ⌝ }
     requires { ⌜ Listed (now frame) value ⌝ }
-    ensures { λ r. ⌜ r ≡ leb (length (pairText index (now (key .entry)) (now (frame .entry)) value)) room ⌝ }
+    ensures { λ r. ⌜ r ≡ leb (length (valuedText (now (front .entry)) (now (numbers .entry)) (now (key .entry)) (now (frame .entry)) value)) room ⌝ }
 {
-    let words = filled_len(b"pair # key ", &[index])
-        + filled_len(b" kind # value ", &[value.kind])
-        + 1;
+    let words = filled_len(front, numbers) + filled_len(b" kind # value ", &[value.kind]) + 1;
     if room < words {
         return false;
     }
@@ -202,12 +312,19 @@ fn text_len(value: Value, frame: &[u8]) -> u64
 }
 
 // Writes the line where there is room.
-fn put_pair(index: u64, key: &[u8], value: Value, frame: &[u8], out: &mut [u8]) -> usize
+fn put_valued(
+    front: &[u8],
+    numbers: &[u64],
+    key: &[u8],
+    value: Value,
+    frame: &[u8],
+    out: &mut [u8],
+) -> usize
     requires { ⌜ Listed (now frame) value ⌝ }
-    requires { ⌜ length (pairText index (now key) (now frame) value) ≤ length (now out) ⌝ }
-    ensures { λ r. ⌜ Puts (written (pairText index (now (key .entry)) (now (frame .entry)) value)) r (now (out .entry)) (now (out .exit)) ⌝ }
+    requires { ⌜ length (valuedText (now front) (now numbers) (now key) (now frame) value) ≤ length (now out) ⌝ }
+    ensures { λ r. ⌜ Puts (written (valuedText (now (front .entry)) (now (numbers .entry)) (now (key .entry)) (now (frame .entry)) value)) r (now (out .entry)) (now (out .exit)) ⌝ }
 {
-    let mut at = put_filled(b"pair # key ", &[index], out);
+    let mut at = put_filled(front, numbers, out);
     at += put_shown(key, &mut out[at..]);
     at += put_filled(b" kind # value ", &[value.kind], &mut out[at..]);
     at += put_text(value, frame, &mut out[at..]);

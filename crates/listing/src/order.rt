@@ -1,11 +1,14 @@
 // The lines of a frame in their order, where its records stand in two tables: each message before its own arguments.
 use crate::Place;
 use crate::Step;
+use crate::line::write_action_line;
 use crate::line::write_message_line;
 use crate::line::write_pair_line;
 use answer::OUTSIDE;
 use answer::Refusal;
 use answer::Written;
+use frame::ACTION_WIDTH;
+use frame::Action;
 use frame::MESSAGE_WIDTH;
 use frame::Message;
 use frame::PAIR_WIDTH;
@@ -14,9 +17,9 @@ use types::Value;
 ghost use mathlib.Core.Path.{_≡_};
 ghost use Prim.Native.Nat.{_+_, _-_, _*_, _≤_};
 ghost use lib.ListN.{length};
-ghost use Rattle.frame.specs.Records.{messageWidth, pairWidth, messageAt, pairAt};
+ghost use Rattle.frame.specs.Records.{messageWidth, pairWidth, actionWidth, messageAt, pairAt, actionAt};
 ghost use Rattle.listing.specs.Order.{pairNext, behindPair, behindMessage, pairAnswer, messageAnswer, line};
-ghost use Rattle.listing.specs.Promise.{Comes, WriteNextLine};
+ghost use Rattle.listing.specs.Promise.{Comes, WriteNextLine, WriteActionAt};
 ghost use Rattle.listing.specs.Inner.{stepFrom};
 
 // Writes the line that comes at a place, of a frame with `count` messages and `total` pairs in its tables. The place of the first is all 0.
@@ -108,6 +111,19 @@ fn less(n: u64) -> u64
     if n == 0 { 0 } else { n - 1 }
 }
 
+// Writes the line of action k of a table.
+pub fn write_action_at(frame: &[u8], actions: &[u64], k: usize, out: &mut [u8]) -> Written
+    ensures { λ r. ⌜ WriteActionAt (now (frame .entry)) (now (actions .entry)) k r (now (out .entry)) (now (out .exit)) ⌝ }
+{
+    if actions.len() / ACTION_WIDTH <= k {
+        return Written::Refused(Refusal {
+            number: OUTSIDE,
+            place: 0,
+        });
+    }
+    write_action_line(k as u64, frame, action_at(actions, k), out)
+}
+
 // Record k of a table of pairs.
 fn pair_at(pairs: &[u64], k: usize) -> Pair
     requires { ⌜ k * pairWidth + pairWidth ≤ length (now pairs) ⌝ }
@@ -137,5 +153,27 @@ fn message_at(messages: &[u64], i: usize) -> Message
         len: messages[at + 1],
         first: messages[at + 2],
         count: messages[at + 3],
+    }
+}
+
+// Record k of a table of actions.
+fn action_at(actions: &[u64], k: usize) -> Action
+    requires { ⌜ k * actionWidth + actionWidth ≤ length (now actions) ⌝ }
+    ensures { λ r. ⌜ r ≡ actionAt (now (actions .entry)) k ⌝ }
+{
+    let at = k * ACTION_WIDTH;
+    Action {
+        verb: actions[at],
+        scope: actions[at + 1],
+        pair: Pair {
+            start: actions[at + 2],
+            len: actions[at + 3],
+            value: Value {
+                kind: actions[at + 4],
+                a: actions[at + 5],
+                b: actions[at + 6],
+                flags: actions[at + 7],
+            },
+        },
     }
 }

@@ -1,4 +1,4 @@
--- `listing::line::write_message_line` meets its contract: the name lies outside, or `write_message` writes its line.
+-- `listing::line::write_message_line` meets its contract: the name lies outside, or `write_named` writes its line.
 -- Assumes nothing.
 use mathlib.Core.Path.{_≡_, sym, _∙_}
 use mathlib.Core.Bool.{true}
@@ -8,11 +8,12 @@ use lib.ListN.{length}
 use borrow.Author.Tests.{not-true, not-false, leb-true}
 use Rattle.answer.specs.Answer.{written}
 use Rattle.answer.proofs.Output.{writes-refusal}
-use Rattle.types.specs.Form.{inside}
+use Rattle.types.specs.Form.{part, inside}
 use Rattle.types.proofs.Writing.{part-lent}
+use Rattle.listing.specs.Digits.{decimal, shown}
 use Rattle.listing.specs.Lines.{messageLine}
 use Rattle.listing.specs.Check.{messageChecks}
-use Rattle.listing.proofs.Pieces.{after-refused, after-none, message-outside, message-inside}
+use Rattle.listing.proofs.Pieces.{after-refused, after-none, message-parts, message-outside, message-inside}
 use borrow.Author.Needs.{needs}
 use Rattle.listing.proofs.line.write_message_line.Statement.{statement}
 use Rattle.listing.proofs.line.write_message_line.Tie as tie
@@ -40,27 +41,40 @@ returns c = let a = c .before .before .before .before .before .args in
 add-to : tie.Need-add-to
 add-to c = omega (arith, ends c, c .before .before .before .before .good)
 
-sub-write-message : tie.Need-sub-write-message
-sub-write-message c = search needs
+slice-aggregate-write-named : tie.Need-slice-aggregate-write-named
+slice-aggregate-write-named c = search needs
 
-part-write-message-start : tie.Need-part-write-message-start
-part-write-message-start c = search needs
+slice-aggregate-write-named-2 : tie.Need-slice-aggregate-write-named-2
+slice-aggregate-write-named-2 c = search needs
 
-part-write-message-end : tie.Need-part-write-message-end
-part-write-message-end c = ends c
+sub-write-named : tie.Need-sub-write-named
+sub-write-named c = search needs
 
-write-message-requires : tie.Need-write-message-requires
-write-message-requires c κs = search needs
+part-write-named-start : tie.Need-part-write-named-start
+part-write-named-start c = search needs
+
+part-write-named-end : tie.Need-part-write-named-end
+part-write-named-end c = ends (c .before .before)
+
+slice-aggregate-write-named-3 : tie.Need-slice-aggregate-write-named-3
+slice-aggregate-write-named-3 c = search needs
+
+slice-aggregate-write-named-4 : tie.Need-slice-aggregate-write-named-4
+slice-aggregate-write-named-4 c = search needs
+
+write-named-requires : tie.Need-write-named-requires
+write-named-requires c κs = search needs
 
 same-length : tie.Need-same-length
 same-length c = search needs
 
 returns-2 : tie.Need-returns-2
 unfolding messageLine
-returns-2 c = let a = c .before .before .before .before .before .before .before .before .before .args in
+returns-2 c = let a = c .before .before .before .before .before .before .before .before .before .before .before .before .before .args in
     let f = a .frame .now in
-    rw (after-none (messageChecks f (a .message)) (written (messageLine (a .index) f (a .message))) (message-inside f (a .message) (named (c .before .before .before .before .before))))
-    (rw part-lent at (c .before .before .write-message .ensures))
+    let m = a .message in
+    rw (after-none (messageChecks f m) (written (messageLine (a .index) f m)) (message-inside f m (named (c .before .before .before .before .before .before .before .before .before))), message-parts (decimal (a .index)) (shown (part f (m .start) (m .len))) (decimal (m .count)))
+    (rw part-lent at (c .before .before .write-named .ensures))
 
 pub write-message-line-spec : {M : Type 1} → statement M
 write-message-line-spec =
@@ -70,9 +84,13 @@ write-message-line-spec =
     refused-requires
     returns
     add-to
-    sub-write-message
-    part-write-message-start
-    part-write-message-end
-    write-message-requires
+    slice-aggregate-write-named
+    slice-aggregate-write-named-2
+    sub-write-named
+    part-write-named-start
+    part-write-named-end
+    slice-aggregate-write-named-3
+    slice-aggregate-write-named-4
+    write-named-requires
     same-length
     returns-2)

@@ -1,4 +1,4 @@
--- `listing::line::write_pair_line` meets its contract: the pair is refused, or `write_pair` writes its line.
+-- `listing::line::write_pair_line` meets its contract: the pair is refused, or `write_valued` writes its line.
 -- Assumes nothing.
 use mathlib.Core.Path.{_≡_, sym, _∙_}
 use Prim.Native.Nat.{_+_, _≤_}
@@ -8,10 +8,13 @@ use borrow.Author.Tests.{leb-true}
 use Rattle.answer.specs.Answer.{written}
 use Rattle.answer.specs.Order.{first}
 use Rattle.answer.proofs.Output.{writes-refusal}
+use Rattle.types.specs.Promise.{recordOf}
 use Rattle.types.proofs.Writing.{part-lent}
-use Rattle.listing.specs.Lines.{pairLine}
+use Rattle.frame.specs.Records.{keyOf}
+use Rattle.listing.specs.Digits.{decimal, shown}
+use Rattle.listing.specs.Lines.{valueText, pairLine}
 use Rattle.listing.specs.Check.{pairChecks}
-use Rattle.listing.proofs.Pieces.{after-refused, after-none, pair-passed}
+use Rattle.listing.proofs.Pieces.{after-refused, after-none, pair-parts, pair-passed}
 use borrow.Author.Needs.{needs}
 use Rattle.listing.proofs.line.write_pair_line.Statement.{statement}
 use Rattle.listing.proofs.line.write_pair_line.Tie as tie
@@ -38,29 +41,36 @@ returns c = let a = c .before .before .before .before .before .args in
 add-to : tie.Need-add-to
 add-to c = omega (arith, ends c, c .before .before .before .before .good)
 
-sub-write-pair : tie.Need-sub-write-pair
-sub-write-pair c = search needs
+slice-aggregate-write-valued : tie.Need-slice-aggregate-write-valued
+slice-aggregate-write-valued c = search needs
 
-part-write-pair-start : tie.Need-part-write-pair-start
-part-write-pair-start c = search needs
+slice-aggregate-write-valued-2 : tie.Need-slice-aggregate-write-valued-2
+slice-aggregate-write-valued-2 c = search needs
 
-part-write-pair-end : tie.Need-part-write-pair-end
-part-write-pair-end c = ends c
+sub-write-valued : tie.Need-sub-write-valued
+sub-write-valued c = search needs
 
-write-pair-requires : tie.Need-write-pair-requires
-write-pair-requires c κs = let a = c .before .before .before .before .before .before .args in
-    let p = pair-passed (a .frame .now) (a .pair) (none (c .before .before)) in
-    record { fields = p .0; range = p .2 }
+part-write-valued-start : tie.Need-part-write-valued-start
+part-write-valued-start c = search needs
+
+part-write-valued-end : tie.Need-part-write-valued-end
+part-write-valued-end c = ends (c .before .before)
+
+write-valued-requires : tie.Need-write-valued-requires
+write-valued-requires c κs = let a = c .before .before .before .before .before .before .before .before .args in
+    let p = pair-passed (a .frame .now) (a .pair) (none (c .before .before .before .before)) in
+    (omega arith, record { fields = p .0; range = p .2 })
 
 same-length : tie.Need-same-length
 same-length c = search needs
 
 returns-2 : tie.Need-returns-2
 unfolding pairLine
-returns-2 c = let a = c .before .before .before .before .before .before .before .before .before .args in
+returns-2 c = let a = c .before .before .before .before .before .before .before .before .before .before .before .args in
     let f = a .frame .now in
-    rw (after-none (pairChecks f (a .pair)) (written (pairLine (a .index) f (a .pair))) (none (c .before .before .before .before .before)))
-    (rw part-lent at (c .before .before .write-pair .ensures))
+    let x = a .pair in
+    rw (after-none (pairChecks f x) (written (pairLine (a .index) f x)) (none (c .before .before .before .before .before .before .before)), pair-parts (decimal (a .index)) (shown (keyOf f x)) (decimal (x .value .kind)) (valueText f (recordOf (x .value))))
+    (rw part-lent at (c .before .before .write-valued .ensures))
 
 pub write-pair-line-spec : {M : Type 1} → statement M
 write-pair-line-spec =
@@ -70,9 +80,11 @@ write-pair-line-spec =
     refused-requires
     returns
     add-to
-    sub-write-pair
-    part-write-pair-start
-    part-write-pair-end
-    write-pair-requires
+    slice-aggregate-write-valued
+    slice-aggregate-write-valued-2
+    sub-write-valued
+    part-write-valued-start
+    part-write-valued-end
+    write-valued-requires
     same-length
     returns-2)

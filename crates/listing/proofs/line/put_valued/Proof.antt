@@ -1,7 +1,7 @@
--- `listing::line::put_pair` meets its contract: the words before the key, the key, the words with the kind, the value and the line's end, each
+-- `listing::line::put_valued` meets its contract: the words before the key, the key, the words with the kind, the value and the line's end, each
 -- in the tail behind the part before it.
 -- Assumes nothing.
-use mathlib.Core.List.{[], _∷_, _++_}
+use mathlib.Core.List.{[], _∷_, _++_, map}
 use Prim.Native.Nat.{_+_, _-_}
 use native.Mathlib.Omega.{arith}
 use lib.ListN.{length, length-set}
@@ -9,29 +9,27 @@ use borrow.Rule.Slice.PartMut.{putMid}
 use Rattle.answer.proofs.Output.{Partly, partly-next, partly-place, partly-length}
 use Rattle.types.specs.Promise.{recordOf}
 use Rattle.listing.specs.Digits.{decimal, shown}
-use Rattle.listing.specs.Lines.{filled, valueText, pairText}
+use Rattle.listing.specs.Lines.{filled, valueText}
+use Rattle.listing.specs.Inner.{kindForm, valuedText}
 use Rattle.listing.proofs.Text.{begin, all-put, Next, next-start, next-room, next-most, next-on}
-use Rattle.listing.proofs.Pieces.{pairBack, pair-parts, pair-length}
+use Rattle.listing.proofs.Pieces.{valued-length}
 use borrow.Author.Needs.{needs}
-use Rattle.listing.proofs.line.put_pair.Statement.{statement}
-use Rattle.listing.proofs.line.put_pair.Tie as tie
+use Rattle.listing.proofs.line.put_valued.Statement.{statement}
+use Rattle.listing.proofs.line.put_valued.Tie as tie
 
 -- the words before the key are written
 keyed : (c : tie.After-slice-known2)
     → let a = c .before .before .before .before .before .before .before .before .before .args in
     let p = c .before .before .put-filled in
-    Next (pairText (a .index) (a .key .now) (a .frame .now) (a .value)) (a .out .now) (p .result) (shown (a .key .now)) (filled pairBack (decimal (a .value .kind) ∷ []) ++ ((valueText (a .frame .now) (recordOf (a .value))) ++ (10 ∷ []))) (p .last .1 .1 .0)
-keyed c =
-    let a = c .before .before .before .before .before .before .before .before .before in
-    let e = pair-parts (decimal (a .args .index)) (shown (a .args .key .now)) (decimal (a .args .value .kind)) (valueText (a .args .frame .now) (recordOf (a .args .value))) in
-    record { left = rw e (begin (c .before .before .put-filled .ensures) (rw e at (a .pre .1))) }
+    Next (valuedText (a .front .now) (a .numbers .now) (a .key .now) (a .frame .now) (a .value)) (a .out .now) (p .result) (shown (a .key .now)) (filled kindForm (decimal (a .value .kind) ∷ []) ++ ((valueText (a .frame .now) (recordOf (a .value))) ++ (10 ∷ []))) (p .last .1 .1 .0)
+keyed c = let a = c .before .before .before .before .before .before .before .before .before in record { left = begin (c .before .before .put-filled .ensures) (a .pre .1) }
 
 -- and the key
 kinded : (c : tie.After-slice-known3)
     → let a = c .before .before .before .before .before .before .before .before .before .before .before .before .before .args in
     let p = c .before .before .before .before .before .before .put-filled in
     let q = c .before .before .put-shown in
-    Next (pairText (a .index) (a .key .now) (a .frame .now) (a .value)) (a .out .now) (p .result + q .result) (filled pairBack (decimal (a .value .kind) ∷ [])) ((valueText (a .frame .now) (recordOf (a .value))) ++ (10 ∷ [])) (putMid (p .result) (length (p .last .1 .1 .0) - (p .result)) (p .last .1 .1 .0) (q .last .1 .0))
+    Next (valuedText (a .front .now) (a .numbers .now) (a .key .now) (a .frame .now) (a .value)) (a .out .now) (p .result + q .result) (filled kindForm (decimal (a .value .kind) ∷ [])) ((valueText (a .frame .now) (recordOf (a .value))) ++ (10 ∷ [])) (putMid (p .result) (length (p .last .1 .1 .0) - (p .result)) (p .last .1 .1 .0) (q .last .1 .0))
 kinded c = record { left = next-on (keyed (c .before .before .before .before)) (c .before .before .put-shown .ensures) }
 
 -- and the kind
@@ -40,7 +38,7 @@ valued : (c : tie.After-slice-known4)
     let p = c .before .before .before .before .before .before .before .before .before .before .before .before .put-filled in
     let q = c .before .before .before .before .before .before .before .before .put-shown in
     let r = c .before .before .put-filled2 in
-    Next (pairText (a .index) (a .key .now) (a .frame .now) (a .value)) (a .out .now) (p .result + q .result + r .result) (valueText (a .frame .now) (recordOf (a .value))) (10 ∷ []) (putMid (p .result + q .result) (length (putMid (p .result) (length (p .last .1 .1 .0) - (p .result)) (p .last .1 .1 .0) (q .last .1 .0)) - (p .result + q .result)) (putMid (p .result) (length (p .last .1 .1 .0) - (p .result)) (p .last .1 .1 .0) (q .last .1 .0)) (r .last .1 .1 .0))
+    Next (valuedText (a .front .now) (a .numbers .now) (a .key .now) (a .frame .now) (a .value)) (a .out .now) (p .result + q .result + r .result) (valueText (a .frame .now) (recordOf (a .value))) (10 ∷ []) (putMid (p .result + q .result) (length (putMid (p .result) (length (p .last .1 .1 .0) - (p .result)) (p .last .1 .1 .0) (q .last .1 .0)) - (p .result + q .result)) (putMid (p .result) (length (p .last .1 .1 .0) - (p .result)) (p .last .1 .1 .0) (q .last .1 .0)) (r .last .1 .1 .0))
 valued c = record { left = next-on (kinded (c .before .before .before .before .before .before)) (c .before .before .put-filled2 .ensures) }
 
 -- and the value
@@ -50,18 +48,12 @@ ended : (c : tie.After-slice-known5)
     let q = c .before .before .before .before .before .before .before .before .before .before .before .before .put-shown in
     let r = c .before .before .before .before .before .before .put-filled2 in
     let t = c .before .before .put-text in
-    Partly (pairText (a .index) (a .key .now) (a .frame .now) (a .value)) (a .out .now) (p .result + q .result + r .result + t .result) (10 ∷ []) (putMid (p .result + q .result + r .result) (length (putMid (p .result + q .result) (length (putMid (p .result) (length (p .last .1 .1 .0) - (p .result)) (p .last .1 .1 .0) (q .last .1 .0)) - (p .result + q .result)) (putMid (p .result) (length (p .last .1 .1 .0) - (p .result)) (p .last .1 .1 .0) (q .last .1 .0)) (r .last .1 .1 .0)) - (p .result + q .result + r .result)) (putMid (p .result + q .result) (length (putMid (p .result) (length (p .last .1 .1 .0) - (p .result)) (p .last .1 .1 .0) (q .last .1 .0)) - (p .result + q .result)) (putMid (p .result) (length (p .last .1 .1 .0) - (p .result)) (p .last .1 .1 .0) (q .last .1 .0)) (r .last .1 .1 .0)) (t .last .1 .1 .0))
+    Partly (valuedText (a .front .now) (a .numbers .now) (a .key .now) (a .frame .now) (a .value)) (a .out .now) (p .result + q .result + r .result + t .result) (10 ∷ []) (putMid (p .result + q .result + r .result) (length (putMid (p .result + q .result) (length (putMid (p .result) (length (p .last .1 .1 .0) - (p .result)) (p .last .1 .1 .0) (q .last .1 .0)) - (p .result + q .result)) (putMid (p .result) (length (p .last .1 .1 .0) - (p .result)) (p .last .1 .1 .0) (q .last .1 .0)) (r .last .1 .1 .0)) - (p .result + q .result + r .result)) (putMid (p .result + q .result) (length (putMid (p .result) (length (p .last .1 .1 .0) - (p .result)) (p .last .1 .1 .0) (q .last .1 .0)) - (p .result + q .result)) (putMid (p .result) (length (p .last .1 .1 .0) - (p .result)) (p .last .1 .1 .0) (q .last .1 .0)) (r .last .1 .1 .0)) (t .last .1 .1 .0))
 ended c = next-on (valued (c .before .before .before .before)) (c .before .before .put-text .ensures)
-
-slice-aggregate-put-filled : tie.Need-slice-aggregate-put-filled
-slice-aggregate-put-filled c = search needs
-
-slice-aggregate-put-filled-2 : tie.Need-slice-aggregate-put-filled-2
-slice-aggregate-put-filled-2 c = search needs
 
 put-filled-requires : tie.Need-put-filled-requires
 put-filled-requires c κs = let a = c .before .before .before .before .before .before in
-    omega (arith, a .pre .1, pair-length (decimal (a .args .index)) (shown (a .args .key .now)) (decimal (a .args .value .kind)) (valueText (a .args .frame .now) (recordOf (a .args .value))))
+    omega (arith, a .pre .1, valued-length (filled (a .args .front .now) (map decimal (a .args .numbers .now))) (shown (a .args .key .now)) (filled kindForm (decimal (a .args .value .kind) ∷ [])) (valueText (a .args .frame .now) (recordOf (a .args .value))))
 
 sub-put-shown : tie.Need-sub-put-shown
 sub-put-shown c = next-start (keyed c)
@@ -78,11 +70,11 @@ put-shown-requires c κs = next-room (keyed (c .before))
 add-at : tie.Need-add-at
 add-at c = omega (arith, next-most (keyed (c .before .before .before .before)) (c .before .before .put-shown .ensures), c .before .before .before .before .before .before .before .before .before .before .before .before .before .good)
 
-slice-aggregate-put-filled-3 : tie.Need-slice-aggregate-put-filled-3
-slice-aggregate-put-filled-3 c = search needs
+slice-aggregate-put-filled : tie.Need-slice-aggregate-put-filled
+slice-aggregate-put-filled c = search needs
 
-slice-aggregate-put-filled-4 : tie.Need-slice-aggregate-put-filled-4
-slice-aggregate-put-filled-4 c = search needs
+slice-aggregate-put-filled-2 : tie.Need-slice-aggregate-put-filled-2
+slice-aggregate-put-filled-2 c = search needs
 
 sub-put-filled : tie.Need-sub-put-filled
 sub-put-filled c = next-start (kinded (c .before .before))
@@ -126,20 +118,18 @@ same-length c = simp (length-set, partly-length (ended c))
 returns : tie.Need-returns
 returns c = all-put (partly-next (ended c))
 
-pub put-pair-spec : {M : Type 1} → statement M
-put-pair-spec =
+pub put-valued-spec : {M : Type 1} → statement M
+put-valued-spec =
     tie.close
     (tie.spec
-    slice-aggregate-put-filled
-    slice-aggregate-put-filled-2
     put-filled-requires
     sub-put-shown
     part-put-shown-start
     part-put-shown-end
     put-shown-requires
     add-at
-    slice-aggregate-put-filled-3
-    slice-aggregate-put-filled-4
+    slice-aggregate-put-filled
+    slice-aggregate-put-filled-2
     sub-put-filled
     part-put-filled-start
     part-put-filled-end

@@ -1,7 +1,8 @@
--- `listing::line::pair_fits` meets its contract: the words are measured first, and then the key and the value are compared with what is
+-- `listing::line::valued_fits` meets its contract: the words are measured first, and then the key and the value are compared with what is
 -- left of the room.
 -- Assumes nothing.
 use mathlib.Core.Path.{_≡_, refl, sym, _∙_}
+use mathlib.Core.List.{[], _∷_, map}
 use Prim.Native.Nat.{_+_, _-_}
 use native.Mathlib.Omega.{arith}
 use lib.ListN.{length}
@@ -9,34 +10,29 @@ use borrow.Author.Tests.{lt-leb}
 use Rattle.types.specs.Promise.{recordOf}
 use Rattle.types.proofs.Writing.{rest-fits}
 use Rattle.listing.specs.Digits.{decimal, shown}
-use Rattle.listing.specs.Lines.{valueText, pairText}
-use Rattle.listing.proofs.Pieces.{pair-length}
+use Rattle.listing.specs.Lines.{filled, valueText}
+use Rattle.listing.specs.Inner.{kindForm, valuedText}
+use Rattle.listing.proofs.Pieces.{valued-length}
 use borrow.Author.Needs.{needs}
-use Rattle.listing.proofs.line.pair_fits.Statement.{statement}
-use Rattle.listing.proofs.line.pair_fits.Tie as tie
+use Rattle.listing.proofs.line.valued_fits.Statement.{statement}
+use Rattle.listing.proofs.line.valued_fits.Tie as tie
 
 whole : (c : tie.After-filled-len2)
     → let a = c .before .before .before .before .before .before .before .before .args in
-    length (pairText (a .index) (a .key .now) (a .frame .now) (a .value))
+    length (valuedText (a .front .now) (a .numbers .now) (a .key .now) (a .frame .now) (a .value))
     ≡ c .before .before .before .filled-len .result + c .filled-len2 .result + 1 + length (shown (a .key .now)) + length (valueText (a .frame .now) (recordOf (a .value)))
 whole c =
     let a = c .before .before .before .before .before .before .before .before .args in
-    omega (arith, pair-length (decimal (a .index)) (shown (a .key .now)) (decimal (a .value .kind)) (valueText (a .frame .now) (recordOf (a .value))), c .before .before .before .filled-len .ensures .0, c .filled-len2 .ensures .0)
+    omega (arith, valued-length (filled (a .front .now) (map decimal (a .numbers .now))) (shown (a .key .now)) (filled kindForm (decimal (a .value .kind) ∷ [])) (valueText (a .frame .now) (recordOf (a .value))), c .before .before .before .filled-len .ensures .0, c .filled-len2 .ensures .0)
+
+filled-len-requires : tie.Need-filled-len-requires
+filled-len-requires c κs = search needs
 
 slice-aggregate-filled-len : tie.Need-slice-aggregate-filled-len
 slice-aggregate-filled-len c = search needs
 
 slice-aggregate-filled-len-2 : tie.Need-slice-aggregate-filled-len-2
 slice-aggregate-filled-len-2 c = search needs
-
-filled-len-requires : tie.Need-filled-len-requires
-filled-len-requires c κs = search needs
-
-slice-aggregate-filled-len-3 : tie.Need-slice-aggregate-filled-len-3
-slice-aggregate-filled-len-3 c = search needs
-
-slice-aggregate-filled-len-4 : tie.Need-slice-aggregate-filled-len-4
-slice-aggregate-filled-len-4 c = search needs
 
 filled-len-requires-2 : tie.Need-filled-len-requires-2
 filled-len-requires-2 c κs = search needs
@@ -49,14 +45,14 @@ add-words-2 c = search needs
 
 returns : tie.Need-returns
 returns c = let a = c .before .before .before .before .before .before .before .before .before .args in
-    sym (lt-leb (length (pairText (a .index) (a .key .now) (a .frame .now) (a .value))) (a .room) (omega (arith, whole (c .before), c .if1 .taken)))
+    sym (lt-leb (length (valuedText (a .front .now) (a .numbers .now) (a .key .now) (a .frame .now) (a .value))) (a .room) (omega (arith, whole (c .before), c .if1 .taken)))
 
 shown-len-requires : tie.Need-shown-len-requires
 shown-len-requires c κs = search needs
 
 returns-2 : tie.Need-returns-2
 returns-2 c = let a = c .before .before .before .before .before .before .before .before .before .before .before .args in
-    sym (lt-leb (length (pairText (a .index) (a .key .now) (a .frame .now) (a .value))) (a .room) (omega (arith, whole (c .before .before .before), c .before .shown-len .ensures (a .key .now) refl, c .before .before .if1 .left, c .if2 .taken)))
+    sym (lt-leb (length (valuedText (a .front .now) (a .numbers .now) (a .key .now) (a .frame .now) (a .value))) (a .room) (omega (arith, whole (c .before .before .before), c .before .shown-len .ensures (a .key .now) refl, c .before .before .if1 .left, c .if2 .taken)))
 
 text-len-requires : tie.Need-text-len-requires
 text-len-requires c κs = search needs
@@ -68,18 +64,16 @@ returns-3 c = let a = c .before .before .before .before .before .before .before 
     let k = c .before .before .shown-len in
     let words = c .before .before .before .before .before .before .before .filled-len .result + w .filled-len2 .result + 1 in
     rest-fits t (k .result) (k .result + t) (a .room - words) refl (c .before .if2 .left)
-    ∙ rest-fits (k .result + t) words (length (pairText (a .index) (a .key .now) (a .frame .now) (a .value))) (a .room)
+    ∙ rest-fits (k .result + t) words (length (valuedText (a .front .now) (a .numbers .now) (a .key .now) (a .frame .now) (a .value))) (a .room)
     (omega (arith, whole w, k .ensures (a .key .now) refl, c .text-len .ensures)) (c .before .before .before .if1 .left)
 
-pub pair-fits-spec : {M : Type 1} → statement M
-pair-fits-spec =
+pub valued-fits-spec : {M : Type 1} → statement M
+valued-fits-spec =
     tie.close
     (tie.spec
+    filled-len-requires
     slice-aggregate-filled-len
     slice-aggregate-filled-len-2
-    filled-len-requires
-    slice-aggregate-filled-len-3
-    slice-aggregate-filled-len-4
     filled-len-requires-2
     add-words
     add-words-2
