@@ -165,7 +165,8 @@ module _ (kv : Bool) (rooms : Rooms) (s : List ℕ) where
       (λ m. let o = end-held at c d end l (rw (le-ltb at (length s) m) at e) in (o .0, omega (arith, o .1)))
       (lt-or-le at (length s))
 
-  payload-held : (c : Contents) (end : ℕ) → payload kv rooms s ≡ done c end → Held (length s) c × (end ≡ length s)
+  -- Law: a payload takes all of its bytes, and each of its records has a line.
+  pub payload-held : (c : Contents) (end : ℕ) → payload kv rooms s ≡ done c end → Held (length s) c × (end ≡ length s)
   unfolding payload
   payload-held c end e =
       to-end-held (length s) 0 (record { messages = []; pairs = []; left = 0 }) c end (omega arith) (omega arith) (record { messages = tt; pairs = tt }) e

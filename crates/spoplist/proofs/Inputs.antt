@@ -14,7 +14,7 @@ use Rattle.parser.specs.Payload.{Contents}
 use Rattle.parser.specs.Frame.{Reading, wait, answered, answerOf, frameRead}
 use Rattle.parser.specs.Inner.{wholeFrame}
 use Rattle.listing.specs.Lines.{filled, frameLine, endLine}
-use Rattle.spoplist.specs.Listing.{Stop, onward, stopOf}
+use Rattle.spoplist.specs.Listing.{Stop, onward, stopOf, haproxysTake}
 use Rattle.listing.proofs.Frames.{itemLines, frameLines}
 use Rattle.listing.proofs.Accepted.{frame-used}
 use Rattle.listing.proofs.Lossless.{messageMeans, pairMeans, Over, SameFrame, listing-apart-then, frame-over, end-over, end-apart}
@@ -33,7 +33,7 @@ linesFrom limit rooms (suc k) index s =
 abbrev pub listing : ℕ → Rooms → List ℕ → List ℕ
 listing limit rooms s =
     linesFrom limit rooms (length s) 0 s
-    ++ endLine (stopOf limit rooms s .used) (stopOf limit rooms s .number) (stopOf limit rooms s .at)
+    ++ endLine (stopOf (haproxysTake limit rooms) s .used) (stopOf (haproxysTake limit rooms) s .number) (stopOf (haproxysTake limit rooms) s .at)
 
 -- ---- what its frames mean
 
@@ -187,10 +187,10 @@ module _ (limit higher : ℕ) (rooms others : Rooms) (y z : Stop) where
 
 -- Law: two inputs with the same listing have the same frames, in order, and stop at the same place for the same reason.
 pub listings-apart : (limit higher : ℕ) (rooms others : Rooms) (s t : List ℕ) → listing limit rooms s ≡ listing higher others t
-    → (meaningsFrom limit rooms (length s) s ≡ meaningsFrom higher others (length t) t) × (stopOf limit rooms s ≡ stopOf higher others t)
+    → (meaningsFrom limit rooms (length s) s ≡ meaningsFrom higher others (length t) t) × (stopOf (haproxysTake limit rooms) s ≡ stopOf (haproxysTake higher others) t)
 listings-apart limit higher rooms others s t e =
-    let y = stopOf limit rooms s in
-    let z = stopOf higher others t in
+    let y = stopOf (haproxysTake limit rooms) s in
+    let z = stopOf (haproxysTake higher others) t in
     let o = lines-apart limit higher rooms others y z (length s) (length t) 0 s t e in
     let q = end-apart (y .used) (y .number) (y .at) (z .used) (z .number) (z .at) (o .1) in
     (o .0, λ i. record { used = q .0 i; number = q .1 i; at = q .2 i })

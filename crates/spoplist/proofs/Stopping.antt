@@ -6,98 +6,123 @@ use native.Mathlib.Omega.{arith}
 use lib.ListN.{length, drop, length-drop}
 use lib.Seq.{drop-drop}
 use borrow.Author.Tests.{lt-ltb, le-ltb}
-use Rattle.answer.specs.Answer.{done, refused}
+use Rattle.answer.specs.Answer.{Answer, done, refused}
 use Rattle.parser.specs.declared.Rooms.{Rooms}
 use Rattle.parser.specs.declared.Metadata.{Metadata}
-use Rattle.parser.specs.declared.FrameRead.the-variants as r
-use Rattle.parser.specs.Payload.{Contents}
-use Rattle.parser.specs.Frame.{Reading, wait, answered, answerOf, frameRead}
-use Rattle.parser.specs.Promise.{Counts, frameTells}
-use Rattle.spoplist.specs.Listing.{stopFrom, stopOf}
+use Rattle.parser.specs.Frame.{Reading, wait, answered, frameRead}
+use Rattle.parser.specs.Promise.{Counts, countsOf, frameTells}
+use Rattle.agent.specs.Frame.{Sent, agentRead}
+use Rattle.agent.specs.Promise.{agentTells}
 use Rattle.listing.proofs.Accepted.{frame-used}
+use Rattle.spoplist.specs.Listing.{taken, stopFrom, stopOf, haproxysTake, agentsTake}
+use Rattle.spoplist.specs.Inner.{Accepts}
+use Rattle.spoplist.proofs.Agents.{agent-used}
 
--- ---- what the reader said
+-- ---- what a reader said
 
--- of a frame that is accepted
-pub record Taken (limit : ℕ) (rooms : Rooms) (s : List ℕ) (used : ℕ) : Type 0 where
-  pub frame : Metadata × Contents
-  pub is : answerOf (frameRead limit rooms s) ≡ done frame used
-  pub some : 1 ≤ used
-  pub most : used ≤ length s
+-- Of any reader, by what is told of its answers: counts stand for the records.
+module _ {A : Type 0} (count : A → Counts) (tells : Reading (Metadata × A) → Reading (Metadata × Counts)) (waits : (n : ℕ) → tells (wait n) ≡ wait n)
+    (does : (m : Metadata) (c : A) (n : ℕ) → tells (answered (done (m, c) n)) ≡ answered (done (m, count c) n))
+    (refuses : (n place : ℕ) → tells (answered (refused n place)) ≡ answered (refused n place)) where
+  pub told-done : (x : Reading (Metadata × A)) (m : Metadata) (k : Counts) (used : ℕ) → answered (done (m, k) used) ≡ tells x
+      → (y : Metadata × A) × (x ≡ answered (done y used))
+  told-done (wait n) m k used q = let e = q ∙ waits n in let z : _≡_ {A = ℕ} 0 1 = cc in absurd (omega arith)
+  told-done (answered (refused n place)) m k used q = let e = q ∙ refuses n place in let z : _≡_ {A = ℕ} 0 1 = cc in absurd (omega arith)
+  told-done (answered (done (n, c) u)) m k used q =
+      let e = q ∙ does n c u in
+      let same : used ≡ u = cc in
+      ((n, c), ap (λ (v : ℕ). answered (done (n, c) v)) (sym same))
 
+  pub told-wait : (x : Reading (Metadata × A)) (n : ℕ) → wait n ≡ tells x → taken x ≡ refused 1 n
+  told-wait (wait m) n q = let e = q ∙ waits m in let same : n ≡ m = cc in ap (refused 1) (sym same)
+  told-wait (answered (refused m place)) n q = let e = q ∙ refuses m place in let z : _≡_ {A = ℕ} 0 1 = cc in absurd (omega arith)
+  told-wait (answered (done (m, c) u)) n q = let e = q ∙ does m c u in let z : _≡_ {A = ℕ} 0 1 = cc in absurd (omega arith)
+
+  pub told-refused : (x : Reading (Metadata × A)) (number place : ℕ) → answered (refused number place) ≡ tells x → taken x ≡ refused number place
+  told-refused (wait m) number place q = let e = q ∙ waits m in let z : _≡_ {A = ℕ} 0 1 = cc in absurd (omega arith)
+  told-refused (answered (refused m p)) number place q =
+      let e = q ∙ refuses m p in
+      let a : number ≡ m = cc in
+      let b : place ≡ p = cc in
+      ap₂ refused (sym a) (sym b)
+  told-refused (answered (done (m, c) u)) number place q = let e = q ∙ does m c u in let z : _≡_ {A = ℕ} 0 1 = cc in absurd (omega arith)
+
+-- of HAProxy's frames
 module _ (limit : ℕ) (rooms : Rooms) (s : List ℕ) where
-  pub said-taken : (m : Metadata) (k : Counts) (used : ℕ) → _≡_ {A = Reading (Metadata × Counts)} (answered (done (m, k) used)) (frameTells (frameRead limit rooms s)) → Taken limit rooms s used
-  said-taken m k used e = by-answer (frameRead limit rooms s) refl e
-    where
-      by-answer : (x : Reading (Metadata × Contents)) → frameRead limit rooms s ≡ x
-          → _≡_ {A = Reading (Metadata × Counts)} (answered (done (m, k) used)) (frameTells x) → Taken limit rooms s used
-      by-answer (wait n) is q = let z : _≡_ {A = ℕ} 0 1 = cc in absurd (omega arith)
-      by-answer (answered (refused n place)) is q = let z : _≡_ {A = ℕ} 0 1 = cc in absurd (omega arith)
-      by-answer (answered (done (n, c) u)) is q =
-          let same : used ≡ u = cc in
-          let o = frame-used limit rooms s n c u is in
-          record { frame = (n, c); is = ap answerOf is ∙ ap (done (n, c)) (sym same); some = omega (arith, o .0); most = omega (arith, o .1) }
+  pub said-taken : (m : Metadata) (k : Counts) (used : ℕ) → answered (done (m, k) used) ≡ frameTells (frameRead limit rooms s)
+      → Accepts s (haproxysTake limit rooms s) used
+  said-taken m k used e =
+      let o = told-done countsOf frameTells (λ n. refl) (λ n c u. refl) (λ n p. refl) (frameRead limit rooms s) m k used e in
+      let h = frame-used limit rooms s (o .0 .0) (o .0 .1) used (o .1) in
+      record { is = ap taken (o .1); some = omega (arith, h .0); most = h .1 }
 
-  pub said-wait : (n : ℕ) → _≡_ {A = Reading (Metadata × Counts)} (wait n) (frameTells (frameRead limit rooms s)) → answerOf (frameRead limit rooms s) ≡ refused 1 n
-  said-wait n e = by-answer (frameRead limit rooms s) e
-    where
-      by-answer : (x : Reading (Metadata × Contents)) → _≡_ {A = Reading (Metadata × Counts)} (wait n) (frameTells x) → answerOf x ≡ refused 1 n
-      by-answer (wait m) q = let same : n ≡ m = cc in ap (refused 1) (sym same)
-      by-answer (answered (refused m place)) q = let z : _≡_ {A = ℕ} 0 1 = cc in absurd (omega arith)
-      by-answer (answered (done (m, c) u)) q = let z : _≡_ {A = ℕ} 0 1 = cc in absurd (omega arith)
+  pub said-wait : (n : ℕ) → wait n ≡ frameTells (frameRead limit rooms s) → haproxysTake limit rooms s ≡ refused 1 n
+  said-wait n e = told-wait countsOf frameTells (λ n. refl) (λ n c u. refl) (λ n p. refl) (frameRead limit rooms s) n e
 
-  pub said-refused : (number place : ℕ) → _≡_ {A = Reading (Metadata × Counts)} (answered (refused number place)) (frameTells (frameRead limit rooms s))
-      → answerOf (frameRead limit rooms s) ≡ refused number place
-  said-refused number place e = by-answer (frameRead limit rooms s) e
-    where
-      by-answer : (x : Reading (Metadata × Contents)) → _≡_ {A = Reading (Metadata × Counts)} (answered (refused number place)) (frameTells x) → answerOf x ≡ refused number place
-      by-answer (wait m) q = let z : _≡_ {A = ℕ} 0 1 = cc in absurd (omega arith)
-      by-answer (answered (refused m p)) q = let a : number ≡ m = cc in let b : place ≡ p = cc in ap₂ refused (sym a) (sym b)
-      by-answer (answered (done (m, c) u)) q = let z : _≡_ {A = ℕ} 0 1 = cc in absurd (omega arith)
+  pub said-refused : (number place : ℕ) → answered (refused number place) ≡ frameTells (frameRead limit rooms s) → haproxysTake limit rooms s ≡ refused number place
+  said-refused number place e = told-refused countsOf frameTells (λ n. refl) (λ n c u. refl) (λ n p. refl) (frameRead limit rooms s) number place e
+
+-- and of agents'
+module _ (limit pairs room : ℕ) (s : List ℕ) where
+  abbrev countsIn : Sent → Counts
+  countsIn x = (length (x .pairs), length (x .actions))
+
+  pub sent-taken : (m : Metadata) (k : Counts) (used : ℕ) → answered (done (m, k) used) ≡ agentTells (agentRead limit pairs room s)
+      → Accepts s (agentsTake limit pairs room s) used
+  sent-taken m k used e =
+      let o = told-done countsIn agentTells (λ n. refl) (λ n c u. refl) (λ n p. refl) (agentRead limit pairs room s) m k used e in
+      let h = agent-used limit pairs room s (o .0 .0) (o .0 .1) used (o .1) in
+      record { is = ap taken (o .1); some = omega (arith, h .0); most = h .1 }
+
+  pub sent-wait : (n : ℕ) → wait n ≡ agentTells (agentRead limit pairs room s) → agentsTake limit pairs room s ≡ refused 1 n
+  sent-wait n e = told-wait countsIn agentTells (λ n. refl) (λ n c u. refl) (λ n p. refl) (agentRead limit pairs room s) n e
+
+  pub sent-refused : (number place : ℕ) → answered (refused number place) ≡ agentTells (agentRead limit pairs room s) → agentsTake limit pairs room s ≡ refused number place
+  sent-refused number place e = told-refused countsIn agentTells (λ n. refl) (λ n c u. refl) (λ n p. refl) (agentRead limit pairs room s) number place e
 
 -- ---- how it goes on
 
 -- What is left from a place on comes to this stop.
-pub record Stopping (limit : ℕ) (rooms : Rooms) (input : List ℕ) (at : ℕ) : Type 0 where
+pub record Stopping (read : List ℕ → Answer Unit) (input : List ℕ) (at : ℕ) : Type 0 where
   pub fuel : ℕ
   pub enough : length input ≤ at + fuel
-  pub is : stopOf limit rooms input ≡ stopFrom limit rooms fuel at (drop at input)
+  pub is : stopOf read input ≡ stopFrom read fuel at (drop at input)
 
-pub stopping-none : (limit : ℕ) (rooms : Rooms) (input : List ℕ) → Stopping limit rooms input 0
-stopping-none limit rooms input = record { fuel = length input; enough = omega arith; is = refl }
+pub stopping-none : (read : List ℕ → Answer Unit) (input : List ℕ) → Stopping read input 0
+stopping-none read input = record { fuel = length input; enough = omega arith; is = refl }
 
-module _ {limit : ℕ} {rooms : Rooms} {input : List ℕ} {at : ℕ} (g : Stopping limit rooms input at) where
+module _ {read : List ℕ → Answer Unit} {input : List ℕ} {at : ℕ} (g : Stopping read input at) where
   module _ (h : at < length input) where
     long : 0 < length (drop at input)
     long = omega (arith, length-drop at input)
 
     -- behind a frame
-    go-on : (k used : ℕ) (x : Metadata × Contents) → length input ≤ at + k → 1 ≤ used → answerOf (frameRead limit rooms (drop at input)) ≡ done x used
-        → stopOf limit rooms input ≡ stopFrom limit rooms k at (drop at input) → Stopping limit rooms input (at + used)
+    go-on : (k used : ℕ) → length input ≤ at + k → 1 ≤ used → read (drop at input) ≡ done tt used
+        → stopOf read input ≡ stopFrom read k at (drop at input) → Stopping read input (at + used)
     unfolding stopFrom
-    go-on zero used x l s is e = absurd (omega arith)
-    go-on (suc k) used x l s is e =
-        record { fuel = k; enough = omega arith; is = e ∙ rw (lt-ltb 0 (length (drop at input)) long, is) (ap (stopFrom limit rooms k (at + used)) (drop-drop used at input)) }
+    go-on zero used l s is e = absurd (omega arith)
+    go-on (suc k) used l s is e =
+        record { fuel = k; enough = omega arith; is = e ∙ rw (lt-ltb 0 (length (drop at input)) long, is) (ap (stopFrom read k (at + used)) (drop-drop used at input)) }
 
-    pub stopping-on : (used : ℕ) → Taken limit rooms (drop at input) used → Stopping limit rooms input (at + used)
-    stopping-on used t = go-on (g .fuel) used (t .frame) (g .enough) (t .some) (t .is) (g .is)
+    pub stopping-on : (used : ℕ) → Accepts (drop at input) (read (drop at input)) used → Stopping read input (at + used)
+    stopping-on used t = go-on (g .fuel) used (g .enough) (t .some) (t .is) (g .is)
 
     -- at one that is not accepted
-    stop : (k number place : ℕ) → length input ≤ at + k → answerOf (frameRead limit rooms (drop at input)) ≡ refused number place
-        → stopFrom limit rooms k at (drop at input) ≡ record { used = at; number = number; at = place }
+    stop : (k number place : ℕ) → length input ≤ at + k → read (drop at input) ≡ refused number place
+        → stopFrom read k at (drop at input) ≡ record { used = at; number = number; at = place }
     unfolding stopFrom
     stop zero number place l is = absurd (omega arith)
     stop (suc k) number place l is = rw (lt-ltb 0 (length (drop at input)) long, is)
 
-    pub stopping-stop : (number place : ℕ) → answerOf (frameRead limit rooms (drop at input)) ≡ refused number place
-        → stopOf limit rooms input ≡ record { used = at; number = number; at = place }
+    pub stopping-stop : (number place : ℕ) → read (drop at input) ≡ refused number place
+        → stopOf read input ≡ record { used = at; number = number; at = place }
     stopping-stop number place is = g .is ∙ stop (g .fuel) number place (g .enough) is
 
   -- and where no byte is left
-  over : length input ≤ at → (k : ℕ) → stopFrom limit rooms k at (drop at input) ≡ record { used = at; number = 0; at = 0 }
+  over : length input ≤ at → (k : ℕ) → stopFrom read k at (drop at input) ≡ record { used = at; number = 0; at = 0 }
   unfolding stopFrom
   over h zero = refl
   over h (suc k) = rw (le-ltb 0 (length (drop at input)) (omega (arith, length-drop at input)))
 
-  pub stopping-over : length input ≤ at → stopOf limit rooms input ≡ record { used = at; number = 0; at = 0 }
+  pub stopping-over : length input ≤ at → stopOf read input ≡ record { used = at; number = 0; at = 0 }
   stopping-over h = g .is ∙ over h (g .fuel)

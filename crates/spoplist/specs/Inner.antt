@@ -1,14 +1,13 @@
 -- What only private contracts cite.
 use mathlib.Core.Path.{_≡_}
+use mathlib.Core.Bool.{Bool, cond}
 use mathlib.Core.List.{List}
-use Prim.Native.Nat.{ℕ, _≤_}
+use Prim.Native.Nat.{ℕ, _/_, _≤_}
 use lib.ListN.{length}
-use Rattle.answer.specs.Answer.{done, refused}
-use Rattle.parser.specs.declared.Rooms.{Rooms}
-use Rattle.parser.specs.declared.Metadata.{Metadata}
-use Rattle.parser.specs.Payload.{Contents}
-use Rattle.parser.specs.Frame.{answerOf, frameRead}
-use Rattle.spoplist.specs.Listing.{stopOf}
+use Rattle.answer.specs.Answer.{Answer, done, refused}
+use Rattle.frame.specs.Records.{pairWidth, actionWidth}
+use Rattle.parser.specs.Promise.{roomsOf}
+use Rattle.spoplist.specs.Listing.{stopOf, haproxysTake, agentsTake}
 use Rattle.spoplist.specs.declared.Listed.{Listed}
 use Rattle.spoplist.specs.declared.Listed.the-variants as l
 use Rattle.spoplist.specs.declared.Ended.{Ended}
@@ -18,20 +17,30 @@ use Rattle.spoplist.specs.declared.Ended.the-variants as e
 abbrev pub limit : ℕ
 limit = 65532
 
+-- HAProxy's frames with the room of two tables, and agents' with that of two
+abbrev pub framesIn : List ℕ → List ℕ → List ℕ → Answer Unit
+framesIn messages pairs s = haproxysTake limit (roomsOf messages pairs) s
+
+abbrev pub sentIn : List ℕ → List ℕ → List ℕ → Answer Unit
+sentIn pairs actions s = agentsTake limit (length pairs / pairWidth) (length actions / actionWidth) s
+
+-- those of either side
+abbrev pub sideIn : Bool → List ℕ → List ℕ → List ℕ → List ℕ → Answer Unit
+sideIn agents messages pairs actions s = cond agents (sentIn pairs actions s) (framesIn messages pairs s)
+
 -- a frame that was accepted takes so many bytes of those that are left
-pub record Accepts (input : List ℕ) (rooms : Rooms) (used : ℕ) : Type 0 where
-  pub frame : Metadata × Contents
-  pub is : answerOf (frameRead limit rooms input) ≡ done frame used
+pub record Accepts (input : List ℕ) (a : Answer Unit) (used : ℕ) : Type 0 where
+  pub is : a ≡ done tt used
   pub some : 1 ≤ used
   pub most : used ≤ length input
 
 -- what a frame that was listed, or that stopped it, was read as
-abbrev pub Takes : List ℕ → Rooms → Listed → Type 0
-Takes input rooms (l.Frame used) = Accepts input rooms used
-Takes input rooms (l.Stop r) = answerOf (frameRead limit rooms input) ≡ refused (r .number) (r .place)
-Takes input rooms l.Closed = Unit
+abbrev pub Takes : List ℕ → Answer Unit → Listed → Type 0
+Takes input a (l.Frame used) = Accepts input a used
+Takes input a (l.Stop r) = a ≡ refused (r .number) (r .place)
+Takes input a l.Closed = Unit
 
 -- The last line says where the listing of the input stops, and why.
-abbrev pub Ends : List ℕ → Rooms → Ended → Type 0
-Ends input rooms (e.Behind used why) = stopOf limit rooms input ≡ record { used = used; number = why .number; at = why .place }
-Ends input rooms e.Closed = Unit
+abbrev pub Ends : List ℕ → (List ℕ → Answer Unit) → Ended → Type 0
+Ends input read (e.Behind used why) = stopOf read input ≡ record { used = used; number = why .number; at = why .place }
+Ends input read e.Closed = Unit

@@ -5,11 +5,10 @@ use mathlib.Core.List.{List}
 use Prim.Native.Nat.{ℕ, zero, suc, _+_}
 use lib.Dec.{ltb}
 use lib.ListN.{length, drop}
-use Rattle.answer.specs.Answer.{Answer, done, refused}
+use Rattle.answer.specs.Answer.{Answer, done, refused, next}
 use Rattle.parser.specs.declared.Rooms.{Rooms}
-use Rattle.parser.specs.declared.Metadata.{Metadata}
-use Rattle.parser.specs.Payload.{Contents}
-use Rattle.parser.specs.Frame.{answerOf, frameRead}
+use Rattle.parser.specs.Frame.{Reading, answerOf, frameRead}
+use Rattle.agent.specs.Frame.{agentRead}
 
 -- The last line's numbers: the bytes used by accepted frames, the answer that stopped it, and the missing count or the place within that frame.
 pub record Stop : Type 0 where
@@ -17,20 +16,32 @@ pub record Stop : Type 0 where
   pub number : ℕ
   pub at : ℕ
 
+-- how many bytes a frame takes that was read, or why there is none
+abbrev pub taken : {A : Type 0} → Reading A → Answer Unit
+taken x = next (answerOf x) (λ y n. done tt n)
+
 -- what a frame that was read leads on to, and what one that was not comes to
-abbrev pub onward : {A : Type 0} → Answer (Metadata × Contents) → (Metadata × Contents → ℕ → A) → (ℕ → ℕ → A) → A
+abbrev pub onward : {A B : Type 0} → Answer A → (A → ℕ → B) → (ℕ → ℕ → B) → B
 onward (done x n) go stop = go x n
 onward (refused number place) go stop = stop number place
 
--- Behind so many bytes of accepted frames, as many frames more as are counted down at most. With no byte left the answer is 0.
-unfoldable pub stopFrom : ℕ → Rooms → ℕ → ℕ → List ℕ → Stop
-stopFrom limit rooms zero used s = record { used = used; number = 0; at = 0 }
-stopFrom limit rooms (suc k) used s =
+-- Behind so many bytes of accepted frames, as many frames more as are counted down at most, each read by the same reader. With no byte left the
+-- answer is 0.
+unfoldable pub stopFrom : (List ℕ → Answer Unit) → ℕ → ℕ → List ℕ → Stop
+stopFrom read zero used s = record { used = used; number = 0; at = 0 }
+stopFrom read (suc k) used s =
     cond (ltb 0 (length s))
-    (onward (answerOf (frameRead limit rooms s)) (λ x n. stopFrom limit rooms k (used + n) (drop n s))
+    (onward (read s) (λ x n. stopFrom read k (used + n) (drop n s))
     (λ number place. record { used = used; number = number; at = place }))
     (record { used = used; number = 0; at = 0 })
 
 -- Each frame takes a byte at least, so there are no more than bytes.
-abbrev pub stopOf : ℕ → Rooms → List ℕ → Stop
-stopOf limit rooms s = stopFrom limit rooms (length s) 0 s
+abbrev pub stopOf : (List ℕ → Answer Unit) → List ℕ → Stop
+stopOf read s = stopFrom read (length s) 0 s
+
+-- HAProxy's frames, and agents'
+abbrev pub haproxysTake : ℕ → Rooms → List ℕ → Answer Unit
+haproxysTake limit rooms s = taken (frameRead limit rooms s)
+
+abbrev pub agentsTake : ℕ → ℕ → ℕ → List ℕ → Answer Unit
+agentsTake limit pairs actions s = taken (agentRead limit pairs actions s)

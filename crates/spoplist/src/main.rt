@@ -1,12 +1,15 @@
 // Lists the frames of its standard input (docs/RULES.md, "The listing"): a line for each frame, message and pair, and a last one that says
-// how far it came and why it stopped there.
+// how far it came and why it stopped there. With the word `agent` the frames are those that an agent sends, with a line for each action.
 //
 // What a line has, and which comes next, is the library's to say and proved there. Here frames are read, and their lines written out.
+use agent::AgentRead;
 use answer::Refusal;
 use answer::WAIT;
 use answer::Written;
+use frame::ACTION_WIDTH;
 use frame::MESSAGE_WIDTH;
 use frame::PAIR_WIDTH;
+use libc::STDERR_FILENO;
 use libc::STDIN_FILENO;
 use libc::STDOUT_FILENO;
 use listing::Place;
@@ -15,16 +18,17 @@ use parser::FrameRead;
 ghost use Prim.Native.Nat.{_≤_};
 ghost use lib.ListN.{length};
 ghost use Rattle.answer.specs.Writes.{counted};
-ghost use Rattle.parser.specs.Promise.{roomsOf};
-ghost use Rattle.spoplist.specs.Inner.{Takes, Ends};
+ghost use Rattle.spoplist.specs.Inner.{framesIn, sentIn, sideIn, Takes, Ends};
 
 // The longest frame that is read, its length bytes aside.
 const LIMIT: u32 = 65_532;
 
-// Numbers of the two tables: 64 messages, and 256 pairs.
+// Numbers of the three tables: 64 messages, 256 pairs, and 256 actions.
 const MESSAGES: usize = 64 * MESSAGE_WIDTH;
 
 const PAIRS: usize = 256 * PAIR_WIDTH;
+
+const ACTIONS: usize = 256 * ACTION_WIDTH;
 
 // Bytes for a line. The longest has two digits for each of a frame's bytes, and 128 others at most.
 const LINE: usize = 131_200;
@@ -43,17 +47,45 @@ enum Ended {
 }
 
 fn main() {
+    if !are_words_known() {
+        io::write_all(STDERR_FILENO, b"usage: spoplist [agent] < FRAMES\n");
+        return;
+    }
     let mut input = io::large_buffer();
     let n = io::read_full(STDIN_FILENO, &mut input);
-    list(&input[0..n]);
+    list(is_for_agents(), &input[0..n]);
 }
 
-// Lists the frames of the input, and writes the last line. Two tables for a frame's records and the bytes of a line serve for all.
-fn list(input: &[u8]) {
+// Whether there is no word, or `agent` alone. The program's own name is counted too.
+fn are_words_known() -> bool {
+    let n = os::arg_count();
+    if n < 2 {
+        return true;
+    }
+    n == 2 && is_for_agents()
+}
+
+// Whether the first word is `agent`: then the frames are an agent's.
+fn is_for_agents() -> bool {
+    let mut word = [0u8; 8];
+    let n = os::arg(1, &mut word);
+    check::same(&word[0..n], b"agent")
+}
+
+// Lists the frames of the input, and writes the last line. Three tables for a frame's records and the bytes of a line serve for all.
+fn list(agents: bool, input: &[u8]) {
     let mut messages = [0u64; MESSAGES];
     let mut pairs = [0u64; PAIRS];
+    let mut actions = [0u64; ACTIONS];
     let mut out = [0u8; LINE];
-    match list_all(input, &mut messages, &mut pairs, &mut out) {
+    match list_all(
+        agents,
+        input,
+        &mut messages,
+        &mut pairs,
+        &mut actions,
+        &mut out,
+    ) {
         Ended::Behind { used, why } => {
             end(used, why, &mut out);
         },
@@ -62,13 +94,20 @@ fn list(input: &[u8]) {
 }
 
 // Lists them one behind the other.
-fn list_all(input: &[u8], messages: &mut [u64], pairs: &mut [u64], out: &mut [u8]) -> Ended
-    ensures { λ r. ⌜ Ends (now (input .entry)) (roomsOf (now (messages .entry)) (now (pairs .entry))) r ⌝ }
+fn list_all(
+    agents: bool,
+    input: &[u8],
+    messages: &mut [u64],
+    pairs: &mut [u64],
+    actions: &mut [u64],
+    out: &mut [u8],
+) -> Ended
+    ensures { λ r. ⌜ Ends (now (input .entry)) (sideIn agents (now (messages .entry)) (now (pairs .entry)) (now (actions .entry))) r ⌝ }
 {
     let mut at = 0;
     let mut index: u64 = 0;
     while at < input.len() {
-        match list_next(index, &input[at..], messages, pairs, out) {
+        match list_one(agents, index, &input[at..], messages, pairs, actions, out) {
             Listed::Frame(used) => {
                 at += used;
                 index += 1;
@@ -90,7 +129,25 @@ fn list_all(input: &[u8], messages: &mut [u64], pairs: &mut [u64], out: &mut [u8
     }
 }
 
-// Reads the frame at the front of the bytes that are left, and lists it.
+// Reads the frame at the front of the bytes that are left, and lists it, as one that either side sends.
+fn list_one(
+    agents: bool,
+    index: u64,
+    rest: &[u8],
+    messages: &mut [u64],
+    pairs: &mut [u64],
+    actions: &mut [u64],
+    out: &mut [u8],
+) -> Listed
+    ensures { λ r. ⌜ Takes (now (rest .entry)) (sideIn agents (now (messages .entry)) (now (pairs .entry)) (now (actions .entry)) (now (rest .entry))) r ⌝ }
+{
+    if agents {
+        return list_sent(index, rest, pairs, actions, out);
+    }
+    list_next(index, rest, messages, pairs, out)
+}
+
+// The same of a frame that HAProxy sends.
 fn list_next(
     index: u64,
     rest: &[u8],
@@ -98,7 +155,7 @@ fn list_next(
     pairs: &mut [u64],
     out: &mut [u8],
 ) -> Listed
-    ensures { λ r. ⌜ Takes (now (rest .entry)) (roomsOf (now (messages .entry)) (now (pairs .entry))) r ⌝ }
+    ensures { λ r. ⌜ Takes (now (rest .entry)) (framesIn (now (messages .entry)) (now (pairs .entry)) (now (rest .entry))) r ⌝ }
 {
     match parser::read_frame(rest, LIMIT, messages, pairs) {
         FrameRead::Done {
@@ -124,6 +181,57 @@ fn list_next(
         }),
         FrameRead::Refused(r) => Listed::Stop(r),
     }
+}
+
+// The same of a frame that an agent sends.
+fn list_sent(
+    index: u64,
+    rest: &[u8],
+    pairs: &mut [u64],
+    actions: &mut [u64],
+    out: &mut [u8],
+) -> Listed
+    ensures { λ r. ⌜ Takes (now (rest .entry)) (sentIn (now (pairs .entry)) (now (actions .entry)) (now (rest .entry))) r ⌝ }
+{
+    match agent::read_agent_frame(rest, LIMIT, pairs, actions) {
+        AgentRead::Done {
+            metadata,
+            pairs: total,
+            actions: count,
+            used,
+        } => {
+            if !print(
+                listing::write_frame_line(index, metadata, used as u64, out),
+                out,
+            ) {
+                return Listed::Closed;
+            }
+            if !list_records(&rest[0..used], &[], 0, pairs, total, out) {
+                return Listed::Closed;
+            }
+            if !list_actions(&rest[0..used], actions, count, out) {
+                return Listed::Closed;
+            }
+            Listed::Frame(used)
+        },
+        AgentRead::Wait(missing) => Listed::Stop(Refusal {
+            number: WAIT,
+            place: missing,
+        }),
+        AgentRead::Refused(r) => Listed::Stop(r),
+    }
+}
+
+// Lists the actions of a frame, line by line.
+fn list_actions(frame: &[u8], actions: &[u64], count: usize, out: &mut [u8]) -> bool {
+    let mut k = 0;
+    while k < count {
+        if !print(listing::write_action_at(frame, actions, k, out), out) {
+            return false;
+        }
+        k += 1;
+    }
+    true
 }
 
 // Lists what a frame holds, line by line.

@@ -7,15 +7,15 @@ use Rattle.answer.specs.Answer.{written}
 use Rattle.parser.specs.Promise.{frameSaid, roomsOf}
 use Rattle.listing.specs.Lines.{frameLine}
 use Rattle.listing.proofs.Coming.{told-fits}
-use Rattle.spoplist.proofs.Stopping.{Taken, said-taken, said-wait, said-refused}
-use Rattle.spoplist.specs.Inner.{limit}
+use Rattle.spoplist.proofs.Stopping.{said-taken, said-wait, said-refused}
+use Rattle.spoplist.specs.Inner.{limit, framesIn, Accepts}
 use borrow.Author.Needs.{needs}
 use Rattle.spoplist.proofs.list_next.Statement.{statement}
 use Rattle.spoplist.proofs.list_next.Tie as tie
 
 taken : (c : tie.After-metadata)
     → let a = c .before .before .before .before .before .before .before .before .before .before .before .before .before .args in
-    Taken limit (roomsOf (a .messages .now) (a .pairs .now)) (a .rest .now) (c .metadata .given .0 .1 .1 .1 .0)
+    Accepts (a .rest .now) (framesIn (a .messages .now) (a .pairs .now) (a .rest .now)) (c .metadata .given .0 .1 .1 .1 .0)
 taken c =
     let a = c .before .before .before .before .before .before .before .before .before .before .before .before .before .args in
     let g = c .metadata .given in
@@ -89,7 +89,7 @@ same-length-9 : tie.Need-same-length-9
 same-length-9 c = search needs
 
 returns-3 : tie.Need-returns-3
-returns-3 c = let t = taken (c .before .before .before .before .before .before .before .before .before .before .before .before .before .before .before .before) in record { frame = t .frame; is = t .is; some = t .some; most = t .most }
+returns-3 c = taken (c .before .before .before .before .before .before .before .before .before .before .before .before .before .before .before .before)
 
 same-length-10 : tie.Need-same-length-10
 same-length-10 c = search needs
