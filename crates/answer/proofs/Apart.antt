@@ -1,21 +1,11 @@
 -- Laws about lists that are told apart by what is written of them, one record after the other, where no form is the start of another.
 use mathlib.Core.Path.{_≡_, refl, sym, ap, ap₂, _∙_}
 use mathlib.Core.List.{List, [], _∷_, _++_, append-assoc}
-use Prim.Native.Nat.{ℕ, zero, suc, _+_, _≤_, _<_}
+use Prim.Native.Nat.{ℕ, _≤_}
 use native.Mathlib.Omega.{arith}
 use lib.ListN.{length, length-append}
-use Rattle.answer.specs.Table.{records, joined}
-
--- Each of some things is so.
-abbrev pub Each : {A : Type 0} → (A → Type 0) → List A → Type 0
-Each P [] = Unit
-Each P (x ∷ xs) = P x × Each P xs
-
--- so many records from the first on
-pub each-record : {A : Type 0} (P : A → Type 0) (at : ℕ → A) (n first : ℕ) → ((i : ℕ) → first ≤ i → i < first + n → P (at i)) → Each P (records at first n)
-unfolding records
-each-record P at zero first h = tt
-each-record P at (suc n) first h = (h first (omega arith) (omega arith), each-record P at n (suc first) (λ i l m. h i (omega arith) (omega arith)))
+use Rattle.answer.specs.Table.{joined}
+use Rattle.answer.proofs.Each.{Each}
 
 -- Forms of which none is empty and none is the start of another.
 module _ {A : Type 0} (bytes : A → List ℕ) (P : A → Type 0)

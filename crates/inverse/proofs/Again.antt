@@ -26,8 +26,10 @@ use Rattle.parser.specs.Frame.{answered, haproxys, frameRead}
 use Rattle.parser.specs.Promise.{roomsOf, contentsRead, Fills}
 use Rattle.parser.proofs.Filling.{joined-width}
 use Rattle.records.specs.Inner.{Laid}
-use Rattle.listing.proofs.Accepted.{Named, Held, whole-held, frame-used}
-use Rattle.listing.proofs.Tables.{table-messages, each-at}
+use Rattle.parser.proofs.Accepted.{frame-cut}
+use Rattle.listing.proofs.Accepted.{Named, Held, whole-held}
+use Rattle.answer.proofs.Each.{each-at}
+use Rattle.listing.proofs.Tables.{table-messages}
 use Rattle.writer.specs.Pair.{pairRefusal}
 use Rattle.writer.specs.Message.{messageBytes, runStart, messageRefusal}
 use Rattle.writer.specs.Frame.{headOf, limited, kvAllowed, messagesBytes, notifyAnswer}
@@ -60,7 +62,7 @@ module _ (limit : ℕ) (s oldMessages newMessages oldPairs newPairs : List ℕ) 
   x = frame-accepted limit (roomsOf oldMessages oldPairs) s m c used small e
 
   held : Held (length f) c
-  held = whole-held (roomsOf oldMessages oldPairs) f m c used (frame-used limit (roomsOf oldMessages oldPairs) s m c used e .2) .0
+  held = whole-held (roomsOf oldMessages oldPairs) f m c used (frame-cut limit (roomsOf oldMessages oldPairs) s m c used e .is)
 
   table : (records (pairAt newPairs) 0 total ≡ c .pairs) × (total * pairWidth ≤ length newPairs)
   table = table-in (c .pairs) newPairs _ (rw e at (fills .pairs))

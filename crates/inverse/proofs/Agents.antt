@@ -20,7 +20,7 @@ use Rattle.parser.specs.declared.Metadata.{Metadata}
 use Rattle.parser.specs.Frame.{answered}
 use Rattle.agent.specs.declared.AgentRead.{AgentRead}
 use Rattle.agent.specs.declared.AgentRead.the-variants as a
-use Rattle.agent.specs.Frame.{Sent, agents}
+use Rattle.agent.specs.Frame.{Sent}
 use Rattle.agent.specs.Promise.{Counts, agentSaid, readInto, ReadAgentFrame}
 use Rattle.agent.proofs.Entries.{countsOf, said-done}
 use Rattle.writer.specs.Pair.{kvRefusal}
@@ -28,8 +28,7 @@ use Rattle.writer.specs.Frame.{headOf, limited, kvAllowed, pairsBytes, kvAnswer
 use Rattle.writer.specs.Promise.{WriteKv, WriteActions}
 use Rattle.writer.proofs.Answers.{kv-list, list-metadata}
 use Rattle.inverse.proofs.Plain.{plainPair, wellPair, WellPairs, PlainPairs, plainAction, wellAction, WellActions, PlainActions}
-use Rattle.inverse.proofs.Actions.{sent-all}
-use Rattle.inverse.proofs.Head.{entry-there}
+use Rattle.agent.proofs.Standing.{agent-cut}
 use Rattle.inverse.proofs.Kv.{Kv, list-written, list-ill, list-differs}
 use Rattle.inverse.proofs.Sent.{sent-listed, sent-may, ack-inverse, ack-refuses, ack-differs}
 use Rattle.inverse.proofs.Inverse.{caller-written, caller-refused, caller-other, done-refused, all-both}
@@ -55,7 +54,7 @@ module _ (limit : ℕ) (s : List ℕ) (small : Bytes s) (r : AgentRead) (oldPair
   row-count = ap (λ (k : Counts). k .1) (found .2)
 
   there : used ≤ length s
-  there = entry-there (agents (length oldPairs / pairWidth) (length oldActions / actionWidth)) (sent-all (length oldPairs / pairWidth) (length oldActions / actionWidth)) limit s m c used (found .1)
+  there = agent-cut limit (length oldPairs / pairWidth) (length oldActions / actionWidth) s m c used (found .1) .there
 
   long : length f ≡ used
   long = length-take-le used s there

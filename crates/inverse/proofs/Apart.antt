@@ -2,7 +2,7 @@
 -- are written as go by their meaning alone, and are the frame's.
 use mathlib.Core.Path.{_≡_, refl, sym, ap, ap₂, _∙_}
 use mathlib.Core.Bool.{Bool, true, false, cond, not}
-use mathlib.Core.List.{List, [], _∷_, _++_, map, append-assoc, append-nil}
+use mathlib.Core.List.{List, [], _∷_, _++_, map, append-assoc, append-nil, map-append}
 use Prim.Native.Nat.{ℕ, _+_}
 use native.Mathlib.Omega.{arith}
 use lib.Dec.{eqb}
@@ -31,17 +31,18 @@ use Rattle.parser.specs.Frame.{answered, haproxys, frameRead}
 use Rattle.parser.proofs.Frames.{length-map}
 use Rattle.agent.specs.Frame.{Sent, agents, agentRead}
 use Rattle.records.specs.Inner.{Laid}
-use Rattle.listing.proofs.Accepted.{Each}
+use Rattle.answer.proofs.Each.{Each}
 use Rattle.writer.specs.Pair.{pairBytes}
 use Rattle.writer.specs.Action.{actionBytes}
 use Rattle.writer.specs.Frame.{headOf}
 use Rattle.writer.proofs.Pairs.{pair-bytes}
 use Rattle.writer.proofs.Messages.{name-bytes}
 use Rattle.inverse.proofs.Pair.{Plain, run-form}
-use Rattle.inverse.proofs.Payload.{map-both, kv-stands, messages-stand}
+use Rattle.inverse.proofs.Payload.{kv-stands, messages-stand}
 use Rattle.inverse.proofs.Listed.{parts-plain, there-form}
+use Rattle.agent.proofs.Standing.{agent-cut}
 use Rattle.inverse.proofs.Head.{Accepted, entry-accepted, frame-accepted}
-use Rattle.inverse.proofs.Actions.{sent-all, PlainOf, actions-form}
+use Rattle.inverse.proofs.Actions.{PlainOf, actions-form}
 use Rattle.inverse.proofs.Sent.{sent-run, sent-actions}
 
 -- ---- written forms go by meanings
@@ -104,7 +105,7 @@ messages-meant f small at j (m ∷ ms) ps end x h =
     ∙ sym (append-assoc front rest (drop end f))
     ∙ ap (λ (l : List ℕ). l ++ drop end f)
     (sym (list-on (messageMeaning f m) (map (messageMeaning f) ms) (map (pairMeaning f) own) (map (pairMeaning f) others) many)
-    ∙ ap (λ (l : List (List ℕ × Meaning)). listForm (map (messageMeaning f) (m ∷ ms)) l) (sym (map-both (pairMeaning f) own others) ∙ ap (map (pairMeaning f)) (sym (x .3))))
+    ∙ ap (λ (l : List (List ℕ × Meaning)). listForm (map (messageMeaning f) (m ∷ ms)) l) (sym (map-append (pairMeaning f) own others) ∙ ap (map (pairMeaning f)) (sym (x .3))))
 
 -- ---- a frame goes by them
 
@@ -189,7 +190,7 @@ module _ (limit pairs room : ℕ) (s : List ℕ) (m : Metadata) (c : Sent) (used
   g = take used s
 
   y : Accepted (agents pairs room) limit s m c used
-  y = entry-accepted (agents pairs room) (sent-all pairs room) limit s m c used small e
+  y = entry-accepted small (agent-cut limit pairs room s m c used e)
 
   done-there : drop (length g) g ≡ []
   done-there = drop-of-length-le g {i = length g} (omega arith)

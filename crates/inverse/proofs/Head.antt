@@ -1,6 +1,6 @@
 -- The one law about a frame around its payload: an accepted frame is its head, as it is written, and behind it its payload.
-use mathlib.Core.Path.{_≡_, refl, sym, ap, ap₂, subst, _∙_}
-use mathlib.Core.Bool.{Bool, true, false, not}
+use mathlib.Core.Path.{_≡_, refl, sym, ap, ap₂, _∙_}
+use mathlib.Core.Bool.{Bool, true, false}
 use mathlib.Core.Logic.{⊎-elim}
 use mathlib.Core.List.{List, [], _∷_, _++_, append-assoc}
 use Prim.Native.Nat.{ℕ, _+_, _*_, _/_, _%_, _^_, _≤_, _<_}
@@ -9,7 +9,7 @@ use lib.Dec.{eqb}
 use lib.ListN.{length, take, drop, getD, length-drop, take-append-drop}
 use lib.Seq.{drop-cons, drop-drop, length-take-le}
 use borrow.Author.Tests.{eqb-true, eqb-false, ne-eqb}
-use Rattle.answer.specs.Answer.{Answer, done, refused, next, behind}
+use Rattle.answer.specs.Answer.{done, behind}
 use Rattle.answer.specs.Table.{some}
 use Rattle.answer.proofs.Cases.{lt-or-le, bool-cases, true-false, answer-cases, not-both}
 use Rattle.varint.specs.Number.{number, numberBytes}
@@ -20,12 +20,11 @@ use Rattle.frame.proofs.Laws.{four-kept}
 use Rattle.parser.specs.declared.Rooms.{Rooms}
 use Rattle.parser.specs.declared.Metadata.{Metadata}
 use Rattle.parser.specs.Payload.{Contents}
-use Rattle.parser.specs.Frame.{frameTypes, sentBy, ids, metadata, Entry, whole, answered, front, haproxys, frameRead}
+use Rattle.parser.specs.Frame.{frameTypes, sentBy, ids, metadata, Entry, answered, haproxys, frameRead}
 use Rattle.parser.proofs.Pairs.{done-same}
-use Rattle.parser.proofs.Frames.{last-refused, last-other, last-done, ids-refused, ids-on, metadata-none, metadata-type, metadata-short, metadata-flags, metadata-abort, metadata-ids, metadata-start, head-refused, head-done, cut-start, cut-over, cut-wait, cut-whole}
-use Rattle.parser.proofs.Kept.{by-cut, wait-answered, answered-same}
+use Rattle.parser.proofs.Frames.{last-refused, last-other, last-done, ids-refused, ids-on, metadata-none, metadata-type, metadata-short, metadata-flags, metadata-abort, metadata-ids, metadata-start}
 use Rattle.parser.proofs.Exact.{bytes-drop}
-use Rattle.walker.proofs.Walking.{payload-all}
+use Rattle.parser.proofs.Accepted.{Cut, frame-cut}
 use Rattle.writer.specs.Frame.{headOf}
 use Rattle.inverse.proofs.Value.{form-rest}
 use Rattle.inverse.proofs.Pair.{cancel}
@@ -181,111 +180,46 @@ pub record Accepted {A : Type 0} (x : Entry A) (limit : ℕ) (s : List ℕ) (m :
   pub moved : x .moved start contents ≡ c
   pub ends : start + end ≡ used
 
--- of an entry that takes all bytes of a payload
-module _ {A : Type 0} (x : Entry A) (all : (kind : ℕ) (p : List ℕ) (c : A) (end : ℕ) → x .payloadOf kind p ≡ done c end → end ≡ length p) where
-  record Held (f : List ℕ) (m : Metadata) (c : A) (used : ℕ) : Type 0 where
-    start : ℕ
-    head : metadata (x .agents) f ≡ done m start
-    held : A
-    end : ℕ
-    is : x .payloadOf (m .kind) (drop start f) ≡ done held end
-    moved : x .moved start held ≡ c
-    sum : start + end ≡ used
-    long : used ≡ length f
+module _ {A : Type 0} {x : Entry A} {limit : ℕ} {s : List ℕ} {m : Metadata} {c : A} {used : ℕ} (small : Bytes (take used s)) (o : Cut x limit s m c used) where
+  abbrev f : List ℕ
+  f = take used s
 
-  -- a payload that stands there, in its frame
-  abbrev inFrame : Metadata → ℕ → Answer A → Answer (Metadata × A)
-  inFrame m start a = next (behind (x .moved) start a) (λ (c : A) (end : ℕ). done (m, c) end)
+  long : length f ≡ used
+  long = length-take-le used s (o .there)
 
-  whole-holds : (f : List ℕ) (m : Metadata) (c : A) (used : ℕ) → whole x f ≡ done (m, c) used → Held f m c used
-  whole-holds f m c used e =
-      answer-cases (metadata (x .agents) f)
-      (λ n start h. go n start h (x .payloadOf (n .kind) (drop start f)) refl (sym (head-done x f n start h) ∙ e))
-      (λ n place r. not-both e (head-refused x f n place r))
-    where
-      go : (n : Metadata) (start : ℕ) → metadata (x .agents) f ≡ done n start → (a : Answer A) → x .payloadOf (n .kind) (drop start f) ≡ a
-          → inFrame n start a ≡ done (m, c) used → Held f m c used
-      go n start h (done d end) is g =
-          let o = done-same g in
-          let same : n ≡ m = ap (λ (y : Metadata × A). y .0) (o .0) in
-          record {
-            start = start;
-            head = h ∙ ap (λ (y : Metadata). done y start) same;
-            held = d;
-            end = end;
-            is = ap (λ (y : Metadata). x .payloadOf (y .kind) (drop start f)) (sym same) ∙ is;
-            moved = ap (λ (y : Metadata × A). y .1) (o .0);
-            sum = o .1;
-            long = omega (arith, o .1, all (n .kind) (drop start f) d end is, length-drop start f, metadata-start (x .agents) f n start h);
-          }
-      go n start h (refused k place) is g = not-both g refl
+  four : fourNumber f ≡ length (drop 4 f)
+  four =
+      let same : fourNumber f ≡ fourNumber s = sym (four-kept f (drop used s) (omega (arith, long, o .four))) ∙ ap fourNumber (take-append-drop used s) in
+      omega (arith, same, o .says, long, length-drop 4 f)
 
-  -- what a frame's length bytes say, and what it holds
-  record Cut (limit : ℕ) (s : List ℕ) (m : Metadata) (c : A) (used : ℕ) : Type 0 where
-    four : 4 ≤ used
-    there : used ≤ length s
-    says : used ≡ 4 + fourNumber s
-    fits : fourNumber s ≤ limit
-    holds : Held (take used s) m c used
+  framed : (h : Head) (start : ℕ) → drop 4 f ≡ headBytes h ++ drop start f → f ≡ frameBytes h (drop start f)
+  unfolding frameBytes
+  framed h start behind =
+      form-rest (fourBytes (fourNumber f)) f 4 (four-exact f small (omega (arith, long, o .four)))
+      ∙ ap₂ (λ (k : ℕ) (l : List ℕ). fourBytes k ++ l) (four ∙ ap length behind) behind
 
-  front-cut : (limit : ℕ) (s : List ℕ) (m : Metadata) (c : A) (used : ℕ) → front x limit s ≡ answered (done (m, c) used) → Cut limit s m c used
-  front-cut limit s m c used e =
-      by-cut limit s
-      (λ h. wait-answered (sym (cut-start x limit s h) ∙ e))
-      (λ h l. not-both refl (answered-same (sym e ∙ cut-over x limit s h l)))
-      (λ h l w. wait-answered (sym (cut-wait x limit s h l w) ∙ e))
-      (λ h l w.
-      let o = whole-holds (take (4 + fourNumber s) s) m c used (answered-same (sym (cut-whole x limit s h l w) ∙ e)) in
-      let n : 4 + fourNumber s ≡ used = omega (arith, o .long, length-take-le (4 + fourNumber s) s w) in
-      record { four = omega arith; there = omega arith; says = sym n; fits = l; holds = subst (λ (k : ℕ). Held (take k s) m c used) n o })
-
-  -- Law: of the bytes that a frame was read from, it takes some that are there.
-  pub entry-there : (limit : ℕ) (s : List ℕ) (m : Metadata) (c : A) (used : ℕ) → front x limit s ≡ answered (done (m, c) used) → used ≤ length s
-  entry-there limit s m c used e = front-cut limit s m c used e .there
-
-  module _ (limit : ℕ) (s : List ℕ) (m : Metadata) (c : A) (used : ℕ) (small : Bytes (take used s)) (e : front x limit s ≡ answered (done (m, c) used)) where
-    abbrev f : List ℕ
-    f = take used s
-
-    o : Cut limit s m c used
-    o = front-cut limit s m c used e
-
-    long : length f ≡ used
-    long = length-take-le used s (o .there)
-
-    four : fourNumber f ≡ length (drop 4 f)
-    four =
-        let same : fourNumber f ≡ fourNumber s = sym (four-kept f (drop used s) (omega (arith, long, o .four))) ∙ ap fourNumber (take-append-drop used s) in
-        omega (arith, same, o .says, long, length-drop 4 f)
-
-    framed : (h : Head) (start : ℕ) → drop 4 f ≡ headBytes h ++ drop start f → f ≡ frameBytes h (drop start f)
-    unfolding frameBytes
-    framed h start behind =
-        form-rest (fourBytes (fourNumber f)) f 4 (four-exact f small (omega (arith, long, o .four)))
-        ∙ ap₂ (λ (k : ℕ) (l : List ℕ). fourBytes k ++ l) (four ∙ ap length behind) behind
-
-    -- Law: every accepted frame is so.
-    pub entry-accepted : Accepted x limit s m c used
-    entry-accepted =
-        let h = o .holds in
-        let p = parts (x .agents) f m (h .start) (h .head) in
-        record {
-          start = h .start;
-          contents = h .held;
-          end = h .end;
-          long = long;
-          fits = omega (arith, o .says, o .fits);
-          there = metadata-start (x .agents) f m (h .start) (h .head);
-          known = p .known;
-          sent = p .sent;
-          form = framed (headOf (m .kind) true false (m .stream) (m .frame)) (h .start) (head-form (x .agents) f m (h .start) small p);
-          read = h .is;
-          moved = h .moved;
-          ends = h .sum;
-        }
+  -- Law: every accepted frame is so.
+  pub entry-accepted : Accepted x limit s m c used
+  entry-accepted =
+      let h = o .holds in
+      let p = parts (x .agents) f m (h .start) (h .head) in
+      record {
+        start = h .start;
+        contents = h .held;
+        end = h .end;
+        long = long;
+        fits = omega (arith, o .says, o .fits);
+        there = metadata-start (x .agents) f m (h .start) (h .head);
+        known = p .known;
+        sent = p .sent;
+        form = framed (headOf (m .kind) true false (m .stream) (m .frame)) (h .start) (head-form (x .agents) f m (h .start) small p);
+        read = h .is;
+        moved = h .moved;
+        ends = h .sum;
+      }
 
 -- Law: so is every frame that HAProxy sends.
 pub frame-accepted : (limit : ℕ) (rooms : Rooms) (s : List ℕ) (m : Metadata) (c : Contents) (used : ℕ) → Bytes (take used s)
     → frameRead limit rooms s ≡ answered (done (m, c) used) → Accepted (haproxys rooms) limit s m c used
 unfolding frameRead
-frame-accepted limit rooms s m c used small e = entry-accepted (haproxys rooms) (λ kind p d end is. payload-all (not (eqb kind 3)) rooms p d end is) limit s m c used small e
+frame-accepted limit rooms s m c used small e = entry-accepted small (frame-cut limit rooms s m c used e)

@@ -30,7 +30,7 @@ use Rattle.parser.specs.Payload.{Contents}
 use Rattle.parser.specs.Frame.{answered, frameRead}
 use Rattle.parser.specs.Promise.{Counts, countsOf, frameSaid, roomsOf, ReadFrame}
 use Rattle.parser.proofs.Entries.{said-done}
-use Rattle.listing.proofs.Accepted.{frame-used}
+use Rattle.parser.proofs.Accepted.{frame-cut}
 use Rattle.writer.specs.Frame.{limited, headOf, kvAllowed, kvAnswer, notifyAnswer}
 use Rattle.writer.specs.Promise.{WriteKv, WriteNotify}
 use Rattle.inverse.proofs.Plain.{plainPair, wellPair, wellName, WellPairs, WellNames, PlainPairs}
@@ -112,7 +112,7 @@ module _ (limit : ℕ) (s : List ℕ) (small : Bytes s) (r : FrameRead) (oldMess
 
   bytes : Bytes f
   bytes i l =
-      let there = frame-used limit (roomsOf oldMessages oldPairs) s m c used (found .1) .1 in
+      let there = frame-cut limit (roomsOf oldMessages oldPairs) s m c used (found .1) .there in
       let long = length-take-le used s there in
       rw (getD-take used s i 0 (omega arith)) (small i (omega arith))
 

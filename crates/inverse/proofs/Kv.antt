@@ -23,8 +23,9 @@ use Rattle.frame.proofs.Laws.{four-long}
 use Rattle.parser.specs.Inner.{Run}
 use Rattle.parser.proofs.Runs.{from-next}
 use Rattle.parser.proofs.Filling.{joined-width}
-use Rattle.listing.proofs.Accepted.{Each, Whole, pair-there}
-use Rattle.listing.proofs.Tables.{table-pairs, each-at}
+use Rattle.answer.proofs.Each.{Each, each-record, each-at}
+use Rattle.listing.proofs.Accepted.{Whole, pair-there}
+use Rattle.listing.proofs.Tables.{table-pairs}
 use Rattle.writer.specs.Pair.{pairBytes, pairRefusal, kvRefusal}
 use Rattle.writer.specs.Frame.{limited, kvAllowed, pairsBytes, kvAnswer}
 use Rattle.writer.proofs.Pairs.{pair-number, kv-own, kv-new}
@@ -39,13 +40,6 @@ pub fifteen : _≡_ {A = ℕ} 15 0 → ⊥
 fifteen z = omega arith
 
 -- ---- by index
-
-pub each-of : {A : Type 0} (P : A → Type 0) (at : ℕ → A) (n j : ℕ) → ((i : ℕ) → i < n → P (at (j + i))) → Each P (records at j n)
-unfolding records
-each-of P at zero j h = tt
-each-of P at (suc n) j h =
-    let here : j + 0 ≡ j = omega arith in
-    (rw here at (h 0 (omega arith)), each-of P at n (suc j) (λ i l. let on : j + suc i ≡ suc j + i = omega arith in rw on at (h (suc i) (omega arith))))
 
 -- pair i of pairs whose keys are met once has a key that none before it has
 distinct-at : (f : List ℕ) (at : ℕ → Pair) (n j : ℕ) → Distinct f (records at 0 j) (records at j n) → (i : ℕ) → i < n → some (sameKey f (at (j + i))) (records at 0 (j + i)) ≡ false
@@ -79,7 +73,7 @@ module _ (f pairs : List ℕ) (ps : List Pair) (hold : records (pairAt pairs) 0 
   many = length ps
 
   pub each-plain : PlainPairs f pairs many → Each (Plain f) ps
-  each-plain p = rw hold at (each-of (Plain f) (pairAt pairs) many 0 (λ i l. let here : 0 + i ≡ i = omega arith in rw here (p i l)))
+  each-plain p = rw hold at (each-record (Plain f) (pairAt pairs) many 0 (λ i g l. p i (omega arith)))
 
   pub plain-each : Each (Plain f) ps → PlainPairs f pairs many
   plain-each g i l = let here : 0 + i ≡ i = omega arith in rw here at (each-at (Plain f) (pairAt pairs) many 0 (rw hold g) i l)

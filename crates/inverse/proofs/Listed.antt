@@ -1,18 +1,18 @@
 -- Laws about a payload whose records stand one behind the other: its bytes are what these are written as, exactly where all values are plain.
-use mathlib.Core.Path.{_≡_, refl, sym, ap, ap₂, _∙_}
+use mathlib.Core.Path.{_≡_, sym, ap, ap₂, _∙_}
 use mathlib.Core.List.{List, [], _∷_, _++_, append-assoc}
 use Prim.Native.Nat.{ℕ, zero, suc, _+_, _≤_, _<_}
 use native.Mathlib.Omega.{arith}
 use lib.ListN.{length, take, drop, length-append}
 use lib.Seq.{take-at, drop-at}
 use Rattle.answer.specs.Table.{records, joined}
-use Rattle.answer.proofs.Records.{records-both, joined-none, joined-on}
+use Rattle.answer.proofs.Records.{records-both, records-length, joined-none, joined-on}
 use Rattle.varint.proofs.Reading.{Bytes}
 use Rattle.frame.specs.declared.Pair.{Pair}
 use Rattle.frame.specs.declared.Message.{Message}
 use Rattle.frame.specs.Records.{pairAt, messageAt}
 use Rattle.records.specs.Inner.{MessageThere, Laid}
-use Rattle.listing.proofs.Accepted.{Each}
+use Rattle.answer.proofs.Each.{Each, each-both, each-parts}
 use Rattle.writer.specs.Pair.{pairBytes}
 use Rattle.writer.specs.Message.{nameBytes, messageBytes, runStart}
 use Rattle.writer.proofs.Messages.{message-bytes}
@@ -20,22 +20,9 @@ use Rattle.inverse.proofs.Pair.{Plain, cancel, run-form, run-only, name
 
 -- ---- lists
 
-pub each-both : {A : Type 0} (P : A → Type 0) (xs ys : List A) → Each P xs → Each P ys → Each P (xs ++ ys)
-each-both P [] ys e g = g
-each-both P (x ∷ xs) ys e g = (e .0, each-both P xs ys (e .1) g)
-
-pub each-parts : {A : Type 0} (P : A → Type 0) (xs ys : List A) → Each P (xs ++ ys) → Each P xs × Each P ys
-each-parts P [] ys e = (tt, e)
-each-parts P (x ∷ xs) ys e = let o = each-parts P xs ys (e .1) in ((e .0, o .0), o .1)
-
 -- two lists that are the same in two ways, with fronts of one length
 halves : {A : Type 0} (xs ys zs ws : List A) (n : ℕ) → length xs ≡ n → length zs ≡ n → xs ++ ys ≡ zs ++ ws → (xs ≡ zs) × (ys ≡ ws)
 halves xs ys zs ws n l k e = (sym (take-at xs ys n l) ∙ ap (take n) e ∙ take-at zs ws n k, sym (drop-at xs ys n l) ∙ ap (drop n) e ∙ drop-at zs ws n k)
-
-pub records-length : {A : Type 0} (at : ℕ → A) (n first : ℕ) → length (records at first n) ≡ n
-unfolding records
-records-length at zero first = refl
-records-length at (suc n) first = ap (λ (k : ℕ). suc k) (records-length at n (suc first))
 
 -- What a writer asks of the run of message i of so many, which have all pairs: where it starts, how many arguments it has, and where it ends, if it is the
 -- last.

@@ -30,7 +30,8 @@ use Rattle.parser.specs.Inner.{Run}
 use Rattle.parser.proofs.Pairs.{done-same, pair-cases, pair-key, pair-value, pair-whole}
 use Rattle.parser.proofs.Exact.{bytes-drop}
 use Rattle.parser.proofs.Back.{part-moved}
-use Rattle.listing.proofs.Accepted.{Each, Whole}
+use Rattle.answer.proofs.Each.{Each}
+use Rattle.listing.proofs.Accepted.{Whole}
 use Rattle.writer.specs.Pair.{pairBytes, pairChecks}
 use Rattle.writer.specs.Message.{nameBytes}
 use Rattle.writer.proofs.Pairs.{pair-bytes}

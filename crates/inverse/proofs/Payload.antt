@@ -2,7 +2,7 @@
 use mathlib.Core.Path.{_≡_, refl, sym, ap, _∙_}
 use mathlib.Core.Bool.{true, false}
 use mathlib.Core.Logic.{⊎-elim}
-use mathlib.Core.List.{List, [], _∷_, _++_, map, append-assoc, append-nil}
+use mathlib.Core.List.{List, [], _∷_, _++_, map, append-assoc, append-nil, map-append}
 use Prim.Native.Nat.{ℕ, zero, suc, _+_, _≤_}
 use native.Mathlib.Omega.{arith}
 use lib.ListN.{length, drop}
@@ -20,7 +20,8 @@ use Rattle.parser.specs.Payload.{Contents, withPair, met, movedContents, oneIte
 use Rattle.parser.specs.Inner.{Run}
 use Rattle.parser.proofs.Walk.{PairTaken, pair-says, item-pair}
 use Rattle.parser.proofs.Back.{part-moved}
-use Rattle.walker.proofs.Walking.{run-moved, ended-same, kv-run}
+use Rattle.parser.proofs.Runs.{run-moved}
+use Rattle.parser.proofs.Accepted.{ended-same, kv-run}
 use Rattle.records.specs.Inner.{Laid}
 use Rattle.records.proofs.Laying.{laid-moved, messages-laid}
 
@@ -49,10 +50,6 @@ module _ (f : List ℕ) (n : ℕ) where
       some-later (sameKey f (movedPair n p)) (movedPair n q) (map (movedPair n) ps) other
       ∙ not-met ps p (sym (some-later (λ (x : Pair). sameKey (drop n f) x p) q ps t) ∙ e))
 
-pub map-both : {A B : Type 0} (g : A → B) (xs ys : List A) → map g (xs ++ ys) ≡ map g xs ++ map g ys
-map-both g [] ys = refl
-map-both g (x ∷ xs) ys = ap (λ (l : List _). g x ∷ l) (map-both g xs ys)
-
 module _ (rooms : Rooms) (f : List ℕ) (n : ℕ) where
   -- what a KV list comes to behind what was read before
   record Listed (c d : Contents) : Type 0 where
@@ -62,14 +59,14 @@ module _ (rooms : Rooms) (f : List ℕ) (n : ℕ) where
 
   listed-end : (at : ℕ) (c d : Contents) (end : ℕ) → ended at c ≡ done d end → Listed c d
   listed-end at c d end e =
-      let o = ended-same rooms (drop n f) at c d end e .0 in
+      let o = ended-same at c d end e .0 in
       record { own = []; pairs = ap (λ (x : Contents). x .pairs) (sym o) ∙ sym (append-nil (c .pairs)); distinct = tt }
 
   listed-pair : (at : ℕ) (c x d : Contents) (next : ℕ) → PairTaken true rooms at c (drop n f) x next → Listed x d → Listed c d
   listed-pair at c x d next p l =
       let same : x ≡ withPair c (p .pair) = sym (p .is) in
       let before : map (movedPair n) (x .pairs) ≡ map (movedPair n) (c .pairs) ++ (movedPair n (p .pair) ∷ []) =
-      ap (λ (y : Contents). map (movedPair n) (y .pairs)) same ∙ map-both (movedPair n) (c .pairs) (p .pair ∷ []) in
+      ap (λ (y : Contents). map (movedPair n) (y .pairs)) same ∙ map-append (movedPair n) (c .pairs) (p .pair ∷ []) in
       record {
         own = p .pair ∷ l .own;
         pairs = l .pairs ∙ ap (λ (y : Contents). y .pairs ++ l .own) same ∙ append-assoc (c .pairs) (p .pair ∷ []) (l .own);

@@ -27,17 +27,18 @@ use Rattle.parser.proofs.Filling.{joined-width}
 use Rattle.agent.specs.Action.{actions}
 use Rattle.agent.specs.Frame.{Sent, agents}
 use Rattle.agent.specs.Promise.{sentRead, readInto, Fills}
-use Rattle.listing.proofs.Accepted.{Each}
-use Rattle.listing.proofs.Tables.{each-at}
+use Rattle.answer.proofs.Each.{Each, each-record, each-at}
+use Rattle.listing.proofs.Sent.{sent-actions-held}
 use Rattle.writer.specs.Action.{actionBytes, actionRefusal}
 use Rattle.writer.specs.Frame.{headOf, limited, finAlone, kvAllowed, actionsBytes, actionsAnswer}
 use Rattle.writer.proofs.Actions.{action-number}
 use Rattle.writer.proofs.Answers.{kv-agent-hello, kv-agent-disconnect, actions-list, list-refused, list-passed}
 use Rattle.inverse.proofs.Plain.{plainAction, wellAction, WellActions, PlainActions}
-use Rattle.inverse.proofs.Actions.{ActionRun, actions-stand, of-actions, of-pairs, sent-all, PlainOf, Refuses, actions-form, actions-only, actions-refuse, table-actions}
+use Rattle.inverse.proofs.Actions.{PlainOf, Refuses, actions-form, actions-only, actions-refuse}
+use Rattle.agent.proofs.Standing.{ActionRun, actions-stand, of-actions, of-pairs, agent-cut}
 use Rattle.inverse.proofs.Head.{kinds-above, payload-same, Accepted, entry-accepted}
 use Rattle.inverse.proofs.Payload.{Distinct, kv-distinct, kv-stands}
-use Rattle.inverse.proofs.Kv.{fifteen, each-of, limited-whole, Kv, table-in}
+use Rattle.inverse.proofs.Kv.{fifteen, limited-whole, Kv, table-in}
 
 -- ---- an accepted frame
 
@@ -79,7 +80,7 @@ module _ (limit : ℕ) (s oldPairs newPairs oldActions newActions : List ℕ) (m
   room = length oldActions / actionWidth
 
   x : Accepted (agents (length oldPairs / pairWidth) room) limit s m c used
-  x = entry-accepted (agents (length oldPairs / pairWidth) room) (sent-all (length oldPairs / pairWidth) room) limit s m c used small e
+  x = entry-accepted small (agent-cut limit (length oldPairs / pairWidth) room s m c used e)
 
   -- ---- KV frames
 
@@ -115,7 +116,7 @@ module _ (limit : ℕ) (s oldPairs newPairs oldActions newActions : List ℕ) (m
     in-actions = (_, rw e at (fills .actions))
 
     hold-actions : records (actionAt newActions) 0 rows ≡ c .actions
-    hold-actions = rw (in-actions .1) (table-actions (c .actions) (in-actions .0))
+    hold-actions = sent-actions-held limit s oldPairs newPairs oldActions newActions m c used e fills
 
     actions-room : rows * actionWidth ≤ length newActions
     actions-room =
@@ -128,7 +129,7 @@ module _ (limit : ℕ) (s oldPairs newPairs oldActions newActions : List ℕ) (m
     stand = sent-actions (length oldPairs / pairWidth) room limit s m c used x ack
 
     each-plain : PlainActions f newActions rows → Each (PlainOf f) (c .actions)
-    each-plain p = rw hold-actions at (each-of (PlainOf f) (actionAt newActions) rows 0 (λ i l. let here : 0 + i ≡ i = omega arith in rw here (p i l)))
+    each-plain p = rw hold-actions at (each-record (PlainOf f) (actionAt newActions) rows 0 (λ i g l. p i (omega arith)))
 
     plain-each : Each (PlainOf f) (c .actions) → PlainActions f newActions rows
     plain-each g i l = let here : 0 + i ≡ i = omega arith in rw here at (each-at (PlainOf f) (actionAt newActions) rows 0 (rw hold-actions g) i l)

@@ -19,7 +19,7 @@ use Rattle.listing.specs.Lines.{hasSign, dataText, valueText}
 use Rattle.listing.proofs.Decimal.{decimal-last, decimal-on, length-last, length-on, decimal-some}
 use Rattle.listing.proofs.Text.{signed-plus, signed-minus, hex-length}
 use Rattle.listing.proofs.Pieces.{text-at}
-use Rattle.listing.proofs.Accepted.{Each, each-more}
+use Rattle.answer.proofs.Each.{Each, each-more}
 
 -- ---- digits
 

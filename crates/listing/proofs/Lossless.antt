@@ -19,11 +19,12 @@ use Rattle.frame.specs.Records.{keyOf}
 use Rattle.parser.specs.declared.Rooms.{Rooms}
 use Rattle.parser.specs.declared.Metadata.{Metadata}
 use Rattle.parser.specs.Payload.{Contents}
-use Rattle.parser.specs.Inner.{wholeFrame}
+use Rattle.parser.specs.Frame.{whole, haproxys}
 use Rattle.listing.specs.Digits.{decimal, shown}
 use Rattle.listing.specs.Lines.{mark, others, filled, frameForm, messageForm, pairForm, endForm, valueText, frameLine, messageLine, pairLine, endLine}
 use Rattle.listing.proofs.Frames.{pairLines, itemLines, frameLines}
-use Rattle.listing.proofs.Accepted.{Each, Whole, whole-held}
+use Rattle.answer.proofs.Each.{Each}
+use Rattle.listing.proofs.Accepted.{Whole, whole-held}
 use Rattle.listing.proofs.Distinct.{lineMeaning, Plain, decimal-apart, shown-apart, values-apart, decimal-plain, shown-plain, value-plain, texts-apart}
 
 -- ---- a line
@@ -315,7 +316,7 @@ pub record SameFrame (i j : ℕ) (f g : List ℕ) (m n : Metadata) (c d : Conten
   pub pairs : map (pairMeans f) (c .pairs) ≡ map (pairMeans g) (d .pairs)
 
 module _ (rooms others : Rooms) (f g : List ℕ) (m n : Metadata) (c d : Contents) (used taken : ℕ)
-    (first : wholeFrame rooms f ≡ done (m, c) used) (second : wholeFrame others g ≡ done (n, d) taken) where
+    (first : whole (haproxys rooms) f ≡ done (m, c) used) (second : whole (haproxys others) g ≡ done (n, d) taken) where
   -- Law: the listing loses nothing but flags. Two accepted frames whose lines start the same bytes are the same but for these and for where
   -- their records stand, and the same follows them.
   pub listing-apart-then : (index other : ℕ) (u v : List ℕ) → Over u → Over v → frameLines index f m c ++ u ≡ frameLines other g n d ++ v
@@ -324,8 +325,8 @@ module _ (rooms others : Rooms) (f g : List ℕ) (m n : Metadata) (c d : Content
   listing-apart-then index other u v x y e =
       let a = frame-apart index other m n (length f) (length g) _ _
       (sym (append-assoc (frameLine index m (length f)) _ u) ∙ e ∙ append-assoc (frameLine other n (length g)) _ v) in
-      let h = each-fields (length f) (c .pairs) (whole-held rooms f m c used first .0 .pairs) in
-      let l = each-fields (length g) (d .pairs) (whole-held others g n d taken second .0 .pairs) in
+      let h = each-fields (length f) (c .pairs) (whole-held rooms f m c used first .pairs) in
+      let l = each-fields (length g) (d .pairs) (whole-held others g n d taken second .pairs) in
       let o = items-apart f g 0 0 (c .messages) (d .messages) (c .pairs) (d .pairs) u v h l x y (a .5) in
       (record { index = a .0; kind = a .1; stream = a .2; id = a .3; bytes = a .4; messages = o .0; pairs = o .1 }, o .2)
 

@@ -1,8 +1,8 @@
 -- Laws about how long lines are: of a frame of n bytes none has more than 2n and 128 besides.
-use mathlib.Core.Path.{_≡_, sym, ap, _∙_}
+use mathlib.Core.Path.{_≡_, refl, ap, _∙_}
 use mathlib.Core.Bool.{true}
 use mathlib.Core.Logic.{_⊎_, inl, inr, ⊎-elim}
-use mathlib.Core.List.{List, [], _∷_}
+use mathlib.Core.List.{List, [], _∷_, _++_}
 use Prim.Native.Nat.{ℕ, _+_, _*_, _^_, _≤_, _<_}
 use native.Mathlib.Omega.{arith}
 use lib.Dec.{eqb}
@@ -10,24 +10,26 @@ use lib.ListN.{length, drop, length-append, length-take}
 use borrow.Author.Tests.{eqb-true, eqb-false}
 use Rattle.answer.specs.Answer.{done}
 use Rattle.answer.proofs.Cases.{bool-cases}
+use Rattle.answer.proofs.Each.{Each, each-on}
 use Rattle.types.specs.Value.{Shape, nothing, flag, integer, address, text, reserved, Width, shape, value, points}
 use Rattle.types.specs.Form.{part, writableRecord}
 use Rattle.types.specs.Promise.{recordOf}
 use Rattle.types.proofs.Shapes.{shape-cases, Fields, writable-fields, writable-kind}
 use Rattle.frame.specs.declared.Pair.{Pair}
 use Rattle.frame.specs.declared.Message.{Message}
+use Rattle.frame.specs.declared.Action.{Action}
 use Rattle.frame.specs.Records.{keyOf}
 use Rattle.parser.specs.declared.Rooms.{Rooms}
 use Rattle.parser.specs.declared.Metadata.{Metadata}
 use Rattle.parser.specs.Payload.{Contents}
-use Rattle.parser.specs.Inner.{wholeFrame}
+use Rattle.parser.specs.Frame.{whole, haproxys}
 use Rattle.listing.specs.Digits.{decimal, shown}
-use Rattle.listing.specs.Lines.{filled, hasSign, dataText, valueText, messageLine, pairLine}
+use Rattle.listing.specs.Lines.{filled, hasSign, dataText, valueText, messageLine, pairLine, actionLine}
 use Rattle.listing.proofs.Decimal.{decimal-most}
 use Rattle.listing.proofs.Text.{signed-most, hex-length, shown-none, shown-some}
-use Rattle.listing.proofs.Pieces.{text-at, messageFront, messageBack, pairFront, message-length, pair-length}
+use Rattle.listing.proofs.Pieces.{text-at, messageFront, messageBack, pairFront, setFront, unsetFront, named-length, valued-length, message-length, pair-length, action-set, action-unset}
 use Rattle.listing.specs.Inner.{kindForm}
-use Rattle.listing.proofs.Accepted.{Each, Named, Whole, whole-held}
+use Rattle.listing.proofs.Accepted.{Named, Whole, whole-held}
 use Rattle.listing.proofs.Distinct.{below}
 
 -- ---- words and texts
@@ -47,6 +49,22 @@ pair-front t = omega (arith, length-append t (32 ∷ 107 ∷ 101 ∷ 121 ∷ 32 
 pair-back : (t : List ℕ) → length (filled kindForm (t ∷ [])) ≡ 13 + length t
 unfolding filled
 pair-back t = omega (arith, length-append t (32 ∷ 118 ∷ 97 ∷ 108 ∷ 117 ∷ 101 ∷ 32 ∷ []))
+
+set-front : (t u : List ℕ) → length (filled setFront (t ∷ u ∷ [])) ≡ 24 + length t + length u
+unfolding filled
+set-front t u =
+    let name : List ℕ = 32 ∷ 110 ∷ 97 ∷ 109 ∷ 101 ∷ 32 ∷ [] in
+    omega (arith, length-append t (32 ∷ 115 ∷ 101 ∷ 116 ∷ 32 ∷ 115 ∷ 99 ∷ 111 ∷ 112 ∷ 101 ∷ 32 ∷ (u ++ name)), length-append u name)
+
+unset-front : (t u : List ℕ) → length (filled unsetFront (t ∷ u ∷ [])) ≡ 26 + length t + length u
+unfolding filled
+unset-front t u =
+    let name : List ℕ = 32 ∷ 110 ∷ 97 ∷ 109 ∷ 101 ∷ 32 ∷ [] in
+    omega (arith, length-append t (32 ∷ 117 ∷ 110 ∷ 115 ∷ 101 ∷ 116 ∷ 32 ∷ 115 ∷ 99 ∷ 111 ∷ 112 ∷ 101 ∷ 32 ∷ (u ++ name)), length-append u name)
+
+unset-back : length (filled (10 ∷ []) []) ≡ 1
+unfolding filled
+unset-back = refl
 
 shown-most : (s : List ℕ) → length (shown s) ≤ 2 * length s + 1
 shown-most s =
@@ -113,18 +131,36 @@ pair-room k f p n h w =
     (λ o. omega (arith, all, words, more, digits, few, key, short, o, w .key))
     (value-most f (v .kind) (v .a) (v .b) (v .flags) (w .fields))
 
+-- an action's number, scope and kind have at most 20 digits each, and its words 38 letters
+pub action-room : (k : ℕ) (f : List ℕ) (x : Action) (n : ℕ) → k < 2 ^ 64 → x .scope ≤ 4 → Whole n (x .pair) → length (actionLine k f x) ≤ 2 * n + 128
+action-room k f x n h scope w =
+    let p = x .pair in
+    let v = p .value in
+    let kind = writable-kind (v .kind) (v .a) (v .b) (v .flags) (w .fields) in
+    let name = shown (keyOf f p) in
+    let numbers = decimal k ∷ decimal (x .scope) ∷ [] in
+    let digits = decimal-most k h in
+    let more = decimal-most (x .scope) (omega arith) in
+    let few = decimal-most (v .kind) (omega arith) in
+    let key = shown-most (keyOf f p) in
+    let short = part-most f (p .start) (p .len) in
+    bool-cases (eqb (x .verb) 1)
+    (λ t.
+    let all = ap length (action-set f x k (eqb-true (x .verb) 1 t)) ∙ valued-length (filled setFront numbers) name (filled kindForm (decimal (v .kind) ∷ [])) (valueText f (recordOf v)) in
+    let words = set-front (decimal k) (decimal (x .scope)) in
+    let back = pair-back (decimal (v .kind)) in
+    ⊎-elim
+    (λ o. omega (arith, all, words, back, digits, more, few, key, short, o .1, w .both (o .0)))
+    (λ o. omega (arith, all, words, back, digits, more, few, key, short, o, w .key))
+    (value-most f (v .kind) (v .a) (v .b) (v .flags) (w .fields)))
+    (λ t.
+    let all = ap length (action-unset f x k (eqb-false (x .verb) 1 t)) ∙ named-length (filled unsetFront numbers) name (filled (10 ∷ []) []) in
+    omega (arith, all, unset-front (decimal k) (decimal (x .scope)), unset-back, digits, more, key, short, w .key))
+
 -- Law: so no line of an accepted frame is refused where 2n + 128 bytes are lent.
-pub accepted-room : (rooms : Rooms) (f : List ℕ) (m : Metadata) (c : Contents) (used k : ℕ) → wholeFrame rooms f ≡ done (m, c) used → k < 2 ^ 64
-    → Each (λ (x : Message). x .count < 2 ^ 64 → length (messageLine k f x) ≤ 2 * used + 128) (c .messages)
-    × Each (λ (p : Pair). length (pairLine k f p) ≤ 2 * used + 128) (c .pairs)
+pub accepted-room : (rooms : Rooms) (f : List ℕ) (m : Metadata) (c : Contents) (used k : ℕ) → whole (haproxys rooms) f ≡ done (m, c) used → k < 2 ^ 64
+    → Each (λ (x : Message). x .count < 2 ^ 64 → length (messageLine k f x) ≤ 2 * length f + 128) (c .messages)
+    × Each (λ (p : Pair). length (pairLine k f p) ≤ 2 * length f + 128) (c .pairs)
 accepted-room rooms f m c used k e h =
     let o = whole-held rooms f m c used e in
-    rw (o .1) (of-messages (c .messages) (o .0 .messages), of-pairs (c .pairs) (o .0 .pairs))
-  where
-    of-messages : (xs : List Message) → Each (Named (length f)) xs → Each (λ (x : Message). x .count < 2 ^ 64 → length (messageLine k f x) ≤ 2 * length f + 128) xs
-    of-messages [] w = tt
-    of-messages (x ∷ xs) w = (λ l. message-room k f x (length f) h l (w .0), of-messages xs (w .1))
-
-    of-pairs : (ps : List Pair) → Each (Whole (length f)) ps → Each (λ (p : Pair). length (pairLine k f p) ≤ 2 * length f + 128) ps
-    of-pairs [] w = tt
-    of-pairs (p ∷ ps) w = (pair-room k f p (length f) h (w .0), of-pairs ps (w .1))
+    (each-on (λ x w l. message-room k f x (length f) h l w) (c .messages) (o .messages), each-on (λ p w. pair-room k f p (length f) h w) (c .pairs) (o .pairs))

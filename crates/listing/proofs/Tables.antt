@@ -12,24 +12,27 @@ use Rattle.answer.specs.Order.{first}
 use Rattle.answer.specs.Table.{numberAt, records, joined}
 use Rattle.answer.proofs.Cases.{bool-cases}
 use Rattle.answer.proofs.Order.{first-none, first-holds}
+use Rattle.answer.proofs.Each.{Each, each-at}
 use Rattle.answer.proofs.Records.{records-none, joined-on}
 use Rattle.answer.proofs.Rows.{number-later}
 use Rattle.types.specs.Value.{points, shape}
 use Rattle.frame.specs.declared.Pair.{Pair}
 use Rattle.frame.specs.declared.Message.{Message}
-use Rattle.frame.specs.Records.{messageWidth, messageAt, messageNumbers, pairWidth, pairIn, pairAt, pairNumbers}
+use Rattle.frame.specs.declared.Action.{Action}
+use Rattle.frame.specs.Records.{messageWidth, messageAt, messageNumbers, pairWidth, pairIn, pairAt, pairNumbers, actionWidth, actionAt, actionNumbers}
 use Rattle.parser.specs.declared.Metadata.{Metadata}
 use Rattle.parser.specs.Payload.{Contents}
 use Rattle.parser.specs.Frame.{answered, frameRead}
 use Rattle.parser.specs.Promise.{roomsOf, contentsRead, Fills}
 use Rattle.parser.proofs.Filling.{joined-width}
+use Rattle.parser.proofs.Accepted.{frame-cut}
 use Rattle.listing.specs.Lines.{frameLine, messageLine, pairLine}
 use Rattle.listing.specs.Check.{messageChecks, pairChecks}
 use Rattle.listing.specs.Order.{messageAnswer, pairAnswer}
 use Rattle.listing.proofs.Frames.{itemLines, frameLines}
 use Rattle.listing.proofs.Pieces.{after-none, message-inside, pair-rest}
 use Rattle.listing.proofs.Coming.{after-holds}
-use Rattle.listing.proofs.Accepted.{Each, Named, Whole, whole-held, frame-used}
+use Rattle.listing.proofs.Accepted.{Named, Whole, whole-held}
 use Rattle.listing.proofs.Stepped.{steps, steps-lines}
 
 -- ---- what a table holds
@@ -84,19 +87,24 @@ table-pairs = table-holds pairNumbers pairAt here later
     later : (p : Pair) (t : List ℕ) (i : ℕ) → pairAt (pairNumbers p ++ t) (suc i) ≡ pairAt t i
     later p t i = λ j. pairIn (λ k. number-next pairWidth (pairNumbers p) t refl i k j) 0
 
--- each of them
-pub each-at : {A : Type 0} (P : A → Type 0) (at : ℕ → A) (n j : ℕ) → Each P (records at j n) → (i : ℕ) → i < n → P (at (j + i))
-unfolding records
-each-at P at zero j e i h = absurd (omega arith)
-each-at P at (suc n) j e zero h = let here : j + 0 ≡ j = omega arith in rw here (e .0)
-each-at P at (suc n) j e (suc i) h = let here : j + suc i ≡ suc j + i = omega arith in rw here (each-at P at n (suc j) (e .1) i (omega arith))
+pub table-actions : (xs : List Action) (t : List ℕ) → records (actionAt (joined actionNumbers xs ++ t)) 0 (length xs) ≡ xs
+unfolding actionAt
+table-actions = table-holds actionNumbers actionAt here later
+  where
+    here : (x : Action) (t : List ℕ) → actionAt (actionNumbers x ++ t) 0 ≡ x
+    here x t = refl
+
+    later : (x : Action) (t : List ℕ) (i : ℕ) → actionAt (actionNumbers x ++ t) (suc i) ≡ actionAt t i
+    later x t i =
+        let on = number-next actionWidth (actionNumbers x) t refl i in
+        λ j. record { verb = on 0 j; scope = on 1 j; pair = pairIn (λ k. on k j) 2 }
 
 -- ---- records of an accepted frame pass their checks
 
 message-passes : (f : List ℕ) (m : Message) → Named (length f) m → first (messageChecks f m) ≡ 0
 message-passes f m h = message-inside f m (le-leb (m .start + m .len) (length f) h)
 
-pair-passes : (f : List ℕ) (p : Pair) → Whole (length f) p → first (pairChecks f p) ≡ 0
+pub pair-passes : (f : List ℕ) (p : Pair) → Whole (length f) p → first (pairChecks f p) ≡ 0
 pair-passes f p h =
     pair-rest f p (h .fields) (le-leb (p .start + p .len) (length f) (h .key))
     ∙ first-holds 16 _ [] (bool-cases (points (shape (p .value .kind))) (λ t. rw t (le-leb (p .value .a + p .value .b) (length f) (h .range t))) (λ t. rw t))
@@ -132,7 +140,7 @@ module _ (f messages pairs : List ℕ) (c : Contents) (n : ℕ) (long : n ≡ le
       after-holds 16 _ (pairChecks f (pairAt pairs k)) (written (pairLine k f (pairAt pairs k))) (le-leb ((k + 1) * pairWidth) (length pairs) room)
       ∙ after-none (pairChecks f (pairAt pairs k)) (written (pairLine k f (pairAt pairs k))) (pair-passes f (pairAt pairs k) (rw long at there))
 
-  steps-contents : steps f messages (length (c .messages)) pairs (length (c .pairs)) (length (c .messages) + length (c .pairs)) (record { messages = 0; pairs = 0; left = 0 })
+  pub steps-contents : steps f messages (length (c .messages)) pairs (length (c .pairs)) (length (c .messages) + length (c .pairs)) (record { messages = 0; pairs = 0; left = 0 })
       ≡ itemLines f 0 0 (c .messages) (c .pairs)
   steps-contents =
       steps-lines f messages (length (c .messages)) pairs (length (c .pairs)) named paired
@@ -147,8 +155,8 @@ pub accepted-lines : (limit index : ℕ) (s oldMessages newMessages oldPairs new
     ≡ frameLines index (take used s) m c
 unfolding frameLines
 accepted-lines limit index s oldMessages newMessages oldPairs newPairs m c used e fills =
-    let o = frame-used limit (roomsOf oldMessages oldPairs) s m c used e in
-    let h = whole-held (roomsOf oldMessages oldPairs) (take used s) m c used (o .2) in
-    let long = length-take-le used s (o .1) in
+    let o = frame-cut limit (roomsOf oldMessages oldPairs) s m c used e in
+    let h = whole-held (roomsOf oldMessages oldPairs) (take used s) m c used (o .is) in
+    let long = length-take-le used s (o .there) in
     ap₂ (λ (n : ℕ) (l : List ℕ). frameLine index m n ++ l) (sym long)
-    (steps-contents (take used s) newMessages newPairs c (length (take used s)) refl (h .0 .messages, h .0 .pairs) _ _ (rw e at (fills .messages)) (rw e at (fills .pairs)))
+    (steps-contents (take used s) newMessages newPairs c (length (take used s)) refl (h .messages, h .pairs) _ _ (rw e at (fills .messages)) (rw e at (fills .pairs)))

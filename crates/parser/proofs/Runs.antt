@@ -1,10 +1,11 @@
 -- Laws about pairs that stand one behind the other, and about seeking a key among them.
-use mathlib.Core.Path.{_≡_, refl, sym, ap, _∙_}
+use mathlib.Core.Path.{_≡_, refl, sym, ap, ap₂, _∙_}
 use mathlib.Core.Bool.{Bool, true, false}
-use mathlib.Core.List.{List, [], _∷_, _++_}
+use mathlib.Core.List.{List, [], _∷_, _++_, map}
 use Prim.Native.Nat.{ℕ, _+_, _-_, _≤_, _<_}
 use native.Mathlib.Omega.{arith}
 use lib.ListN.{length, drop, length-drop}
+use lib.Seq.{drop-drop}
 use Rattle.answer.specs.Answer.{Answer, done, refused, behind}
 use Rattle.answer.specs.Table.{some}
 use Rattle.answer.proofs.Cases.{not-both, answer-cases}
@@ -12,7 +13,7 @@ use Rattle.answer.proofs.Records.{some-none, some-here, some-later}
 use Rattle.frame.specs.declared.Pair.{Pair}
 use Rattle.parser.specs.Pair.{movedPair, pair, pairFrom}
 use Rattle.parser.specs.Inner.{Run}
-use Rattle.parser.proofs.Pairs.{done-same, Inside, pair-accepted}
+use Rattle.parser.proofs.Pairs.{done-same, moved-twice, Inside, pair-accepted}
 
 -- Law: a pair that stands at a place ends behind it, and within the bytes.
 pub from-next : (s : List ℕ) (at : ℕ) (p : Pair) (next : ℕ) → pairFrom at s ≡ done p next → (2 + at ≤ next) × (at ≤ length s) × (next ≤ length s)
@@ -44,6 +45,18 @@ run-on s at (p ∷ ps) end r = omega (arith, from-next s at p (r .0) (r .1), run
 pub run-more : (s : List ℕ) (at : ℕ) (ps : List Pair) (end : ℕ) (p : Pair) (next : ℕ) → Run s at ps end → pairFrom end s ≡ done p next → Run s at (ps ++ (p ∷ [])) next
 run-more s at [] end p next r e = (next, ap (λ (n : ℕ). pairFrom n s) r ∙ e, refl)
 run-more s at (q ∷ ps) end p next r e = (r .0, r .1, run-more s (r .0) ps end p next (r .2) e)
+
+-- Law: what stands behind n bytes of s, as s has it.
+pub from-moved : (s : List ℕ) (n at : ℕ) → pairFrom (n + at) s ≡ behind movedPair n (pairFrom at (drop n s))
+from-moved s n at = ap (λ (t : List ℕ). behind movedPair (n + at) (pair t)) (sym (drop-drop at n s)) ∙ twice (pair (drop at (drop n s)))
+  where
+    twice : (a : Answer Pair) → behind movedPair (n + at) a ≡ behind movedPair n (behind movedPair at a)
+    twice (done p used) = ap₂ (λ (q : Pair) (k : ℕ). done q k) (sym (moved-twice n at p)) (omega arith)
+    twice (refused k place) = ap (refused k) (omega arith)
+
+pub run-moved : (s : List ℕ) (n at : ℕ) (ps : List Pair) (end : ℕ) → Run (drop n s) at ps end → Run s (n + at) (map (movedPair n) ps) (n + end)
+run-moved s n at [] end r = ap (λ (k : ℕ). n + k) r
+run-moved s n at (p ∷ ps) end r = (n + r .0, from-moved s n at ∙ ap (behind movedPair n) (r .1), run-moved s n (r .0) ps end (r .2))
 
 -- ---- seeking one
 

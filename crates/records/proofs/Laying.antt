@@ -2,34 +2,35 @@
 -- other, also with other bytes behind the frame.
 use mathlib.Core.Path.{_≡_, refl, sym, ap, ap₂, subst, _∙_}
 use mathlib.Core.Bool.{Bool, true, false, not, _||_}
-use mathlib.Core.Logic.{_⊎_, inl, inr, ⊎-elim}
+use mathlib.Core.Logic.{⊎-elim}
 use mathlib.Core.List.{List, [], _∷_, _++_, map}
 use Prim.Native.Nat.{ℕ, zero, suc, _+_, _-_, _≤_, _<_}
 use native.Mathlib.Omega.{arith}
 use lib.Dec.{ltb, eqb}
 use lib.ListN.{length, take, drop, getD, length-append, length-drop, length-map}
-use lib.Seq.{drop-drop, drop-append-le, getD-take, getD-drop, length-take-le, take-append-le}
+use lib.Seq.{drop-drop, drop-append-le, getD-drop}
 use borrow.Author.Tests.{lt-ltb, le-ltb, eq-eqb, ne-eqb}
 use Rattle.answer.specs.Answer.{Answer, done, refused, behind}
-use Rattle.answer.proofs.Cases.{lt-or-le, bool-cases, answer-cases, not-both, true-false}
-use Rattle.types.specs.Value.{Span, span, string, Record, value, typed}
+use Rattle.answer.proofs.Cases.{lt-or-le, answer-cases, not-both}
+use Rattle.types.specs.Value.{Span, span, string, Record, typed}
 use Rattle.types.proofs.Reading.{string-accepted, string-accepted-kept, typed-accepted-kept}
 use Rattle.frame.specs.declared.Pair.{Pair}
 use Rattle.frame.specs.declared.Message.{Message}
 use Rattle.parser.specs.declared.Rooms.{Rooms}
 use Rattle.parser.specs.declared.Metadata.{Metadata}
 use Rattle.parser.specs.Pair.{movedPair, pair, pairFrom}
-use Rattle.parser.specs.Payload.{Contents, withPair, withMessage, stringFrom, movedSpan, oneItem, ended, toEnd, payload, movedContents, movedMessage}
+use Rattle.parser.specs.Payload.{Contents, withPair, withMessage, stringFrom, movedSpan, oneItem, ended, toEnd, payload, movedMessage}
 use Rattle.parser.specs.Frame.{answered, frameRead}
 use Rattle.parser.specs.Inner.{Run}
-use Rattle.parser.proofs.Pairs.{done-same, pair-key, pair-value, pair-whole}
-use Rattle.parser.proofs.Runs.{from-next}
+use Rattle.parser.proofs.Pairs.{pair-key, pair-value, pair-whole}
+use Rattle.parser.proofs.Runs.{from-next, run-moved}
 use Rattle.parser.proofs.Frames.{metadata-start}
 use Rattle.parser.proofs.Walk.{string-next, pair-says, message-says, item-pair, item-message}
 use Rattle.walker.specs.declared.Place.{Place}
 use Rattle.walker.specs.Walk.{kvOf}
 use Rattle.records.specs.Inner.{MessageThere, Laid}
-use Rattle.walker.proofs.Walking.{from-moved, run-moved, ended-same, kv-run, kv-start, frame-holds, payload-all, take-short}
+use Rattle.parser.proofs.Accepted.{ended-same, kv-run, payload-all, frame-cut}
+use Rattle.walker.proofs.Walking.{kv-start, take-short}
 
 -- ---- with other bytes behind
 
@@ -146,7 +147,7 @@ snoc-append (x ∷ xs) y l = ap (λ k. x ∷ k) (snoc-append xs y l)
 module _ (rooms : Rooms) (s : List ℕ) where
   rest-ended : (at : ℕ) (c d : Contents) (end : ℕ) → ended at c ≡ done d end → Rest s at c d end
   rest-ended at c d end e =
-      let o = ended-same rooms s at c d end e in
+      let o = ended-same at c d end e in
       record {
         qs = [];
         rest = [];
@@ -241,7 +242,7 @@ module _ (rooms : Rooms) (s : List ℕ) where
   -- a KV list has no messages
   none-on : (k at : ℕ) (c d : Contents) (end : ℕ) → toEnd true rooms k at c s ≡ done d end → c .messages ≡ d .messages
   unfolding toEnd
-  none-on zero at c d end e = ap (λ (x : Contents). x .messages) (ended-same rooms s at c d end e .0)
+  none-on zero at c d end e = ap (λ (x : Contents). x .messages) (ended-same at c d end e .0)
   none-on (suc k) at c d end e =
       ⊎-elim
       (λ l.
@@ -249,7 +250,7 @@ module _ (rooms : Rooms) (s : List ℕ) where
       answer-cases (oneItem true rooms at c s)
       (λ x n g. ap (λ (y : Contents). y .messages) (pair-says true rooms at c s x n (sym (item-pair true rooms at c s refl) ∙ g) .is) ∙ none-on k n x d end (rw g at f))
       (λ n place g. not-both (rw g at f) refl))
-      (λ l. ap (λ (x : Contents). x .messages) (ended-same rooms s at c d end (rw (le-ltb at (length s) l) at e) .0))
+      (λ l. ap (λ (x : Contents). x .messages) (ended-same at c d end (rw (le-ltb at (length s) l) at e) .0))
       (lt-or-le at (length s))
 
   kv-none : (d : Contents) (end : ℕ) → payload true rooms s ≡ done d end → [] ≡ d .messages
@@ -271,7 +272,7 @@ take-drop (suc n) (x ∷ xs) = ap (λ (l : List ℕ). x ∷ l) (take-drop n xs)
 
 pub accepted-lies : (limit : ℕ) (rooms : Rooms) (s : List ℕ) (m : Metadata) (c : Contents) (used : ℕ) → frameRead limit rooms s ≡ answered (done (m, c) used) → Lies s m c used
 accepted-lies limit rooms s m c used e =
-    let h = frame-holds limit rooms s m c used e in
+    let h = frame-cut limit rooms s m c used e .holds in
     let f = take used s in
     let n = h .start in
     let at : kvOf f .at ≡ n = ap (λ (x : Place). x .at) (kv-start f m n (h .head)) in
@@ -280,7 +281,7 @@ accepted-lies limit rooms s m c used e =
     let messages : map (movedMessage n) (h .held .messages) ≡ c .messages = ap (λ (x : Contents). x .messages) (h .moved) in
     let from : n + 0 ≡ n = omega arith in
     record {
-      within = omega (arith, h .all, payload-all (not (eqb (m .kind) 3)) rooms (drop n f) (h .held) (h .end) (h .is), length-drop n f, most, take-short used s);
+      within = omega (arith, h .sum, payload-all (not (eqb (m .kind) 3)) rooms (drop n f) (h .held) (h .end) (h .is), length-drop n f, most, take-short used s);
       list = λ ne.
           let is : payload true rooms (drop n f) ≡ done (h .held) (h .end) = ap (λ (b : Bool). payload (not b) rooms (drop n f)) (sym (ne-eqb (m .kind) 3 ne)) ∙ h .is in
           let run = run-moved f n 0 (h .held .pairs) (h .end) (kv-run rooms (drop n f) (h .held) (h .end) is) in (

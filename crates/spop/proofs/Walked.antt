@@ -1,7 +1,7 @@
 -- A payload that was written, read to its end: how far a reading is, its steps, and its loops.
 use mathlib.Core.Path.{_≡_, refl, sym, ap, ap₂, _∙_}
 use mathlib.Core.Bool.{Bool, true, false, cond, _&&_, _||_}
-use mathlib.Core.List.{List, [], _∷_, _++_, map, append-assoc}
+use mathlib.Core.List.{List, [], _∷_, _++_, map, append-assoc, map-append}
 use Prim.Native.Nat.{ℕ, zero, suc, _+_, _-_, _^_, _≤_, _<_}
 use native.Mathlib.Numerals.{add-one}
 use native.Mathlib.Omega.{arith}
@@ -38,10 +38,6 @@ use Rattle.writer.proofs.Messages.{name-bytes, message-bytes, run-next}
 
 -- ---- lists
 
-map-both : {A B : Type 0} (f : A → B) (xs ys : List A) → map f (xs ++ ys) ≡ map f xs ++ map f ys
-map-both f [] ys = refl
-map-both f (x ∷ xs) ys = ap (λ (l : List _). f x ∷ l) (map-both f xs ys)
-
 records-next : {A : Type 0} (at : ℕ → A) (i n : ℕ) → records at i (suc n) ≡ at i ∷ records at (i + 1) n
 unfolding records
 records-next at i n = rw (add-one i)
@@ -54,9 +50,9 @@ as-many f g at xs n e = sym (length-map f xs) ∙ ap length e ∙ length-map g (
 both-more : {A B C : Type 0} (f : A → C) (g : B → C) (at : ℕ → B) (xs : List A) (x : A) (n : ℕ) → map f xs ≡ map g (records at 0 n) → f x ≡ g (at n)
     → map f (xs ++ (x ∷ [])) ≡ map g (records at 0 (n + 1))
 both-more f g at xs x n e here =
-    map-both f xs (x ∷ [])
+    map-append f xs (x ∷ [])
     ∙ ap₂ (λ (l : List _) (y : _). l ++ (y ∷ [])) e here
-    ∙ sym (map-both g (records at 0 n) (at n ∷ []))
+    ∙ sym (map-append g (records at 0 n) (at n ∷ []))
     ∙ ap (map g) (sym (records-snoc at n))
 
 some-map : {A B : Type 0} (test : B → Bool) (f : A → B) (xs : List A) → some (λ x. test (f x)) xs ≡ some test (map f xs)

@@ -11,12 +11,11 @@ use Rattle.types.proofs.Roundtrip.{Meaning}
 use Rattle.parser.specs.declared.Rooms.{Rooms}
 use Rattle.parser.specs.declared.Metadata.{Metadata}
 use Rattle.parser.specs.Payload.{Contents}
-use Rattle.parser.specs.Frame.{Reading, wait, answered, answerOf, frameRead}
-use Rattle.parser.specs.Inner.{wholeFrame}
+use Rattle.parser.specs.Frame.{whole, Reading, wait, answered, answerOf, haproxys, frameRead}
 use Rattle.listing.specs.Lines.{filled, frameLine, endLine}
 use Rattle.spoplist.specs.Listing.{Stop, onward, stopOf, haproxysTake}
 use Rattle.listing.proofs.Frames.{itemLines, frameLines}
-use Rattle.listing.proofs.Accepted.{frame-used}
+use Rattle.parser.proofs.Accepted.{frame-cut}
 use Rattle.listing.proofs.Lossless.{messageMeans, pairMeans, Over, SameFrame, listing-apart-then, frame-over, end-over, end-apart}
 
 -- ---- the listing of an input
@@ -78,7 +77,7 @@ pub record Going (limit : ℕ) (rooms : Rooms) (k index : ℕ) (s : List ℕ) : 
   pub metadata : Metadata
   pub contents : Contents
   pub used : ℕ
-  pub frame : wholeFrame rooms (take used s) ≡ done (metadata, contents) used
+  pub frame : whole (haproxys rooms) (take used s) ≡ done (metadata, contents) used
   pub lines : linesFrom limit rooms (suc k) index s ≡ frameLines index (take used s) metadata contents ++ linesFrom limit rooms k (suc index) (drop used s)
   pub meanings : meaningsFrom limit rooms (suc k) s ≡ frameMeans (take used s) metadata contents ∷ meaningsFrom limit rooms k (drop used s)
 
@@ -95,7 +94,7 @@ module _ (limit : ℕ) (rooms : Rooms) where
       by-answer (wait n) is = inl (record { lines = rw is; meanings = rw is })
       by-answer (answered (refused n place)) is = inl (record { lines = rw is; meanings = rw is })
       by-answer (answered (done (m, c) n)) is =
-          inr (record { metadata = m; contents = c; used = n; frame = frame-used limit rooms s m c n is .2; lines = rw is; meanings = rw is })
+          inr (record { metadata = m; contents = c; used = n; frame = frame-cut limit rooms s m c n is .is; lines = rw is; meanings = rw is })
 
 -- ---- where a frame's lines and the last line start
 

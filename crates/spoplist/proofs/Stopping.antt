@@ -1,7 +1,7 @@
 -- Laws about where a listing stops: how it goes on behind a frame, and what the reader's answer is.
 use mathlib.Core.Path.{_≡_, refl, sym, ap, ap₂, _∙_}
 use mathlib.Core.List.{List}
-use Prim.Native.Nat.{ℕ, zero, suc, _+_, _-_, _≤_, _<_}
+use Prim.Native.Nat.{ℕ, zero, suc, _+_, _≤_, _<_}
 use native.Mathlib.Omega.{arith}
 use lib.ListN.{length, drop, length-drop}
 use lib.Seq.{drop-drop}
@@ -13,10 +13,10 @@ use Rattle.parser.specs.Frame.{Reading, wait, answered, frameRead}
 use Rattle.parser.specs.Promise.{Counts, countsOf, frameTells}
 use Rattle.agent.specs.Frame.{Sent, agentRead}
 use Rattle.agent.specs.Promise.{agentTells}
-use Rattle.listing.proofs.Accepted.{frame-used}
+use Rattle.parser.proofs.Accepted.{frame-cut}
+use Rattle.agent.proofs.Standing.{agent-cut}
 use Rattle.spoplist.specs.Listing.{taken, stopFrom, stopOf, haproxysTake, agentsTake}
 use Rattle.spoplist.specs.Inner.{Accepts}
-use Rattle.spoplist.proofs.Agents.{agent-used}
 
 -- ---- what a reader said
 
@@ -53,8 +53,8 @@ module _ (limit : ℕ) (rooms : Rooms) (s : List ℕ) where
       → Accepts s (haproxysTake limit rooms s) used
   said-taken m k used e =
       let o = told-done countsOf frameTells (λ n. refl) (λ n c u. refl) (λ n p. refl) (frameRead limit rooms s) m k used e in
-      let h = frame-used limit rooms s (o .0 .0) (o .0 .1) used (o .1) in
-      record { is = ap taken (o .1); some = omega (arith, h .0); most = h .1 }
+      let h = frame-cut limit rooms s (o .0 .0) (o .0 .1) used (o .1) in
+      record { is = ap taken (o .1); some = omega (arith, h .four); most = h .there }
 
   pub said-wait : (n : ℕ) → wait n ≡ frameTells (frameRead limit rooms s) → haproxysTake limit rooms s ≡ refused 1 n
   said-wait n e = told-wait countsOf frameTells (λ n. refl) (λ n c u. refl) (λ n p. refl) (frameRead limit rooms s) n e
@@ -71,8 +71,8 @@ module _ (limit pairs room : ℕ) (s : List ℕ) where
       → Accepts s (agentsTake limit pairs room s) used
   sent-taken m k used e =
       let o = told-done countsIn agentTells (λ n. refl) (λ n c u. refl) (λ n p. refl) (agentRead limit pairs room s) m k used e in
-      let h = agent-used limit pairs room s (o .0 .0) (o .0 .1) used (o .1) in
-      record { is = ap taken (o .1); some = omega (arith, h .0); most = h .1 }
+      let h = agent-cut limit pairs room s (o .0 .0) (o .0 .1) used (o .1) in
+      record { is = ap taken (o .1); some = omega (arith, h .four); most = h .there }
 
   pub sent-wait : (n : ℕ) → wait n ≡ agentTells (agentRead limit pairs room s) → agentsTake limit pairs room s ≡ refused 1 n
   sent-wait n e = told-wait countsIn agentTells (λ n. refl) (λ n c u. refl) (λ n p. refl) (agentRead limit pairs room s) n e

@@ -8,9 +8,10 @@ use Prim.Native.Nat.{ℕ, zero, suc, _+_, _-_, _≤_, _<_, _^_}
 use native.Mathlib.Omega.{arith}
 use lib.Dec.{ltb, eqb}
 use lib.ListN.{length, take, drop, getD, length-append, length-drop, length-map}
-use lib.Seq.{drop-drop, take-append-le, drop-append-le, take-all, length-take-le, drop-length}
+use lib.Seq.{take-append-le, drop-append-le, take-all, length-take-le, drop-length}
 use borrow.Author.Tests.{lt-ltb, le-ltb, eq-eqb, ne-eqb, eqb-true, eqb-false}
 use Rattle.answer.specs.Answer.{Answer, done, refused, behind}
+use Rattle.answer.proofs.Each.{Each, each-on, each-more, each-map}
 use Rattle.answer.proofs.Cases.{lt-or-le, bool-cases, answer-cases, not-both, true-false}
 use Rattle.answer.specs.Table.{some}
 use Rattle.varint.specs.Number.{number}
@@ -22,17 +23,17 @@ use Rattle.frame.specs.Head.{fourNumber}
 use Rattle.parser.specs.declared.Rooms.{Rooms}
 use Rattle.parser.specs.declared.Metadata.{Metadata}
 use Rattle.parser.specs.Pair.{movedPair, pair, pairFrom}
-use Rattle.parser.specs.Payload.{Contents, withPair, withMessage, stringFrom, movedSpan, oneItem, ended, toEnd, payload, movedContents, movedMessage}
+use Rattle.parser.specs.Payload.{Contents, withMessage, stringFrom, movedSpan, oneItem, ended, toEnd, payload, movedMessage}
 use Rattle.parser.specs.Frame.{frameTypes, same, sentBy, lastId, ids, metadata, answered, frameRead}
-use Rattle.parser.specs.Inner.{wholeFrame, Run}
-use Rattle.parser.proofs.Pairs.{done-same, moved-twice}
-use Rattle.parser.proofs.Runs.{from-next, run-more}
-use Rattle.parser.proofs.Walk.{pair-says, message-says, message-list, item-pair, item-message, item-next, ended-done, ended-short, ends, payload-ends}
-use Rattle.parser.proofs.Frames.{last-refused, last-other, last-done, ids-refused, ids-on, metadata-none, metadata-type, metadata-short, metadata-flags, metadata-abort, metadata-ids, metadata-start, whole-refused, whole-payload, frame-start, frame-over, frame-wait, frame-whole, inFrame}
-use Rattle.parser.proofs.Kept.{by-cut, wait-answered, answered-same}
+use Rattle.parser.specs.Inner.{Run}
+use Rattle.parser.proofs.Pairs.{done-same}
+use Rattle.parser.proofs.Runs.{from-next, run-more, run-moved}
+use Rattle.parser.proofs.Walk.{pair-says, message-says, item-pair, item-message, ends}
+use Rattle.parser.proofs.Frames.{last-refused, last-other, last-done, ids-refused, ids-on, metadata-none, metadata-type, metadata-short, metadata-flags, metadata-abort, metadata-ids, metadata-start}
+use Rattle.parser.proofs.Accepted.{ended-same, kv-run, payload-all, frame-cut}
 use Rattle.walker.specs.declared.Place.{Place}
 use Rattle.walker.specs.declared.Step.the-variants as v
-use Rattle.walker.specs.Walk.{endOr, behindNumber, kvOf, argumentsOf, comes, step}
+use Rattle.walker.specs.Walk.{endOr, behindNumber, kvOf, argumentsOf, step}
 use Rattle.walker.proofs.Stepping.{step-end, step-is}
 
 -- ---- what a walk finds
@@ -49,21 +50,6 @@ pub record FindsAll (s : List ℕ) (x : Place) (ps : List Pair) : Type 0 where
   pub ends : step s last ≡ v.End
 
 -- ---- pairs that stand one behind the other
-
--- what stands behind n bytes of s, as s has it
-pub from-moved : (s : List ℕ) (n at : ℕ) → pairFrom (n + at) s ≡ behind movedPair n (pairFrom at (drop n s))
-from-moved s n at = ap (λ (t : List ℕ). behind movedPair (n + at) (pair t)) same ∙ twice (pair (drop at (drop n s)))
-  where
-    same : drop (n + at) s ≡ drop at (drop n s)
-    same = sym (drop-drop at n s)
-
-    twice : (a : Answer Pair) → behind movedPair (n + at) a ≡ behind movedPair n (behind movedPair at a)
-    twice (done p used) = ap₂ (λ (q : Pair) (k : ℕ). done q k) (sym (moved-twice n at p)) (omega arith)
-    twice (refused k place) = ap (refused k) (omega arith)
-
-pub run-moved : (s : List ℕ) (n at : ℕ) (ps : List Pair) (end : ℕ) → Run (drop n s) at ps end → Run s (n + at) (map (movedPair n) ps) (n + end)
-run-moved s n at [] end r = ap (λ (k : ℕ). n + k) r
-run-moved s n at (p ∷ ps) end r = (n + r .0, from-moved s n at ∙ ap (behind movedPair n) (r .1), run-moved s n (r .0) ps end (r .2))
 
 abbrev kvAt : ℕ → Place
 kvAt at = record { at = at; left = 0; kv = true }
@@ -86,78 +72,7 @@ arguments-finds s at (p ∷ ps) end left r = (
   arguments-finds s (r .0) ps end left (r .2),
 )
 
--- ---- the pairs of a KV list
-
-module _ (rooms : Rooms) (s : List ℕ) where
-  kv-item : (at : ℕ) (c d : Contents) (end : ℕ) → oneItem true rooms at c s ≡ done d end → Run s 0 (c .pairs) at → Run s 0 (d .pairs) end
-  kv-item at c d end e r =
-      let p = pair-says true rooms at c s d end (sym (item-pair true rooms at c s refl) ∙ e) in
-      rw (sym (p .is)) (run-more s 0 (c .pairs) at (p .pair) end r (p .from))
-
-  -- where a reading that is accepted ends
-  pub ended-same : (at : ℕ) (c d : Contents) (end : ℕ) → ended at c ≡ done d end → (c ≡ d) × (at ≡ end) × (c .left ≡ 0)
-  ended-same at c d end e =
-      ⊎-elim
-      (λ l. not-both e (ended-short at c (λ z. omega (arith, l))))
-      (λ l. let z : c .left ≡ 0 = omega (arith, l) in let o = done-same (sym (ended-done at c z) ∙ e) in (o .0, o .1, z))
-      (lt-or-le 0 (c .left))
-
-  kv-on : (k at : ℕ) (c d : Contents) (end : ℕ) → toEnd true rooms k at c s ≡ done d end → Run s 0 (c .pairs) at → Run s 0 (d .pairs) end
-  unfolding toEnd
-  kv-on zero at c d end e r = let o = ended-same at c d end e in rw (sym (o .0), sym (o .1)) r
-  kv-on (suc k) at c d end e r =
-      ⊎-elim
-      (λ l.
-      let f = rw (lt-ltb at (length s) l) at e in
-      answer-cases (oneItem true rooms at c s)
-      (λ x n g. kv-on k n x d end (rw g at f) (kv-item at c x n g r))
-      (λ n place g. not-both (rw g at f) refl))
-      (λ l. let o = ended-same at c d end (rw (le-ltb at (length s) l) at e) in rw (sym (o .0), sym (o .1)) r)
-      (lt-or-le at (length s))
-
-  pub kv-run : (d : Contents) (end : ℕ) → payload true rooms s ≡ done d end → Run s 0 (d .pairs) end
-  unfolding payload
-  kv-run d end e = kv-on (length s) 0 _ d end e refl
-
--- An accepted payload takes all bytes.
-module _ (kv : Bool) (rooms : Rooms) (s : List ℕ) where
-  all-on : (k at : ℕ) (c d : Contents) (end : ℕ) → toEnd kv rooms k at c s ≡ done d end → length s ≤ at + k → length s ≤ end
-  unfolding toEnd
-  all-on zero at c d end e h = omega (arith, ended-same rooms s at c d end e .1)
-  all-on (suc k) at c d end e h =
-      ⊎-elim
-      (λ l.
-      let f = rw (lt-ltb at (length s) l) at e in
-      answer-cases (oneItem kv rooms at c s)
-      (λ x n g. all-on k n x d end (rw g at f) (omega (arith, item-next kv rooms at c s x n g)))
-      (λ n place g. not-both (rw g at f) refl))
-      (λ l. omega (arith, l, ended-same rooms s at c d end (rw (le-ltb at (length s) l) at e) .1))
-      (lt-or-le at (length s))
-
-  payload-least : (d : Contents) (end : ℕ) → payload kv rooms s ≡ done d end → length s ≤ end
-  unfolding payload
-  payload-least d end e = all-on (length s) 0 _ d end e (omega arith)
-
-  pub payload-all : (d : Contents) (end : ℕ) → payload kv rooms s ≡ done d end → end ≡ length s
-  payload-all d end e = omega (arith, ap ends (sym e), payload-ends kv rooms s, payload-least d end e)
-
 -- ---- the pairs of each message
-
-abbrev pub Each : {A : Type 0} → (A → Type 0) → List A → Type 0
-Each P [] = Unit
-Each P (x ∷ xs) = P x × Each P xs
-
-each-on : {A : Type 0} {P Q : A → Type 0} → ((x : A) → P x → Q x) → (xs : List A) → Each P xs → Each Q xs
-each-on f [] e = tt
-each-on f (x ∷ xs) e = (f x (e .0), each-on f xs (e .1))
-
-each-more : {A : Type 0} (P : A → Type 0) (xs : List A) (x : A) → Each P xs → P x → Each P (xs ++ (x ∷ []))
-each-more P [] x e p = (p, tt)
-each-more P (y ∷ ys) x e p = (e .0, each-more P ys x (e .1) p)
-
-each-map : {A B : Type 0} {P : A → Type 0} (Q : B → Type 0) (g : A → B) → ((x : A) → P x → Q (g x)) → (xs : List A) → Each P xs → Each Q (map g xs)
-each-map Q g f [] e = tt
-each-map Q g f (x ∷ xs) e = (f x (e .0), each-map Q g f xs (e .1))
 
 -- where a message's arguments start, and which pairs they are
 abbrev behindCount : Message → ℕ
@@ -263,7 +178,7 @@ module _ (rooms : Rooms) (s : List ℕ) where
           }))
 
   parts-ended : (at : ℕ) (c d : Contents) (end : ℕ) → ended at c ≡ done d end → Parts at c → Each (Whole s (d .pairs)) (d .messages)
-  parts-ended at c d end e ps = let o = ended-same rooms s at c d end e in rw (sym (o .0)) (each-on (λ m w. part-whole s (c .pairs) at (c .left) (o .2) m w) (c .messages) ps)
+  parts-ended at c d end e ps = let o = ended-same at c d end e in rw (sym (o .0)) (each-on (λ m w. part-whole s (c .pairs) at (c .left) (o .2) m w) (c .messages) ps)
 
   parts-on : (k at : ℕ) (c d : Contents) (end : ℕ) → toEnd false rooms k at c s ≡ done d end → Parts at c → Each (Whole s (d .pairs)) (d .messages)
   unfolding toEnd
@@ -330,64 +245,11 @@ module _ (f : List ℕ) (m : Metadata) (start : ℕ) where
           (λ three. not-both e (metadata-abort false f h t l (is ∙ eqb-true n 3 three)))
           (λ three. not-both e (metadata-flags false f h t l (λ z. eqb-false n 1 one (sym is ∙ z)) (λ z. eqb-false n 3 three (sym is ∙ z)))))
 
--- the payload of a frame that is accepted, with its records moved by where it starts
-pub record Held (rooms : Rooms) (f : List ℕ) (m : Metadata) (c : Contents) (used : ℕ) : Type 0 where
-  pub start : ℕ
-  pub head : metadata false f ≡ done m start
-  pub held : Contents
-  pub end : ℕ
-  pub is : payload (not (eqb (m .kind) 3)) rooms (drop start f) ≡ done held end
-  pub moved : movedContents start held ≡ c
-  pub all : start + end ≡ used
-
-whole-holds : (rooms : Rooms) (f : List ℕ) (m : Metadata) (c : Contents) (used : ℕ) → wholeFrame rooms f ≡ done (m, c) used → Held rooms f m c used
-whole-holds rooms f m c used e =
-    answer-cases (metadata false f)
-    (λ n start g. go n start g (payload (not (eqb (n .kind) 3)) rooms (drop start f)) refl (sym (whole-payload rooms f n start g) ∙ e))
-    (λ n place r. not-both e (whole-refused rooms f n place r))
-  where
-    go : (n : Metadata) (start : ℕ) → metadata false f ≡ done n start → (a : Answer Contents) → payload (not (eqb (n .kind) 3)) rooms (drop start f) ≡ a
-        → inFrame n start a ≡ done (m, c) used → Held rooms f m c used
-    go n start h (done d end) is g =
-        let o = done-same g in
-        let same : n ≡ m = ap (λ (x : Metadata × Contents). x .0) (o .0) in
-        record {
-          start = start;
-          head = h ∙ ap (λ (x : Metadata). done x start) same;
-          held = d;
-          end = end;
-          is = ap (λ (x : Metadata). payload (not (eqb (x .kind) 3)) rooms (drop start f)) (sym same) ∙ is;
-          moved = ap (λ (x : Metadata × Contents). x .1) (o .0);
-          all = o .1;
-        }
-    go n start h (refused k place) is g = not-both g refl
-
--- and that a reading which is accepted is one of the bytes up to where it ends
-pub frame-holds : (limit : ℕ) (rooms : Rooms) (s : List ℕ) (m : Metadata) (c : Contents) (used : ℕ) → frameRead limit rooms s ≡ answered (done (m, c) used) → Held rooms (take used s) m c used
-frame-holds limit rooms s m c used e =
-    by-cut limit s
-    (λ x. wait-answered (sym (frame-start limit rooms s x) ∙ e))
-    (λ x y. not-both refl (answered-same (sym e ∙ frame-over limit rooms s x y)))
-    (λ x y z. wait-answered (sym (frame-wait limit rooms s x y z) ∙ e))
-    (λ x y z.
-    let n = 4 + fourNumber s in
-    let h = whole-holds rooms (take n s) m c used (answered-same (sym (frame-whole limit rooms s x y z) ∙ e)) in
-    let same : n ≡ used =
-    omega (
-      arith,
-      h .all,
-      payload-all (not (eqb (m .kind) 3)) rooms (drop (h .start) (take n s)) (h .held) (h .end) (h .is),
-      length-drop (h .start) (take n s),
-      length-take-le n s z,
-      metadata-start false (take n s) m (h .start) (h .head),
-    ) in
-    subst (λ (k : ℕ). Held rooms (take k s) m c used) same h)
-
 -- Law: a walk over the KV list of an accepted frame finds the pairs that the frame reader gives, in order, and then the end.
 pub kv-walked : (limit : ℕ) (rooms : Rooms) (s : List ℕ) (m : Metadata) (c : Contents) (used : ℕ) → frameRead limit rooms s ≡ answered (done (m, c) used)
     → (m .kind ≡ 3 → ⊥) → FindsAll (take used s) (kvOf (take used s)) (c .pairs)
 kv-walked limit rooms s m c used e ne =
-    let h = frame-holds limit rooms s m c used e in
+    let h = frame-cut limit rooms s m c used e .holds in
     let f = take used s in
     let n = h .start in
     let is : payload true rooms (drop n f) ≡ done (h .held) (h .end) = ap (λ (b : Bool). payload (not b) rooms (drop n f)) (sym (ne-eqb (m .kind) 3 ne)) ∙ h .is in
@@ -425,7 +287,7 @@ arguments-start x h = rw (lt-ltb (behindCount x) (2 ^ 64) h)
 pub messages-walked : (limit : ℕ) (rooms : Rooms) (s : List ℕ) (m : Metadata) (c : Contents) (used : ℕ) → frameRead limit rooms s ≡ answered (done (m, c) used)
     → m .kind ≡ 3 → length s < 2 ^ 64 → Each (λ x. FindsAll (take used s) (argumentsOf x) (argumentsIn (c .pairs) x)) (c .messages)
 messages-walked limit rooms s m c used e is3 small =
-    let h = frame-holds limit rooms s m c used e in
+    let h = frame-cut limit rooms s m c used e .holds in
     let f = take used s in
     let n = h .start in
     let is : payload false rooms (drop n f) ≡ done (h .held) (h .end) = ap (λ (b : Bool). payload (not b) rooms (drop n f)) (sym (eq-eqb (m .kind) 3 is3)) ∙ h .is in

@@ -9,7 +9,8 @@ use Rattle.answer.specs.Answer.{Answer}
 use Rattle.answer.specs.Table.{records, joined}
 use Rattle.answer.proofs.Output.{Given}
 use Rattle.answer.proofs.Records.{joined-none, joined-both, joined-same, one-of-all}
-use Rattle.answer.proofs.Apart.{Each, each-record, joined-apart}
+use Rattle.answer.proofs.Each.{Each, each-record}
+use Rattle.answer.proofs.Apart.{joined-apart}
 use Rattle.frame.specs.declared.Head.{Head}
 use Rattle.frame.specs.Head.{headBytes, frameBytes}
 use Rattle.frame.proofs.Laws.{payloadOf, frame-payload, payload-fits}

@@ -15,7 +15,8 @@ use Rattle.answer.specs.Table.{records, joined}
 use Rattle.answer.proofs.Cases.{bool-cases, true-false}
 use Rattle.answer.proofs.Order.{first-passed}
 use Rattle.answer.proofs.Records.{records-length, joined-same, one-of-all}
-use Rattle.answer.proofs.Apart.{Each, each-record, joined-front}
+use Rattle.answer.proofs.Each.{Each, each-record}
+use Rattle.answer.proofs.Apart.{joined-front}
 use Rattle.types.specs.Value.{Record, value}
 use Rattle.types.specs.Form.{part, stringBytes, valueBytes, writableRecord, ranged}
 use Rattle.types.specs.Promise.{recordOf}
