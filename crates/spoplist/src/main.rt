@@ -222,7 +222,8 @@ fn list_sent(
     }
 }
 
-// Lists the actions of a frame, line by line.
+// Lists the actions of a frame, line by line. Of a frame that was accepted none is refused where LINE bytes are lent: the library's laws
+// `sent-action-line` and `sent-room`.
 fn list_actions(frame: &[u8], actions: &[u64], count: usize, out: &mut [u8]) -> bool {
     let mut k = 0;
     while k < count {

@@ -1,0 +1,73 @@
+-- `utf8::equal::surely_same` meets its contract: the first bytes are the same, and so are the last eight. A no promises nothing.
+-- Assumes nothing.
+use mathlib.Core.Path.{refl, sym, _∙_}
+use Prim.Native.Nat.{_-_}
+use native.Mathlib.Omega.{arith}
+use lib.ListN.{length}
+use borrow.Author.Tests.{not-false}
+use Rattle.answer.proofs.Cases.{true-false}
+use Rattle.answer.proofs.Output.{lent-tail}
+use Rattle.utf8.proofs.Walk.{equal-all}
+use borrow.Author.Needs.{needs}
+use Rattle.utf8.proofs.equal.surely_same.Statement.{statement}
+use Rattle.utf8.proofs.equal.surely_same.Tie as tie
+
+returns : tie.Need-returns
+returns c = λ t. true-false t refl
+
+returns-2 : tie.Need-returns-2
+returns-2 c = λ t. true-false t refl
+
+eights-equal-requires : tie.Need-eights-equal-requires
+eights-equal-requires c κs = search needs
+
+returns-3 : tie.Need-returns-3
+returns-3 c = λ t. true-false t refl
+
+sub-eight-equal : tie.Need-sub-eight-equal
+sub-eight-equal c = search needs
+
+part-eight-equal-start : tie.Need-part-eight-equal-start
+part-eight-equal-start c = search needs
+
+part-eight-equal-end : tie.Need-part-eight-equal-end
+part-eight-equal-end c = search needs
+
+sub-eight-equal-2 : tie.Need-sub-eight-equal-2
+sub-eight-equal-2 c = search needs
+
+part-eight-equal-start-2 : tie.Need-part-eight-equal-start-2
+part-eight-equal-start-2 c = search needs
+
+part-eight-equal-end-2 : tie.Need-part-eight-equal-end-2
+part-eight-equal-end-2 c = search needs
+
+eight-equal-requires : tie.Need-eight-equal-requires
+eight-equal-requires c κs = search needs
+
+returns-4 : tie.Need-returns-4
+returns-4 c = λ t.
+    let k = c .before .before .before .before in
+    let start = c .before .before .before .before .before .before .before .before .before in
+    let a = start .args .a .now in
+    let b = start .args .b .now in
+    let last = length a - 8 in
+    equal-all a b last (k .eights-equal .ensures (not-false _ (c .before .before .before .if3 .left))) (omega arith) (omega arith)
+    (rw (lent-tail last a, lent-tail last b) at (sym (c .eight-equal .ensures) ∙ t))
+
+pub surely-same-spec : {M : Type 1} → statement M
+surely-same-spec =
+    tie.close
+    (tie.spec
+    returns
+    returns-2
+    eights-equal-requires
+    returns-3
+    sub-eight-equal
+    part-eight-equal-start
+    part-eight-equal-end
+    sub-eight-equal-2
+    part-eight-equal-start-2
+    part-eight-equal-end-2
+    eight-equal-requires
+    returns-4)

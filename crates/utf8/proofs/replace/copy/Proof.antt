@@ -1,0 +1,66 @@
+-- `utf8::replace::copy` meets its contract. The loop's invariant: the bytes are partly written, and what is left to write are those from `i`
+-- on.
+-- Assumes nothing.
+use Prim.Native.Nat.{_+_, _-_}
+use mathlib.Core.List.{[], _∷_}
+use native.Mathlib.Omega.{arith}
+use native.Mathlib.Numerals.{add-one}
+use lib.ListN.{length, drop, getD, drop-of-length-le}
+use lib.Seq.{drop-cons}
+use Rattle.answer.proofs.Output.{Partly, partly-none, partly-next, partly-place, partly-all, partly-length}
+use Rattle.utf8.proofs.replace.copy.Statement.{statement}
+use Rattle.utf8.proofs.replace.copy.Tie as tie
+
+abbrev Inv-loop : tie.InvT-loop
+Inv-loop s out₀ i₀ out i = Partly s out₀ i (drop i s) out
+
+abbrev μ-loop : tie.MeasureT-loop
+μ-loop s out₀ i₀ out i = length s - i
+
+-- the next byte, and the end
+on : (c : tie.In-loop Inv-loop μ-loop)
+    → Partly (c .before .before .args .s .now) (c .before .before .args .out .now) (c .before .loop .i)
+    (getD (c .before .before .args .s .now) (c .before .loop .i) 0 ∷ drop (c .before .loop .i + 1) (c .before .before .args .s .now)) (c .before .loop .out)
+on c = rw add-one (rw (drop-cons (c .before .before .args .s .now) (c .before .loop .i) 0 (c .loop-test .taken)) at (c .before .loop .inv))
+
+all : (c : tie.After-loop Inv-loop μ-loop) → Partly (c .before .before .args .s .now) (c .before .before .args .out .now) (c .before .loop .i) [] (c .before .loop .out)
+all c = rw (drop-of-length-le (c .before .before .args .s .now) (c .loop-test .left)) at (c .before .loop .inv)
+
+loop-holds : tie.Need-loop-holds Inv-loop μ-loop
+loop-holds c = partly-none _ _ (c .pre)
+
+shared-slice-read-out : tie.Need-shared-slice-read-out Inv-loop μ-loop
+shared-slice-read-out c = omega arith
+
+slice-write-out : tie.Need-slice-write-out Inv-loop μ-loop
+slice-write-out c = partly-place (on (c .before))
+
+add-i : tie.Need-add-i Inv-loop μ-loop
+add-i c = omega arith
+
+loop-less : tie.Need-loop-less Inv-loop μ-loop
+loop-less c = omega arith
+
+loop-again : tie.Need-loop-again Inv-loop μ-loop
+loop-again c = partly-next (on (c .before))
+
+same-length : tie.Need-same-length Inv-loop μ-loop
+same-length c = partly-length (all c)
+
+returns : tie.Need-returns Inv-loop μ-loop
+returns c = partly-all (all c)
+
+pub copy-spec : {M : Type 1} → statement M
+copy-spec =
+    tie.close
+    (tie.spec
+    Inv-loop
+    μ-loop
+    loop-holds
+    shared-slice-read-out
+    slice-write-out
+    add-i
+    loop-less
+    loop-again
+    same-length
+    returns)

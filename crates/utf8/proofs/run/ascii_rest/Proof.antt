@@ -1,0 +1,108 @@
+-- `utf8::run::ascii_rest` meets its contract: what is known to be ASCII reaches to where the last test starts, and a no promises
+-- nothing.
+-- Assumes nothing.
+use mathlib.Core.Path.{refl, sym, _∙_}
+use Prim.Native.Nat.{_-_}
+use borrow.Author.Needs.{needs}
+use native.Mathlib.Omega.{arith}
+use lib.ListN.{length}
+use Rattle.answer.proofs.Cases.{true-false, both-true}
+use Rattle.answer.proofs.Output.{lent-tail}
+use Rattle.utf8.proofs.Ascii.{ascii-to-end, ascii-few}
+use Rattle.utf8.proofs.run.ascii_rest.Statement.{statement}
+use Rattle.utf8.proofs.run.ascii_rest.Tie as tie
+
+returns : tie.Need-returns
+returns c = λ t. true-false t refl
+
+sub-block-ascii : tie.Need-sub-block-ascii
+sub-block-ascii c = search needs
+
+part-block-ascii-start : tie.Need-part-block-ascii-start
+part-block-ascii-start c = search needs
+
+part-block-ascii-end : tie.Need-part-block-ascii-end
+part-block-ascii-end c = search needs
+
+block-ascii-requires : tie.Need-block-ascii-requires
+block-ascii-requires c κs = search needs
+
+returns-2 : tie.Need-returns-2
+returns-2 c = λ t.
+    let s = c .before .before .before .before .before in
+    let bytes = s .args .s .now in
+    let long = c .before .before .before .if1 .taken in
+    ascii-to-end bytes (s .args .n) (length bytes - 32) 32 (s .pre) (omega (arith, c .before .before .if2 .left)) (omega arith) (rw (lent-tail (length bytes - 32) bytes) at (sym (c .block-ascii .ensures) ∙ t))
+
+returns-3 : tie.Need-returns-3
+returns-3 c = λ t. true-false t refl
+
+sub-eight-ascii : tie.Need-sub-eight-ascii
+sub-eight-ascii c = search needs
+
+part-eight-ascii-start : tie.Need-part-eight-ascii-start
+part-eight-ascii-start c = search needs
+
+part-eight-ascii-end : tie.Need-part-eight-ascii-end
+part-eight-ascii-end c = search needs
+
+eight-ascii-requires : tie.Need-eight-ascii-requires
+eight-ascii-requires c κs = search needs
+
+returns-4 : tie.Need-returns-4
+returns-4 c = λ t.
+    let s = c .before .before .before .before .before .before in
+    let bytes = s .args .s .now in
+    let long = c .before .before .before .if3 .taken in
+    ascii-to-end bytes (s .args .n) (length bytes - 8) 8 (s .pre) (omega (arith, c .before .before .if4 .left)) (omega arith) (rw (lent-tail (length bytes - 8) bytes) at (sym (c .eight-ascii .ensures) ∙ t))
+
+four-ascii-requires : tie.Need-four-ascii-requires
+four-ascii-requires c κs = search needs
+
+sub-four-ascii : tie.Need-sub-four-ascii
+sub-four-ascii c = search needs
+
+part-four-ascii-start : tie.Need-part-four-ascii-start
+part-four-ascii-start c = search needs
+
+part-four-ascii-end : tie.Need-part-four-ascii-end
+part-four-ascii-end c = search needs
+
+four-ascii-requires-2 : tie.Need-four-ascii-requires-2
+four-ascii-requires-2 c κs = search needs
+
+returns-5 : tie.Need-returns-5
+returns-5 c = λ t.
+    let bytes = c .before .before .before .before .before .before .before .args .s .now in
+    let long = c .before .before .before .if5 .taken in
+    let short = c .before .before .before .before .if3 .left in
+    let both = both-true (c .before .before .four-ascii .result) (c .four-ascii2 .result) t in
+    ascii-few bytes (length bytes - 4) (omega arith) (omega arith) (sym (c .before .before .four-ascii .ensures) ∙ both .0)
+    (rw (lent-tail (length bytes - 4) bytes) at (sym (c .four-ascii2 .ensures) ∙ both .1))
+
+returns-6 : tie.Need-returns-6
+returns-6 c = λ t. true-false t refl
+
+pub ascii-rest-spec : {M : Type 1} → statement M
+ascii-rest-spec =
+    tie.close
+    (tie.spec
+    returns
+    sub-block-ascii
+    part-block-ascii-start
+    part-block-ascii-end
+    block-ascii-requires
+    returns-2
+    returns-3
+    sub-eight-ascii
+    part-eight-ascii-start
+    part-eight-ascii-end
+    eight-ascii-requires
+    returns-4
+    four-ascii-requires
+    sub-four-ascii
+    part-four-ascii-start
+    part-four-ascii-end
+    four-ascii-requires-2
+    returns-5
+    returns-6)

@@ -1,0 +1,76 @@
+-- `utf8::well::all_fit` meets its contract: the first bytes fit, those in blocks and in the last block do, and none is wanted at the end.
+-- A no promises nothing.
+-- Assumes nothing.
+use mathlib.Core.Path.{_≡_, refl, subst}
+use Prim.Native.Nat.{ℕ, _+_, _-_}
+use native.Mathlib.Omega.{arith}
+use lib.ListN.{length}
+use borrow.Author.Tests.{not-false}
+use Rattle.answer.proofs.Cases.{true-false}
+use Rattle.answer.proofs.Output.{lent-tail}
+use Rattle.utf8.specs.Inner.{FitTo}
+use Rattle.utf8.proofs.Fitting.{fit-on, fit-well}
+use borrow.Author.Needs.{needs}
+use Rattle.utf8.proofs.well.all_fit.Statement.{statement}
+use Rattle.utf8.proofs.well.all_fit.Tie as tie
+
+returns : tie.Need-returns
+returns c = λ t. true-false t refl
+
+first-fit-requires : tie.Need-first-fit-requires
+first-fit-requires c κs = search needs
+
+returns-2 : tie.Need-returns-2
+returns-2 c = λ t. true-false t refl
+
+ends-whole-requires : tie.Need-ends-whole-requires
+ends-whole-requires c κs = search needs
+
+returns-3 : tie.Need-returns-3
+returns-3 c = λ t. true-false t refl
+
+blocks-fit-requires : tie.Need-blocks-fit-requires
+blocks-fit-requires c κs = search needs
+
+returns-4 : tie.Need-returns-4
+returns-4 c = λ t. true-false t refl
+
+sub-block-fits : tie.Need-sub-block-fits
+sub-block-fits c = search needs
+
+part-block-fits-start : tie.Need-part-block-fits-start
+part-block-fits-start c = search needs
+
+part-block-fits-end : tie.Need-part-block-fits-end
+part-block-fits-end c = search needs
+
+block-fits-requires : tie.Need-block-fits-requires
+block-fits-requires c κs = search needs
+
+returns-5 : tie.Need-returns-5
+returns-5 c = λ t.
+    let s = c .before .before .before .before .before .before .before .before .before .before .args .s .now in
+    let long = c .before .before .before .before .before .before .before .before .if1 .left in
+    let last = length s - 19 in
+    let all : last + 16 ≡ length s - 3 = omega arith in
+    fit-well s (omega arith)
+    (c .before .before .before .before .before .before .before .first-fit .ensures (not-false _ (c .before .before .before .before .before .before .if2 .left)))
+    (c .before .before .before .before .before .ends-whole .ensures (not-false _ (c .before .before .before .before .if3 .left)))
+    (subst (λ (n : ℕ). FitTo s n) all (fit-on s last 16 (c .before .before .before .blocks-fit .ensures (not-false _ (c .before .before .if4 .left))) (rw (lent-tail last s) at (c .block-fits .ensures t))))
+
+pub all-fit-spec : {M : Type 1} → statement M
+all-fit-spec =
+    tie.close
+    (tie.spec
+    returns
+    first-fit-requires
+    returns-2
+    ends-whole-requires
+    returns-3
+    blocks-fit-requires
+    returns-4
+    sub-block-fits
+    part-block-fits-start
+    part-block-fits-end
+    block-fits-requires
+    returns-5)
