@@ -5,9 +5,11 @@ use Prim.Native.Nat.{ℕ, suc, _+_}
 use lib.ListN.{length, take, drop}
 use Rattle.frame.specs.declared.Pair.{Pair}
 use Rattle.frame.specs.declared.Message.{Message}
+use Rattle.frame.specs.declared.Action.{Action}
 use Rattle.parser.specs.declared.Metadata.{Metadata}
 use Rattle.parser.specs.Payload.{Contents}
-use Rattle.listing.specs.Lines.{frameLine, messageLine, pairLine}
+use Rattle.agent.specs.Frame.{Sent}
+use Rattle.listing.specs.Lines.{frameLine, messageLine, pairLine, actionLine}
 
 -- the lines of some pairs, of which the first is pair k
 unfoldable pub pairLines : List ℕ → ℕ → List Pair → List ℕ
@@ -24,3 +26,12 @@ itemLines f i k (m ∷ ms) ps =
 -- All lines of a frame: its own, and then those of what it holds.
 unfoldable pub frameLines : ℕ → List ℕ → Metadata → Contents → List ℕ
 frameLines index f m c = frameLine index m (length f) ++ itemLines f 0 0 (c .messages) (c .pairs)
+
+-- the lines of some actions, of which the first is action k
+unfoldable pub actionLines : List ℕ → ℕ → List Action → List ℕ
+actionLines f k [] = []
+actionLines f k (x ∷ xs) = actionLine k f x ++ actionLines f (suc k) xs
+
+-- All lines of an agent's frame: its own, and then those of its pairs or of its actions.
+unfoldable pub sentLines : ℕ → List ℕ → Metadata → Sent → List ℕ
+sentLines index f m c = frameLine index m (length f) ++ (pairLines f 0 (c .pairs) ++ actionLines f 0 (c .actions))

@@ -12,4 +12,5 @@ pub mod Stepped
 pub mod Tables
 pub mod Room
 pub mod Sent
+pub mod SentLossless
 pub mod Unique

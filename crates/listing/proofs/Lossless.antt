@@ -23,22 +23,22 @@ use Rattle.parser.specs.Frame.{whole, haproxys}
 use Rattle.listing.specs.Digits.{decimal, shown}
 use Rattle.listing.specs.Lines.{mark, others, filled, frameForm, messageForm, pairForm, endForm, valueText, frameLine, messageLine, pairLine, endLine}
 use Rattle.listing.proofs.Frames.{pairLines, itemLines, frameLines}
-use Rattle.answer.proofs.Each.{Each}
+use Rattle.answer.proofs.Each.{Each, each-on}
 use Rattle.listing.proofs.Accepted.{Whole, whole-held}
 use Rattle.listing.proofs.Distinct.{lineMeaning, Plain, decimal-apart, shown-apart, values-apart, decimal-plain, shown-plain, value-plain, texts-apart}
 
 -- ---- a line
 
 -- how many marks a form has, and whether a space or a line's end stands behind each
-abbrev marks : List ℕ → ℕ
+abbrev pub marks : List ℕ → ℕ
 marks [] = 0
 marks (b ∷ form) = cond (eqb b mark) 1 0 + marks form
 
-abbrev stops : List ℕ → Bool
+abbrev pub stops : List ℕ → Bool
 stops [] = false
 stops (b ∷ form) = leb b 32
 
-abbrev spaced : List ℕ → Bool
+abbrev pub spaced : List ℕ → Bool
 spaced [] = true
 spaced (b ∷ form) = cond (eqb b mark) (stops form) true && spaced form
 
@@ -58,7 +58,7 @@ behind-mark (b ∷ form) ts e =
     (b, filled form ts, h, bool-cases (eqb b mark) (λ t. absurd (omega (arith, eqb-true b mark t))) (λ t. filled-plain b form ts t))
 
 -- Two lines of this form that start the same bytes have the same texts, and the same follows them.
-abbrev Apart : List ℕ → Type 0
+abbrev pub Apart : List ℕ → Type 0
 Apart form = (ts us : List (List ℕ)) (u v : List ℕ)
     → marks form ≡ length ts → marks form ≡ length us → Each Plain ts → Each Plain us
     → filled form ts ++ u ≡ filled form us ++ v → (ts ≡ us) × (u ≡ v)
@@ -89,7 +89,7 @@ apart-none [] (y ∷ us) u v m n p q e = absurd (omega arith)
 apart-none (x ∷ ts) us u v m n p q e = absurd (omega arith)
 
 -- Law: so it is with every form that has a space or a line's end behind each mark.
-filled-apart : (form : List ℕ) → spaced form ≡ true → Apart form
+pub filled-apart : (form : List ℕ) → spaced form ≡ true → Apart form
 filled-apart [] s = apart-none
 filled-apart (b ∷ form) s =
     let o = both-true (cond (eqb b mark) (stops form) true) (spaced form) s in
@@ -99,7 +99,7 @@ filled-apart (b ∷ form) s =
 
 -- ---- the three kinds of line in a frame
 
-frame-apart : (i j : ℕ) (m n : Metadata) (b c : ℕ) (u v : List ℕ) → frameLine i m b ++ u ≡ frameLine j n c ++ v
+pub frame-apart : (i j : ℕ) (m n : Metadata) (b c : ℕ) (u v : List ℕ) → frameLine i m b ++ u ≡ frameLine j n c ++ v
     → (i ≡ j) × (m .kind ≡ n .kind) × (m .stream ≡ n .stream) × (m .frame ≡ n .frame) × (b ≡ c) × (u ≡ v)
 unfolding frameLine
 frame-apart i j m n b c u v e =
@@ -141,11 +141,11 @@ message-apart i f g m n u v e =
     texts f m = (decimal-plain i, (shown-plain (part f (m .start) (m .len)), (decimal-plain (m .count), tt)))
 
 -- a value's kind stands in its line
-kinds-apart : (k l a b x c d y : ℕ) (f g : List ℕ) → k ≡ l → writableRecord (value k a b x) ≡ true → writableRecord (value l c d y) ≡ true
+pub kinds-apart : (k l a b x c d y : ℕ) (f g : List ℕ) → k ≡ l → writableRecord (value k a b x) ≡ true → writableRecord (value l c d y) ≡ true
     → valueText f (value k a b x) ≡ valueText g (value l c d y) → lineMeaning f (value k a b x) ≡ lineMeaning g (value l c d y)
 kinds-apart k l a b x c d y f g e h w t = rw (sym e) (values-apart k a b x c d y f g h (rw (sym e) at w) (rw (sym e) at t))
 
-abbrev Fields : Pair → Type 0
+abbrev pub Fields : Pair → Type 0
 Fields p = writableRecord (recordOf (p .value)) ≡ true
 
 pair-apart : (i : ℕ) (f g : List ℕ) (p q : Pair) (u v : List ℕ) → Fields p → Fields q → pairLine i f p ++ u ≡ pairLine i g q ++ v
@@ -165,17 +165,17 @@ pair-apart i f g p q u v h l e =
 
 -- ---- what follows a frame
 
--- neither a message's line nor a pair's
+-- neither a message's line, nor a pair's, nor an action's
 abbrev pub Over : List ℕ → Type 0
 Over [] = Unit
-Over (b ∷ t) = (b ≡ 109 → ⊥) × (b ≡ 112 → ⊥)
+Over (b ∷ t) = (b ≡ 109 → ⊥) × (b ≡ 112 → ⊥) × (b ≡ 97 → ⊥)
 
 -- no pair's line
-abbrev NoPair : List ℕ → Type 0
+abbrev pub NoPair : List ℕ → Type 0
 NoPair [] = Unit
 NoPair (b ∷ t) = b ≡ 112 → ⊥
 
-over-pair : (u : List ℕ) → Over u → NoPair u
+pub over-pair : (u : List ℕ) → Over u → NoPair u
 over-pair [] h = tt
 over-pair (b ∷ u) h = h .1
 
@@ -187,22 +187,41 @@ pair-starts : (i : ℕ) (f : List ℕ) (p : Pair) → (t : List ℕ) × (pairLin
 unfolding pairLine filled
 pair-starts i f p = (_, refl)
 
-not-pair : {G : Type 0} (i : ℕ) (f : List ℕ) (p : Pair) (u t : List ℕ) → NoPair u → u ≡ pairLine i f p ++ t → G
+not-pair : (i : ℕ) (f : List ℕ) (p : Pair) (u t : List ℕ) → NoPair u → u ≡ pairLine i f p ++ t → ⊥
 not-pair i f p u t h e =
     let s = pair-starts i f p in
-    absurd ((rw (e, s .1) at h) refl)
+    (rw (e, s .1) at h) refl
+
+-- ---- lists of one kind
+
+-- Each record has a line, and what stands behind the list is none of that kind.
+module _ {A M : Type 0} (P : A → Type 0) (No : List ℕ → Type 0) (line : ℕ → List ℕ → A → List ℕ) (lines : List ℕ → ℕ → List A → List ℕ) (means : List ℕ → A → M)
+    (none : (i : ℕ) (h u : List ℕ) → lines h i [] ++ u ≡ u)
+    (on : (i : ℕ) (h : List ℕ) (x : A) (xs : List A) (u : List ℕ) → lines h i (x ∷ xs) ++ u ≡ line i h x ++ (lines h (suc i) xs ++ u))
+    (one : (i : ℕ) (f g : List ℕ) (x y : A) (u v : List ℕ) → P x → P y → line i f x ++ u ≡ line i g y ++ v → (means f x ≡ means g y) × (u ≡ v))
+    (no : (i : ℕ) (f : List ℕ) (x : A) (u t : List ℕ) → No u → u ≡ line i f x ++ t → ⊥) (f g : List ℕ) where
+  -- Law: lists with the same lines mean the same, one by one, and the same follows them.
+  pub list-apart : (i : ℕ) (xs ys : List A) (u v : List ℕ) → Each P xs → Each P ys → No u → No v → lines f i xs ++ u ≡ lines g i ys ++ v
+      → (map (means f) xs ≡ map (means g) ys) × (u ≡ v)
+  list-apart i [] [] u v h l x y e = (refl, sym (none i f u) ∙ e ∙ none i g v)
+  list-apart i [] (q ∷ qs) u v h l x y e = absurd (no i g q u _ x (sym (none i f u) ∙ e ∙ on i g q qs v))
+  list-apart i (p ∷ ps) [] u v h l x y e = absurd (no i f p v _ y (sym (none i g v) ∙ sym e ∙ on i f p ps u))
+  list-apart i (p ∷ ps) (q ∷ qs) u v h l x y e =
+      let o = one i f g p q _ _ (h .0) (l .0) (sym (on i f p ps u) ∙ e ∙ on i g q qs v) in
+      let r = list-apart (suc i) ps qs u v (h .1) (l .1) x y (o .1) in
+      (ap₂ _∷_ (o .0) (r .0), r .1)
 
 -- ---- pairs
 
+pub pairs-on : (i : ℕ) (h : List ℕ) (p : Pair) (ps : List Pair) (u : List ℕ) → pairLines h i (p ∷ ps) ++ u ≡ pairLine i h p ++ (pairLines h (suc i) ps ++ u)
+unfolding pairLines
+pairs-on i h p ps u = append-assoc (pairLine i h p) (pairLines h (suc i) ps) u
+
+pub pairs-none : (i : ℕ) (h u : List ℕ) → pairLines h i [] ++ u ≡ u
+unfolding pairLines
+pairs-none i h u = refl
+
 module _ (f g : List ℕ) where
-  pairs-on : (i : ℕ) (h : List ℕ) (p : Pair) (ps : List Pair) (u : List ℕ) → pairLines h i (p ∷ ps) ++ u ≡ pairLine i h p ++ (pairLines h (suc i) ps ++ u)
-  unfolding pairLines
-  pairs-on i h p ps u = append-assoc (pairLine i h p) (pairLines h (suc i) ps) u
-
-  pairs-none : (i : ℕ) (h u : List ℕ) → pairLines h i [] ++ u ≡ u
-  unfolding pairLines
-  pairs-none i h u = refl
-
   -- of as many pairs as a message counts, where nothing behind them is a pair's line unless they are all there
   run-apart : (n i : ℕ) (ps qs : List Pair) (u v : List ℕ) → Each Fields ps → Each Fields qs
       → (length ps < n → NoPair u) → (length qs < n → NoPair v)
@@ -211,24 +230,18 @@ module _ (f g : List ℕ) where
   run-apart zero i ps qs u v h l x y e = (refl, sym (pairs-none i f u) ∙ e ∙ pairs-none i g v)
   run-apart (suc n) i [] [] u v h l x y e = (refl, sym (pairs-none i f u) ∙ e ∙ pairs-none i g v)
   run-apart (suc n) i [] (q ∷ qs) u v h l x y e =
-      not-pair i g q u _ (x (omega arith)) (sym (pairs-none i f u) ∙ e ∙ pairs-on i g q (take n qs) v)
+      absurd (not-pair i g q u _ (x (omega arith)) (sym (pairs-none i f u) ∙ e ∙ pairs-on i g q (take n qs) v))
   run-apart (suc n) i (p ∷ ps) [] u v h l x y e =
-      not-pair i f p v _ (y (omega arith)) (sym (pairs-none i g v) ∙ sym e ∙ pairs-on i f p (take n ps) u)
+      absurd (not-pair i f p v _ (y (omega arith)) (sym (pairs-none i g v) ∙ sym e ∙ pairs-on i f p (take n ps) u))
   run-apart (suc n) i (p ∷ ps) (q ∷ qs) u v h l x y e =
       let o = pair-apart i f g p q _ _ (h .0) (l .0) (sym (pairs-on i f p (take n ps) u) ∙ e ∙ pairs-on i g q (take n qs) v) in
       let r = run-apart n (suc i) ps qs u v (h .1) (l .1) (λ a. x (omega arith)) (λ a. y (omega arith)) (o .1) in
       (ap₂ _∷_ (o .0) (r .0), r .1)
 
   -- of all that are left
-  pairs-apart : (i : ℕ) (ps qs : List Pair) (u v : List ℕ) → Each Fields ps → Each Fields qs → NoPair u → NoPair v
+  pub pairs-apart : (i : ℕ) (ps qs : List Pair) (u v : List ℕ) → Each Fields ps → Each Fields qs → NoPair u → NoPair v
       → pairLines f i ps ++ u ≡ pairLines g i qs ++ v → (map (pairMeans f) ps ≡ map (pairMeans g) qs) × (u ≡ v)
-  pairs-apart i [] [] u v h l x y e = (refl, sym (pairs-none i f u) ∙ e ∙ pairs-none i g v)
-  pairs-apart i [] (q ∷ qs) u v h l x y e = not-pair i g q u _ x (sym (pairs-none i f u) ∙ e ∙ pairs-on i g q qs v)
-  pairs-apart i (p ∷ ps) [] u v h l x y e = not-pair i f p v _ y (sym (pairs-none i g v) ∙ sym e ∙ pairs-on i f p ps u)
-  pairs-apart i (p ∷ ps) (q ∷ qs) u v h l x y e =
-      let o = pair-apart i f g p q _ _ (h .0) (l .0) (sym (pairs-on i f p ps u) ∙ e ∙ pairs-on i g q qs v) in
-      let r = pairs-apart (suc i) ps qs u v (h .1) (l .1) x y (o .1) in
-      (ap₂ _∷_ (o .0) (r .0), r .1)
+  pairs-apart = list-apart Fields NoPair pairLine pairLines pairMeans pairs-none pairs-on pair-apart not-pair f g
 
 -- ---- messages and pairs
 
@@ -261,16 +274,16 @@ module _ (i k : ℕ) (h u : List ℕ) where
 
   -- where no pair is left, no pair's line is
   items-no-pair : Over u → (ms : List Message) → NoPair (itemLines h i k ms [] ++ u)
-  items-no-pair o [] = rw (items-none []) (rw (pairs-none h h k h u) (over-pair u o))
+  items-no-pair o [] = rw (items-none []) (rw (pairs-none k h u) (over-pair u o))
   items-no-pair o (m ∷ ms) = rw (items-on m ms [], message-starts i h m .1) (λ z. omega arith)
 
   -- pairs' lines and what follows them do not start as a message's line
   not-message : {G : Type 0} → Over u → (ps : List Pair) (j : ℕ) (g : List ℕ) (m : Message) (t : List ℕ) → pairLines h k ps ++ u ≡ messageLine j g m ++ t → G
   not-message o [] j g m t e =
-      let q = rw (pairs-none h h k h u, message-starts j g m .1) at e in
+      let q = rw (pairs-none k h u, message-starts j g m .1) at e in
       absurd ((rw q at o) .0 refl)
   not-message o (p ∷ ps) j g m t e =
-      let q = rw (pairs-on h h k h p ps u, pair-starts k h p .1, message-starts j g m .1) at e in
+      let q = rw (pairs-on k h p ps u, pair-starts k h p .1, message-starts j g m .1) at e in
       absurd (omega (arith, head-eq-of-cons-eq q))
 
 -- Law: records with the same lines mean the same, one by one and in order, and the same follows them.
@@ -301,9 +314,8 @@ items-apart f g i k (m ∷ ms) (n ∷ ns) ps qs u v h l x y e =
 
 -- ---- a frame
 
-each-fields : (n : ℕ) (ps : List Pair) → Each (Whole n) ps → Each Fields ps
-each-fields n [] e = tt
-each-fields n (p ∷ ps) e = (e .0 .fields, each-fields n ps (e .1))
+pub each-fields : (n : ℕ) (ps : List Pair) → Each (Whole n) ps → Each Fields ps
+each-fields n ps e = each-on (λ p w. w .fields) ps e
 
 -- what two frames with the same lines have in common: their index, type, ids and length, what their messages mean, and what their pairs do
 pub record SameFrame (i j : ℕ) (f g : List ℕ) (m n : Metadata) (c d : Contents) : Type 0 where
@@ -338,11 +350,11 @@ module _ (rooms others : Rooms) (f g : List ℕ) (m n : Metadata) (c d : Content
 
 pub frame-over : (index : ℕ) (m : Metadata) (bytes : ℕ) (t : List ℕ) → Over (frameLine index m bytes ++ t)
 unfolding frameLine filled
-frame-over index m bytes t = (λ z. omega arith, λ z. omega arith)
+frame-over index m bytes t = (λ z. omega arith, λ z. omega arith, λ z. omega arith)
 
 pub end-over : (used number at : ℕ) → Over (endLine used number at)
 unfolding endLine filled
-end-over used number at = (λ z. omega arith, λ z. omega arith)
+end-over used number at = (λ z. omega arith, λ z. omega arith, λ z. omega arith)
 
 -- Law: two last lines that are the same say the same.
 pub end-apart : (used number at taken other place : ℕ) → endLine used number at ≡ endLine taken other place → (used ≡ taken) × (number ≡ other) × (at ≡ place)

@@ -13,7 +13,8 @@ use Rattle.answer.specs.Table.{records, joined}
 use Rattle.answer.proofs.Cases.{bool-cases, true-false}
 use Rattle.answer.proofs.Each.{Each, each-on, each-at}
 use Rattle.answer.proofs.Records.{joined-none}
-use Rattle.types.specs.Value.{shape}
+use Rattle.types.specs.Value.{value, shape}
+use Rattle.types.specs.Promise.{recordOf}
 use Rattle.frame.specs.declared.Pair.{Pair}
 use Rattle.frame.specs.declared.Action.{Action}
 use Rattle.frame.specs.Records.{messageNumbers, pairWidth, actionWidth, actionAt, actionNumbers}
@@ -43,11 +44,12 @@ use Rattle.listing.proofs.Room.{pair-room, action-room}
 
 -- ---- records that have a line
 
--- A set or an unset of a scope that there is, whose name and value lie in so many bytes.
+-- A set or an unset of a scope that there is, whose name and value lie in so many bytes; an unset has null for its value.
 pub record Acts (n : ℕ) (x : Action) : Type 0 where
   pub verbs : eqb (x .verb) 1 || eqb (x .verb) 2 ≡ true
   pub scope : x .scope ≤ 4
   pub whole : Whole n (x .pair)
+  pub null : x .verb ≡ 2 → recordOf (x .pair .value) ≡ value 0 0 0 0
 
 -- Law: an action that was read is one.
 pub action-acts : (f : List ℕ) (at : ℕ) (x : Action) (next : ℕ) → Stands f at x next → Acts (length f) x
@@ -63,6 +65,7 @@ action-acts f at x next z =
           let u = z .unset two in
           let n = string-next f (at + 3) (x .pair .start) (x .pair .len) next (u .0) in
           rw (sym (u .1)) (record { fields = refl; key = omega (arith, n); range = λ t. true-false t refl; both = λ t. true-false t refl }));
+      null = λ two. ap (λ (p : Pair). recordOf (p .value)) (sym (z .unset two .1));
     }
 
 run-acts : (f : List ℕ) (at : ℕ) (xs : List Action) (end : ℕ) → ActionRun f at xs end → Each (Acts (length f)) xs

@@ -1,5 +1,5 @@
 -- A whole listing loses nothing but flags of values, which no line shows: inputs with the same listing have the same frames, one by one, and stop at
--- the same place for the same reason.
+-- the same place for the same reason. It is said once for both sides, over how a frame is read, what its lines are and what it means.
 use mathlib.Core.Path.{_≡_, refl, sym, ap₂, _∙_}
 use mathlib.Core.Logic.{_⊎_, inl, inr, ⊎-elim}
 use mathlib.Core.List.{List, [], _∷_, _++_, append-assoc, head-eq-of-cons-eq, map}
@@ -11,92 +11,85 @@ use Rattle.types.proofs.Roundtrip.{Meaning}
 use Rattle.parser.specs.declared.Rooms.{Rooms}
 use Rattle.parser.specs.declared.Metadata.{Metadata}
 use Rattle.parser.specs.Payload.{Contents}
-use Rattle.parser.specs.Frame.{whole, Reading, wait, answered, answerOf, haproxys, frameRead}
-use Rattle.listing.specs.Lines.{filled, frameLine, endLine}
-use Rattle.spoplist.specs.Listing.{Stop, onward, stopOf, haproxysTake}
-use Rattle.listing.proofs.Frames.{itemLines, frameLines}
+use Rattle.parser.specs.Frame.{Reading, wait, answered, answerOf, frameRead}
 use Rattle.parser.proofs.Accepted.{frame-cut}
-use Rattle.listing.proofs.Lossless.{messageMeans, pairMeans, Over, SameFrame, listing-apart-then, frame-over, end-over, end-apart}
+use Rattle.agent.specs.Frame.{Sent, agentRead}
+use Rattle.agent.proofs.Standing.{agent-cut}
+use Rattle.listing.specs.Lines.{filled, frameLine, endLine}
+use Rattle.listing.proofs.Frames.{itemLines, frameLines, pairLines, actionLines, sentLines}
+use Rattle.listing.proofs.Lossless.{messageMeans, pairMeans, Over, listing-apart-then, frame-over, end-over, end-apart}
+use Rattle.listing.proofs.Sent.{HeldSent, sent-held}
+use Rattle.listing.proofs.SentLossless.{actionMeans, sent-apart-then}
+use Rattle.spoplist.specs.Listing.{Stop, taken, onward, stopOf}
 
 -- ---- the listing of an input
 
+-- how a frame at the front is read, and what its lines are
+abbrev Reader : Type 0 → Type 0
+Reader A = List ℕ → Reading (Metadata × A)
+
+abbrev Lines : Type 0 → Type 0
+Lines A = ℕ → List ℕ → Metadata → A → List ℕ
+
 -- The lines of the frames from this index on, in order.
-unfoldable pub linesFrom : ℕ → Rooms → ℕ → ℕ → List ℕ → List ℕ
-linesFrom limit rooms zero index s = []
-linesFrom limit rooms (suc k) index s =
-    onward (answerOf (frameRead limit rooms s))
-    (λ x n. frameLines index (take n s) (x .0) (x .1) ++ linesFrom limit rooms k (suc index) (drop n s))
-    (λ number place. [])
+unfoldable pub linesFrom : {A : Type 0} → Reader A → Lines A → ℕ → ℕ → List ℕ → List ℕ
+linesFrom read lines zero index s = []
+linesFrom read lines (suc k) index s =
+    onward (answerOf (read s)) (λ x n. lines index (take n s) (x .0) (x .1) ++ linesFrom read lines k (suc index) (drop n s)) (λ number place. [])
+
+abbrev pub stopBy : {A : Type 0} → Reader A → List ℕ → Stop
+stopBy read s = stopOf (λ t. taken (read t)) s
 
 -- All lines, and the last one.
+abbrev pub listingOf : {A : Type 0} → Reader A → Lines A → List ℕ → List ℕ
+listingOf read lines s = linesFrom read lines (length s) 0 s ++ endLine (stopBy read s .used) (stopBy read s .number) (stopBy read s .at)
+
+-- of HAProxy's frames, and of agents'
 abbrev pub listing : ℕ → Rooms → List ℕ → List ℕ
-listing limit rooms s =
-    linesFrom limit rooms (length s) 0 s
-    ++ endLine (stopOf (haproxysTake limit rooms) s .used) (stopOf (haproxysTake limit rooms) s .number) (stopOf (haproxysTake limit rooms) s .at)
+listing limit rooms s = listingOf (frameRead limit rooms) frameLines s
+
+abbrev pub sentListing : ℕ → ℕ → ℕ → List ℕ → List ℕ
+sentListing limit pairs actions s = listingOf (agentRead limit pairs actions) sentLines s
 
 -- ---- what its frames mean
 
--- What a frame means as far as lines say it: its type and ids, how many bytes it takes, and what its messages and its pairs mean but for flags.
-pub record FrameMeans : Type 0 where
+-- What a frame means as far as lines say it: its type and ids, how many bytes it takes, and what its records mean but for flags.
+pub record FrameMeans (M : Type 0) : Type 0 where
   pub kind : ℕ
   pub stream : ℕ
   pub id : ℕ
   pub bytes : ℕ
-  pub messages : List (List ℕ × ℕ)
-  pub pairs : List (List ℕ × Meaning)
+  pub records : M
 
-abbrev pub frameMeans : List ℕ → Metadata → Contents → FrameMeans
+-- messages and pairs
+abbrev pub frameMeans : List ℕ → Metadata → Contents → FrameMeans (List (List ℕ × ℕ) × List (List ℕ × Meaning))
 frameMeans f m c =
     record {
       kind = m .kind;
       stream = m .stream;
       id = m .frame;
       bytes = length f;
-      messages = map (messageMeans f) (c .messages);
-      pairs = map (pairMeans f) (c .pairs);
+      records = (map (messageMeans f) (c .messages), map (pairMeans f) (c .pairs));
+    }
+
+-- pairs and actions
+abbrev pub sentMeans : List ℕ → Metadata → Sent → FrameMeans (List (List ℕ × Meaning) × List (ℕ × ℕ × (List ℕ × Meaning)))
+sentMeans f m c =
+    record {
+      kind = m .kind;
+      stream = m .stream;
+      id = m .frame;
+      bytes = length f;
+      records = (map (pairMeans f) (c .pairs), map (actionMeans f) (c .actions));
     }
 
 -- the frames of an input, as many as are counted down at most
-unfoldable pub meaningsFrom : ℕ → Rooms → ℕ → List ℕ → List FrameMeans
-meaningsFrom limit rooms zero s = []
-meaningsFrom limit rooms (suc k) s =
-    onward (answerOf (frameRead limit rooms s)) (λ x n. frameMeans (take n s) (x .0) (x .1) ∷ meaningsFrom limit rooms k (drop n s)) (λ number place. [])
-
-same-means : (i j : ℕ) (f g : List ℕ) (m n : Metadata) (c d : Contents) → SameFrame i j f g m n c d → frameMeans f m c ≡ frameMeans g n d
-same-means i j f g m n c d e =
-    λ x. record { kind = e .kind x; stream = e .stream x; id = e .id x; bytes = e .bytes x; messages = e .messages x; pairs = e .pairs x }
+unfoldable pub meaningsFrom : {A M : Type 0} → Reader A → (List ℕ → Metadata → A → M) → ℕ → List ℕ → List M
+meaningsFrom read means zero s = []
+meaningsFrom read means (suc k) s =
+    onward (answerOf (read s)) (λ x n. means (take n s) (x .0) (x .1) ∷ meaningsFrom read means k (drop n s)) (λ number place. [])
 
 -- ---- one frame after the other
-
--- no frame is at the front, or one is and others follow
-pub record Ended (limit : ℕ) (rooms : Rooms) (k index : ℕ) (s : List ℕ) : Type 0 where
-  pub lines : linesFrom limit rooms k index s ≡ []
-  pub meanings : meaningsFrom limit rooms k s ≡ []
-
-pub record Going (limit : ℕ) (rooms : Rooms) (k index : ℕ) (s : List ℕ) : Type 0 where
-  pub metadata : Metadata
-  pub contents : Contents
-  pub used : ℕ
-  pub frame : whole (haproxys rooms) (take used s) ≡ done (metadata, contents) used
-  pub lines : linesFrom limit rooms (suc k) index s ≡ frameLines index (take used s) metadata contents ++ linesFrom limit rooms k (suc index) (drop used s)
-  pub meanings : meaningsFrom limit rooms (suc k) s ≡ frameMeans (take used s) metadata contents ∷ meaningsFrom limit rooms k (drop used s)
-
-module _ (limit : ℕ) (rooms : Rooms) where
-  ended-zero : (index : ℕ) (s : List ℕ) → Ended limit rooms 0 index s
-  unfolding linesFrom meaningsFrom
-  ended-zero index s = record { lines = refl; meanings = refl }
-
-  view : (k index : ℕ) (s : List ℕ) → Ended limit rooms (suc k) index s ⊎ Going limit rooms k index s
-  unfolding linesFrom meaningsFrom
-  view k index s = by-answer (frameRead limit rooms s) refl
-    where
-      by-answer : (x : Reading (Metadata × Contents)) → frameRead limit rooms s ≡ x → Ended limit rooms (suc k) index s ⊎ Going limit rooms k index s
-      by-answer (wait n) is = inl (record { lines = rw is; meanings = rw is })
-      by-answer (answered (refused n place)) is = inl (record { lines = rw is; meanings = rw is })
-      by-answer (answered (done (m, c) n)) is =
-          inr (record { metadata = m; contents = c; used = n; frame = frame-cut limit rooms s m c n is .is; lines = rw is; meanings = rw is })
-
--- ---- where a frame's lines and the last line start
 
 frame-starts : (index : ℕ) (m : Metadata) (bytes : ℕ) → (t : List ℕ) × (frameLine index m bytes ≡ 102 ∷ t)
 unfolding frameLine filled
@@ -106,90 +99,162 @@ end-starts : (used number at : ℕ) → (t : List ℕ) × (endLine used number a
 unfolding endLine filled
 end-starts used number at = (_, refl)
 
-lines-split : (index : ℕ) (f : List ℕ) (m : Metadata) (c : Contents) (t : List ℕ)
-    → frameLines index f m c ++ t ≡ frameLine index m (length f) ++ (itemLines f 0 0 (c .messages) (c .pairs) ++ t)
+-- a last line
+abbrev last : Stop → List ℕ
+last z = endLine (z .used) (z .number) (z .at)
+
+-- Lines that begin with the frame's own.
+module _ {A M : Type 0} (lines : Lines A) (means : List ℕ → Metadata → A → M)
+    (begins : (index : ℕ) (f : List ℕ) (m : Metadata) (c : A) (t : List ℕ) → (r : List ℕ) × (lines index f m c ++ t ≡ frameLine index m (length f) ++ r)) where
+  module _ (read : Reader A) where
+    -- no frame is at the front, or one is and others follow
+    record Ended (k index : ℕ) (s : List ℕ) : Type 0 where
+      none : linesFrom read lines k index s ≡ []
+      meanings : meaningsFrom read means k s ≡ []
+
+    record Going (k index : ℕ) (s : List ℕ) : Type 0 where
+      metadata : Metadata
+      contents : A
+      used : ℕ
+      is : read s ≡ answered (done (metadata, contents) used)
+      on : linesFrom read lines (suc k) index s ≡ lines index (take used s) metadata contents ++ linesFrom read lines k (suc index) (drop used s)
+      meanings : meaningsFrom read means (suc k) s ≡ means (take used s) metadata contents ∷ meaningsFrom read means k (drop used s)
+
+    ended-zero : (index : ℕ) (s : List ℕ) → Ended 0 index s
+    unfolding linesFrom meaningsFrom
+    ended-zero index s = record { none = refl; meanings = refl }
+
+    view : (k index : ℕ) (s : List ℕ) → Ended (suc k) index s ⊎ Going k index s
+    unfolding linesFrom meaningsFrom
+    view k index s = by-answer (read s) refl
+      where
+        by-answer : (x : Reading (Metadata × A)) → read s ≡ x → Ended (suc k) index s ⊎ Going k index s
+        by-answer (wait n) is = inl (record { none = rw is; meanings = rw is })
+        by-answer (answered (refused n place)) is = inl (record { none = rw is; meanings = rw is })
+        by-answer (answered (done (m, c) n)) is = inr (record { metadata = m; contents = c; used = n; is = is; on = rw is; meanings = rw is })
+
+    -- the lines of the frames, and a last line
+    abbrev closed : Stop → ℕ → ℕ → List ℕ → List ℕ
+    closed z k index s = linesFrom read lines k index s ++ last z
+
+    module _ (z : Stop) where
+      closed-ended : (k index : ℕ) (s : List ℕ) → Ended k index s → closed z k index s ≡ last z
+      closed-ended k index s v = rw (v .none)
+
+      closed-going : (k index : ℕ) (s : List ℕ) (g : Going k index s)
+          → closed z (suc k) index s ≡ lines index (take (g .used) s) (g .metadata) (g .contents) ++ closed z k (suc index) (drop (g .used) s)
+      closed-going k index s g =
+          rw (g .on) (append-assoc (lines index (take (g .used) s) (g .metadata) (g .contents)) (linesFrom read lines k (suc index) (drop (g .used) s)) (last z))
+
+      closed-over : (k index : ℕ) (s : List ℕ) → Over (closed z k index s)
+      closed-over zero index s = rw (closed-ended 0 index s (ended-zero index s)) (end-over (z .used) (z .number) (z .at))
+      closed-over (suc k) index s =
+          ⊎-elim (λ v. rw (closed-ended (suc k) index s v) (end-over (z .used) (z .number) (z .at)))
+          (λ (g : Going k index s).
+          let b = begins index (take (g .used) s) (g .metadata) (g .contents) (closed z k (suc index) (drop (g .used) s)) in
+          rw (closed-going k index s g, b .1) (frame-over index (g .metadata) (length (take (g .used) s)) (b .0)))
+          (view k index s)
+
+  not-end : {G : Type 0} (index : ℕ) (f : List ℕ) (m : Metadata) (c : A) (t : List ℕ) (z : Stop) → lines index f m c ++ t ≡ last z → G
+  not-end index f m c t z e =
+      let b = begins index f m c t in
+      let q = rw (b .1, frame-starts index m (length f) .1, end-starts (z .used) (z .number) (z .at) .1) at e in
+      absurd (omega (arith, head-eq-of-cons-eq q))
+
+  -- ---- two inputs
+
+  -- Frames whose lines are told apart.
+  module _ (read other : Reader A)
+      (same : (index : ℕ) (s t : List ℕ) (m n : Metadata) (c d : A) (used bytes : ℕ) → read s ≡ answered (done (m, c) used) → other t ≡ answered (done (n, d) bytes)
+      → (u v : List ℕ) → Over u → Over v → lines index (take used s) m c ++ u ≡ lines index (take bytes t) n d ++ v
+      → (means (take used s) m c ≡ means (take bytes t) n d) × (u ≡ v)) where
+    module _ (y z : Stop) where
+      -- where the first has no frame left, neither has the second
+      apart-ended : (j index : ℕ) (t : List ℕ) → last y ≡ closed other z j index t → (meaningsFrom other means j t ≡ []) × (last y ≡ last z)
+      apart-ended zero index t e = let v = ended-zero other index t in (v .meanings, e ∙ closed-ended other z 0 index t v)
+      apart-ended (suc j) index t e =
+          ⊎-elim (λ v. (v .meanings, e ∙ closed-ended other z (suc j) index t v))
+          (λ g. not-end index (take (g .used) t) (g .metadata) (g .contents) _ y (sym (e ∙ closed-going other z j index t g)))
+          (view other j index t)
+
+      -- Law: the same lines have the same frames, and the same last line.
+      lines-apart : (k j index : ℕ) (s t : List ℕ) → closed read y k index s ≡ closed other z j index t
+          → (meaningsFrom read means k s ≡ meaningsFrom other means j t) × (last y ≡ last z)
+      lines-apart zero j index s t e =
+          let v = ended-zero read index s in
+          let o = apart-ended j index t (sym (closed-ended read y 0 index s v) ∙ e) in
+          (v .meanings ∙ sym (o .0), o .1)
+      lines-apart (suc k) zero index s t e =
+          let w = ended-zero other index t in
+          ⊎-elim (λ v. (v .meanings ∙ sym (w .meanings), sym (closed-ended read y (suc k) index s v) ∙ e ∙ closed-ended other z 0 index t w))
+          (λ g.
+          not-end index (take (g .used) s) (g .metadata) (g .contents) _ z (sym (closed-going read y k index s g) ∙ e ∙ closed-ended other z 0 index t w))
+          (view read k index s)
+      lines-apart (suc k) (suc j) index s t e =
+          ⊎-elim
+          (λ v. let o = apart-ended (suc j) index t (sym (closed-ended read y (suc k) index s v) ∙ e) in (v .meanings ∙ sym (o .0), o .1))
+          (λ g.
+          ⊎-elim
+          (λ w. not-end index (take (g .used) s) (g .metadata) (g .contents) _ z (sym (closed-going read y k index s g) ∙ e ∙ closed-ended other z (suc j) index t w))
+          (λ h.
+          let o = same index s t (g .metadata) (h .metadata) (g .contents) (h .contents) (g .used) (h .used) (g .is) (h .is) _ _
+          (closed-over read y k (suc index) (drop (g .used) s)) (closed-over other z j (suc index) (drop (h .used) t))
+          (sym (closed-going read y k index s g) ∙ e ∙ closed-going other z j index t h) in
+          let r = lines-apart k j (suc index) (drop (g .used) s) (drop (h .used) t) (o .1) in
+          (g .meanings ∙ ap₂ _∷_ (o .0) (r .0) ∙ sym (h .meanings), r .1))
+          (view other j index t))
+          (view read k index s)
+
+    -- and so are listings
+    whole-apart : (s t : List ℕ) → listingOf read lines s ≡ listingOf other lines t
+        → (meaningsFrom read means (length s) s ≡ meaningsFrom other means (length t) t) × (stopBy read s ≡ stopBy other t)
+    whole-apart s t e =
+        let y = stopBy read s in
+        let z = stopBy other t in
+        let o = lines-apart y z (length s) (length t) 0 s t e in
+        let q = end-apart (y .used) (y .number) (y .at) (z .used) (z .number) (z .at) (o .1) in
+        (o .0, λ i. record { used = q .0 i; number = q .1 i; at = q .2 i })
+
+-- ---- HAProxy's frames
+
+frame-begins : (index : ℕ) (f : List ℕ) (m : Metadata) (c : Contents) (t : List ℕ) → (r : List ℕ) × (frameLines index f m c ++ t ≡ frameLine index m (length f) ++ r)
 unfolding frameLines
-lines-split index f m c t = append-assoc (frameLine index m (length f)) (itemLines f 0 0 (c .messages) (c .pairs)) t
-
-not-end : {G : Type 0} (index : ℕ) (f : List ℕ) (m : Metadata) (c : Contents) (t : List ℕ) (used number at : ℕ)
-    → frameLines index f m c ++ t ≡ endLine used number at → G
-not-end index f m c t used number at e =
-    let q = rw (lines-split index f m c t, frame-starts index m (length f) .1, end-starts used number at .1) at e in
-    absurd (omega (arith, head-eq-of-cons-eq q))
-
--- ---- two inputs
-
--- the lines of the frames, and a last line
-abbrev closed : ℕ → Rooms → Stop → ℕ → ℕ → List ℕ → List ℕ
-closed limit rooms z k index s = linesFrom limit rooms k index s ++ endLine (z .used) (z .number) (z .at)
-
-module _ (limit : ℕ) (rooms : Rooms) (z : Stop) where
-  closed-ended : (k index : ℕ) (s : List ℕ) → Ended limit rooms k index s → closed limit rooms z k index s ≡ endLine (z .used) (z .number) (z .at)
-  closed-ended k index s v = rw (v .lines)
-
-  closed-going : (k index : ℕ) (s : List ℕ) (g : Going limit rooms k index s)
-      → closed limit rooms z (suc k) index s
-      ≡ frameLines index (take (g .used) s) (g .metadata) (g .contents) ++ closed limit rooms z k (suc index) (drop (g .used) s)
-  closed-going k index s g =
-      rw (g .lines)
-      (append-assoc (frameLines index (take (g .used) s) (g .metadata) (g .contents)) (linesFrom limit rooms k (suc index) (drop (g .used) s)) (endLine (z .used) (z .number) (z .at)))
-
-  closed-over : (k index : ℕ) (s : List ℕ) → Over (closed limit rooms z k index s)
-  closed-over zero index s = rw (closed-ended 0 index s (ended-zero limit rooms index s)) (end-over (z .used) (z .number) (z .at))
-  closed-over (suc k) index s =
-      ⊎-elim (λ v. rw (closed-ended (suc k) index s v) (end-over (z .used) (z .number) (z .at)))
-      (λ g.
-      rw (closed-going k index s g, lines-split index (take (g .used) s) (g .metadata) (g .contents) (closed limit rooms z k (suc index) (drop (g .used) s)))
-      (frame-over index (g .metadata) (length (take (g .used) s)) _))
-      (view limit rooms k index s)
-
-module _ (limit higher : ℕ) (rooms others : Rooms) (y z : Stop) where
-  -- where the first has no frame left, neither has the second
-  apart-ended : (j index : ℕ) (t : List ℕ) → endLine (y .used) (y .number) (y .at) ≡ closed higher others z j index t
-      → (meaningsFrom higher others j t ≡ []) × (endLine (y .used) (y .number) (y .at) ≡ endLine (z .used) (z .number) (z .at))
-  apart-ended zero index t e = let v = ended-zero higher others index t in (v .meanings, e ∙ closed-ended higher others z 0 index t v)
-  apart-ended (suc j) index t e =
-      ⊎-elim (λ v. (v .meanings, e ∙ closed-ended higher others z (suc j) index t v))
-      (λ g. not-end index (take (g .used) t) (g .metadata) (g .contents) _ (y .used) (y .number) (y .at) (sym (e ∙ closed-going higher others z j index t g)))
-      (view higher others j index t)
-
-  -- Law: the same lines have the same frames, and the same last line.
-  lines-apart : (k j index : ℕ) (s t : List ℕ) → closed limit rooms y k index s ≡ closed higher others z j index t
-      → (meaningsFrom limit rooms k s ≡ meaningsFrom higher others j t) × (endLine (y .used) (y .number) (y .at) ≡ endLine (z .used) (z .number) (z .at))
-  lines-apart zero j index s t e =
-      let v = ended-zero limit rooms index s in
-      let o = apart-ended j index t (sym (closed-ended limit rooms y 0 index s v) ∙ e) in
-      (v .meanings ∙ sym (o .0), o .1)
-  lines-apart (suc k) zero index s t e =
-      let w = ended-zero higher others index t in
-      ⊎-elim (λ v. (v .meanings ∙ sym (w .meanings), sym (closed-ended limit rooms y (suc k) index s v) ∙ e ∙ closed-ended higher others z 0 index t w))
-      (λ g.
-      not-end index (take (g .used) s) (g .metadata) (g .contents) _ (z .used) (z .number) (z .at)
-      (sym (closed-going limit rooms y k index s g) ∙ e ∙ closed-ended higher others z 0 index t w))
-      (view limit rooms k index s)
-  lines-apart (suc k) (suc j) index s t e =
-      ⊎-elim
-      (λ v. let o = apart-ended (suc j) index t (sym (closed-ended limit rooms y (suc k) index s v) ∙ e) in (v .meanings ∙ sym (o .0), o .1))
-      (λ g.
-      ⊎-elim
-      (λ w.
-      not-end index (take (g .used) s) (g .metadata) (g .contents) _ (z .used) (z .number) (z .at)
-      (sym (closed-going limit rooms y k index s g) ∙ e ∙ closed-ended higher others z (suc j) index t w))
-      (λ h.
-      let o = listing-apart-then rooms others (take (g .used) s) (take (h .used) t) (g .metadata) (h .metadata) (g .contents) (h .contents) (g .used) (h .used) (g .frame) (h .frame)
-      index index _ _ (closed-over limit rooms y k (suc index) (drop (g .used) s)) (closed-over higher others z j (suc index) (drop (h .used) t))
-      (sym (closed-going limit rooms y k index s g) ∙ e ∙ closed-going higher others z j index t h) in
-      let r = lines-apart k j (suc index) (drop (g .used) s) (drop (h .used) t) (o .1) in
-      (g .meanings ∙ ap₂ _∷_ (same-means index index _ _ _ _ _ _ (o .0)) (r .0) ∙ sym (h .meanings), r .1))
-      (view higher others j index t))
-      (view limit rooms k index s)
+frame-begins index f m c t = (_, append-assoc (frameLine index m (length f)) (itemLines f 0 0 (c .messages) (c .pairs)) t)
 
 -- Law: two inputs with the same listing have the same frames, in order, and stop at the same place for the same reason.
 pub listings-apart : (limit higher : ℕ) (rooms others : Rooms) (s t : List ℕ) → listing limit rooms s ≡ listing higher others t
-    → (meaningsFrom limit rooms (length s) s ≡ meaningsFrom higher others (length t) t) × (stopOf (haproxysTake limit rooms) s ≡ stopOf (haproxysTake higher others) t)
+    → (meaningsFrom (frameRead limit rooms) frameMeans (length s) s ≡ meaningsFrom (frameRead higher others) frameMeans (length t) t)
+    × (stopBy (frameRead limit rooms) s ≡ stopBy (frameRead higher others) t)
 listings-apart limit higher rooms others s t e =
-    let y = stopOf (haproxysTake limit rooms) s in
-    let z = stopOf (haproxysTake higher others) t in
-    let o = lines-apart limit higher rooms others y z (length s) (length t) 0 s t e in
-    let q = end-apart (y .used) (y .number) (y .at) (z .used) (z .number) (z .at) (o .1) in
-    (o .0, λ i. record { used = q .0 i; number = q .1 i; at = q .2 i })
+    whole-apart frameLines frameMeans frame-begins (frameRead limit rooms) (frameRead higher others)
+    (λ index s t m n c d used bytes is also u v x y e.
+    let o = listing-apart-then rooms others (take used s) (take bytes t) m n c d used bytes (frame-cut limit rooms s m c used is .is) (frame-cut higher others t n d bytes also .is)
+    index index u v x y e in
+    let a = o .0 in
+    ((λ i. record { kind = a .kind i; stream = a .stream i; id = a .id i; bytes = a .bytes i; records = (a .messages i, a .pairs i) }), o .1))
+    s
+    t
+    e
+
+-- ---- agents' frames
+
+sent-begins : (index : ℕ) (f : List ℕ) (m : Metadata) (c : Sent) (t : List ℕ) → (r : List ℕ) × (sentLines index f m c ++ t ≡ frameLine index m (length f) ++ r)
+unfolding sentLines
+sent-begins index f m c t = (_, append-assoc (frameLine index m (length f)) (pairLines f 0 (c .pairs) ++ actionLines f 0 (c .actions)) t)
+
+held : (limit pairs actions : ℕ) (s : List ℕ) (m : Metadata) (c : Sent) (used : ℕ) → agentRead limit pairs actions s ≡ answered (done (m, c) used) → HeldSent (length (take used s)) c
+held limit pairs actions s m c used e = sent-held pairs actions (take used s) m c used (agent-cut limit pairs actions s m c used e .holds)
+
+-- Law: the same of the listing of what agents send.
+pub sent-listings-apart : (limit higher pairs others actions rows : ℕ) (s t : List ℕ) → sentListing limit pairs actions s ≡ sentListing higher others rows t
+    → (meaningsFrom (agentRead limit pairs actions) sentMeans (length s) s ≡ meaningsFrom (agentRead higher others rows) sentMeans (length t) t)
+    × (stopBy (agentRead limit pairs actions) s ≡ stopBy (agentRead higher others rows) t)
+sent-listings-apart limit higher pairs others actions rows s t e =
+    whole-apart sentLines sentMeans sent-begins (agentRead limit pairs actions) (agentRead higher others rows)
+    (λ index s t m n c d used bytes is also u v x y e.
+    let o = sent-apart-then index index (take used s) (take bytes t) m n c d (held limit pairs actions s m c used is) (held higher others rows t n d bytes also) u v x y e in
+    let a = o .0 in
+    ((λ i. record { kind = a .kind i; stream = a .stream i; id = a .id i; bytes = a .bytes i; records = (a .pairs i, a .actions i) }), o .1))
+    s
+    t
+    e
