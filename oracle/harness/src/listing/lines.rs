@@ -1,5 +1,6 @@
 //! The listing as it has to be, made of what the Rust reads. The bytes are walked for what the Rust does not keep, the
-//! order of a list and the bytes of a text, and each step of the walk is held to the Rust's values.
+//! order of a list and the bytes of a text, and each step of the walk is held to the Rust's values. Agents' frames are in
+//! `sent.rs`.
 
 use crate::{
     answers::{Answer, DONE},
@@ -17,6 +18,22 @@ use spop::{
     varint::decode_varint,
 };
 use std::{collections::HashMap, fmt::Display};
+
+/// Whose frames an input has. A word tells the program that they are an agent's.
+#[derive(Clone, Copy)]
+pub enum Sender {
+    Haproxy,
+    Agent,
+}
+
+impl Sender {
+    pub fn words(self) -> &'static [&'static str] {
+        match self {
+            Self::Haproxy => &[],
+            Self::Agent => &["agent"],
+        }
+    }
+}
 
 /// How many bytes of its input the program reads.
 pub const SEEN: usize = 65_536;
@@ -41,7 +58,7 @@ pub struct Listing {
 }
 
 /// The listing of an input.
-pub fn of(input: &[u8]) -> Listing {
+pub fn of(sender: Sender, input: &[u8]) -> Listing {
     let mut listing = Listing {
         text: String::new(),
         stop: Answer::done(0),
@@ -52,9 +69,10 @@ pub fn of(input: &[u8]) -> Listing {
     let seen = &input[..input.len().min(SEEN)];
     let mut rest = seen;
     for index in 0.. {
-        listing.stop = match rest {
-            [] => Answer::done(0),
-            _ => listing.frame(index, rest),
+        listing.stop = match (rest, sender) {
+            ([], _) => Answer::done(0),
+            (_, Sender::Haproxy) => listing.frame(index, rest),
+            (_, Sender::Agent) => listing.sent(index, rest),
         };
         match listing.stop {
             Answer::Paper { number: DONE, at } if at > 0 => rest = &rest[at as usize..],
@@ -74,8 +92,30 @@ fn read(input: &[u8]) -> ByRust {
     }
 }
 
+/// The line of a frame, without its end.
+pub fn frame_line(index: usize, [kind, stream, id]: [u64; 3], bytes: u64) -> String {
+    format!("frame {index} type {kind} stream {stream} id {id} bytes {bytes}")
+}
+
+/// The end of a line with a value: its kind, and how it is shown.
+pub fn value_end(value: &TypedData) -> String {
+    let (kind, shown) = match value {
+        TypedData::Null => (0, hex(&[])),
+        TypedData::Bool(yes) => (1, u8::from(*yes).to_string()),
+        TypedData::Int32(n) => (2, n.to_string()),
+        TypedData::UInt32(n) => (3, n.to_string()),
+        TypedData::Int64(n) => (4, n.to_string()),
+        TypedData::UInt64(n) => (5, n.to_string()),
+        TypedData::IPv4(address) => (6, hex(&address.octets())),
+        TypedData::IPv6(address) => (7, hex(&address.octets())),
+        TypedData::String(text) => (8, hex(text.as_bytes())),
+        TypedData::Binary(data) => (9, hex(data)),
+    };
+    format!("kind {kind} value {shown}")
+}
+
 impl Listing {
-    fn line(&mut self, line: impl Display) {
+    pub fn line(&mut self, line: impl Display) {
         self.text += &format!("{line}\n");
     }
 
@@ -87,9 +127,7 @@ impl Listing {
         };
         let frame = &input[..at as usize];
         let [kind, _, stream, id] = rust.head;
-        self.line(format_args!(
-            "frame {index} type {kind} stream {stream} id {id} bytes {at}"
-        ));
+        self.line(frame_line(index, [kind, stream, id], at));
         (self.messages, self.pairs) = (0, 0);
         match self.records(frame, &rust.content) {
             Some([]) => rust.answer,
@@ -153,24 +191,15 @@ impl Listing {
     fn pair<'a>(&mut self, input: &'a [u8], key: &str, value: &TypedData) -> Option<&'a [u8]> {
         let (key, typed) = self.string(input, key)?;
         let (rest, again) = typed_data(typed).ok()?;
-        let (kind, shown) = match value {
-            TypedData::Null => (0, hex(&[])),
-            TypedData::Bool(yes) => (1, u8::from(*yes).to_string()),
-            TypedData::Int32(n) => (2, n.to_string()),
-            TypedData::UInt32(n) => (3, n.to_string()),
-            TypedData::Int64(n) => (4, n.to_string()),
-            TypedData::UInt64(n) => (5, n.to_string()),
-            TypedData::IPv4(address) => (6, hex(&address.octets())),
-            TypedData::IPv6(address) => (7, hex(&address.octets())),
-            TypedData::String(text) => (8, hex(self.string(&typed[1..], text)?.0)),
-            TypedData::Binary(data) => (9, hex(data)),
+        let end = match value {
+            TypedData::String(text) => {
+                format!("kind 8 value {}", hex(self.string(&typed[1..], text)?.0))
+            }
+            _ => value_end(value),
         };
         let index = self.pairs;
         self.pairs += 1;
-        self.line(format_args!(
-            "pair {index} key {} kind {kind} value {shown}",
-            hex(key)
-        ));
+        self.line(format_args!("pair {index} key {} {end}", hex(key)));
         (again == *value).then_some(rest)
     }
 

@@ -15,11 +15,23 @@ pub struct Program {
     words: Vec<String>,
 }
 
-/// What a process has written, and why it is not to be believed, if so.
+/// What a process has written, what it has said on standard error, and why it is not to be believed, if so.
 #[derive(PartialEq)]
 pub struct Ran {
     pub text: Vec<u8>,
+    pub said: String,
     pub failure: Option<String>,
+}
+
+impl Ran {
+    /// Of a process that writes this and does nothing else.
+    pub fn right(text: &str) -> Self {
+        Self {
+            text: text.as_bytes().to_vec(),
+            said: String::new(),
+            failure: None,
+        }
+    }
 }
 
 impl Program {
@@ -31,25 +43,28 @@ impl Program {
         }
     }
 
-    /// Gives it the parts of an input, with a pause between them, and takes all that it writes.
-    pub fn run(&self, parts: &[&[u8]]) -> Ran {
-        match self.output(parts) {
+    /// Gives it some words and the parts of an input, with a pause between them, and takes all that it writes.
+    pub fn run(&self, words: &[&str], parts: &[&[u8]]) -> Ran {
+        match self.output(words, parts) {
             Ok(output) => Ran {
                 failure: failure(&output),
+                said: String::from_utf8_lossy(&output.stderr).into_owned(),
                 text: output.stdout,
             },
             Err(error) => Ran {
                 text: Vec::new(),
+                said: String::new(),
                 failure: Some(error.to_string()),
             },
         }
     }
 
     /// The input is written while the output is read, so that neither waits for the other.
-    fn output(&self, parts: &[&[u8]]) -> io::Result<Output> {
+    fn output(&self, words: &[&str], parts: &[&[u8]]) -> io::Result<Output> {
         let (first, others) = self.words.split_first().expect("a command has a word");
         let mut child = Command::new(first)
             .args(others)
+            .args(words)
             .stdin(Stdio::piped())
             .stdout(Stdio::piped())
             .stderr(Stdio::piped())
@@ -75,6 +90,5 @@ fn feed(mut input: ChildStdin, parts: &[&[u8]]) {
 }
 
 fn failure(output: &Output) -> Option<String> {
-    let said = String::from_utf8_lossy(&output.stderr);
-    (!output.status.success()).then(|| format!("{}; {}", output.status, said.trim_end()))
+    (!output.status.success()).then(|| output.status.to_string())
 }

@@ -3,7 +3,7 @@
 
 use crate::{reader::call::declared, shrink};
 use spop::{
-    parser::parse_key_value_pair,
+    types::typed_data,
     varint::{decode_varint, encode_varint_into},
 };
 use std::{cell::Cell, ops::Range};
@@ -72,7 +72,7 @@ fn with_less(mut best: Vec<u8>, differs: &impl Fn(&[u8]) -> bool) -> Vec<u8> {
     best
 }
 
-/// Messages and pairs that can go, then shorter texts, null for values and 0 for ids.
+/// Messages, pairs and actions that can go, then shorter texts, null for values and 0 for ids.
 fn edits(input: &[u8]) -> Vec<Edit> {
     let mut walk = Walk {
         input,
@@ -110,6 +110,7 @@ impl Walk<'_> {
         while self.at < end {
             match kind {
                 3 => self.message(end)?,
+                103 => self.action(end)?,
                 _ => self.pair(end, None)?,
             }
         }
@@ -137,20 +138,37 @@ impl Walk<'_> {
         Some(())
     }
 
+    fn action(&mut self, end: usize) -> Option<()> {
+        let start = self.at;
+        let verb = *self.input[..end].get(start)?;
+        self.at += 3;
+        self.string(end)?;
+        if verb == 1 {
+            self.value(end)?;
+        }
+        self.records.push(self.edit(start, Vec::new(), None));
+        Some(())
+    }
+
     fn pair(&mut self, end: usize, count: Option<usize>) -> Option<()> {
         let start = self.at;
-        let (rest, _) = parse_key_value_pair(&self.input[start..end]).ok()?;
         self.string(end)?;
-        let value = self.at;
-        if matches!(self.input[value] % 16, 8 | 9) {
+        self.value(end)?;
+        self.records.push(self.edit(start, Vec::new(), count));
+        Some(())
+    }
+
+    fn value(&mut self, end: usize) -> Option<()> {
+        let start = self.at;
+        let (rest, _) = typed_data(&self.input[start..end]).ok()?;
+        if matches!(self.input[start] % 16, 8 | 9) {
             self.at += 1;
             self.string(end)?;
         }
         self.at = end - rest.len();
-        if self.at - value > 1 {
-            self.texts.push(self.edit(value, vec![0], None));
+        if self.at - start > 1 {
+            self.texts.push(self.edit(start, vec![0], None));
         }
-        self.records.push(self.edit(start, Vec::new(), count));
         Some(())
     }
 

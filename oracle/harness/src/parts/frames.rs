@@ -476,7 +476,7 @@ pub fn framed(kind: FrameType, ids: [u64; 2], payload: &[u8]) -> Vec<u8> {
     [&length.to_be_bytes(), &frame[..]].concat()
 }
 
-fn encoded(pairs: &[(&str, TypedData)]) -> Vec<u8> {
+pub fn encoded(pairs: &[(&str, TypedData)]) -> Vec<u8> {
     let pairs = pairs.iter();
     pairs
         .flat_map(|(key, value)| records::encoding(key, value))

@@ -1,24 +1,22 @@
-//! The program `spoplist`: what it writes is compared with a listing of what the Rust reads.
+//! The program `spoplist`: what it writes is compared with a listing of what the Rust reads, and of agents' frames with one
+//! of the plain reading of SPOE.txt.
 
-use super::{
-    frames::{LISTING, upload},
-    laws::KINDS,
-};
+use super::frames::{LISTING, upload};
 use crate::{
-    answers::Answer,
-    counts::{Class, Counts},
+    counts::Counts,
     inputs::Random,
     listing::{
-        draw,
-        lines::{self, LIMIT, Listing, ROOMS, SEEN},
+        agents, classes, draw,
+        lines::{self, Sender},
         program::Program,
+        sent::{Ack, SCOPES},
         sides,
     },
-    reader::model,
-    tenth::NOT_FITTING,
     text::Difference,
     timing,
 };
+use spop::{actions::Action, types::TypedData};
+use std::net::{Ipv4Addr, Ipv6Addr};
 
 /// From so many rounds on each class has to be met in them.
 const ENOUGH: u64 = 1_000;
@@ -32,142 +30,189 @@ pair 1 key 6f6b kind 1 value 1
 end 29 0 0
 ";
 
+/// An ACK with the paper's two actions, and its listing.
+const ACK: &[u8] =
+    b"\0\0\0\x17\x67\0\0\0\x01\x01\x02\x01\x03\x02\x04slot\x03\x07\x02\x02\x01\x02ok";
+const ACK_LINES: &str = "\
+frame 0 type 103 stream 1 id 2 bytes 27
+action 0 set scope 2 name 736c6f74 kind 3 value 7
+action 1 unset scope 1 name 6f6b
+end 27 0 0
+";
+
+/// Of frames that the other one sends.
+const REFUSED: &str = "end 0 6 4\n";
+
 pub fn diff(random: &mut Random, rounds: u64) -> Result<String, Difference> {
     let program = Program::handed_over();
-    let fixed = fixed(&program)?;
-    let mut met = Counts::default();
+    let fixed = [fixed(&program)?, fixed_of_agents(&program)?];
+    let words = words(&program)?;
+    let mut met = Met::default();
     for _ in 0..rounds {
-        let input = draw::input(random);
-        let listing = sides::checked(&program, &input)?;
-        met.add(&classes(&input, &listing));
+        met.round(&program, random)?;
     }
     if rounds >= ENOUGH {
-        met.all("spoplist", "random")?;
+        met.all()?;
     }
     met.print();
-    Ok(format!("{fixed} fixed and {rounds} random inputs"))
+    Ok(format!(
+        "{} fixed and {rounds} random inputs of HAProxy's frames, {} fixed and {rounds} random ones of agents', {} of ACKs that \
+         the Rust wrote, and {words} with words that there are not",
+        fixed[0], fixed[1], met.written.inputs
+    ))
 }
+
+// ---------------------------------------------------------------- rounds
+
+#[derive(Default)]
+struct Met {
+    haproxys: Counts,
+    agents: Counts,
+    written: Counts,
+}
+
+impl Met {
+    /// An input of each sender, and at times one that the Rust writes.
+    fn round(&mut self, program: &Program, random: &mut Random) -> Result<(), Difference> {
+        let both = [
+            (Sender::Haproxy, &mut self.haproxys),
+            (Sender::Agent, &mut self.agents),
+        ];
+        for (sender, met) in both {
+            let input = draw::input(random, sender);
+            let listing = sides::checked(program, sender, &input)?;
+            met.add(&classes::of(sender, &input, &listing));
+        }
+        if random.below(4) == 0 {
+            let listing = sides::written(program, &agents::acks(random))?;
+            self.written.add(&classes::of_actions(&listing.text));
+        }
+        Ok(())
+    }
+
+    fn all(&self) -> Result<(), Difference> {
+        self.haproxys.all("spoplist", "random")?;
+        self.agents.all("spoplist agent", "random")?;
+        self.written
+            .all("spoplist agent", "of ACKs that the Rust wrote")
+    }
+
+    fn print(&self) {
+        println!("inputs of HAProxy's frames:");
+        self.haproxys.print();
+        println!("inputs of agents' frames:");
+        self.agents.print();
+        println!("inputs of ACKs that the Rust wrote:");
+        self.written.print();
+    }
+}
+
+// ---------------------------------------------------------------- fixed inputs
 
 /// Answers how many there are.
 fn fixed(program: &Program) -> Result<u64, Difference> {
-    assert_eq!(lines::of(LISTING).text, LINES);
+    let sender = Sender::Haproxy;
+    assert_eq!(lines::of(sender, LISTING).text, LINES);
+    assert_eq!(lines::of(sender, ACK).text, REFUSED);
+    sides::checked(program, sender, ACK)?;
+    Ok(1 + around(program, sender, LISTING)? + in_pieces(program, sender, LISTING)?)
+}
+
+fn fixed_of_agents(program: &Program) -> Result<u64, Difference> {
+    let sender = Sender::Agent;
+    assert_eq!(lines::of(sender, ACK).text, ACK_LINES);
+    assert_eq!(lines::of(sender, LISTING).text, REFUSED);
+    let (hello, disconnect) = (agents::hello(), agents::disconnect());
+    let all = [&hello[..], ACK, &disconnect].concat();
+    for input in [LISTING, ACK, &hello, &disconnect, &all] {
+        sides::checked(program, sender, input)?;
+    }
+    let every = of_every_kind();
+    let bytes = every.written();
+    sides::written(program, &[every])?;
+    Ok(6 + around(program, sender, &bytes)? + in_pieces(program, sender, ACK)?)
+}
+
+/// The frame cut anywhere, and with each byte changed to a few others.
+fn around(program: &Program, sender: Sender, frame: &[u8]) -> Result<u64, Difference> {
     let mut count = 0;
     let mut check = |input: &[u8]| {
         count += 1;
-        sides::checked(program, input)
+        sides::checked(program, sender, input)
     };
-    for end in 0..=LISTING.len() {
-        check(&LISTING[..end])?;
+    for end in 0..=frame.len() {
+        check(&frame[..end])?;
     }
-    for place in 0..LISTING.len() {
-        let old = LISTING[place];
+    for place in 0..frame.len() {
+        let old = frame[place];
         for byte in [0, old ^ 1, old ^ 0x12, old ^ 0x80, 0x65, 0xf0, 0xff] {
-            let mut input = LISTING.to_vec();
+            let mut input = frame.to_vec();
             input[place] = byte;
             check(&input)?;
         }
     }
-    // A read may give less than there will be.
-    for end in [0, 2, 17] {
-        sides::compare(program, &[&LISTING[..end], &LISTING[end..]])?;
-        count += 1;
-    }
     Ok(count)
 }
 
-// ---------------------------------------------------------------- classes
-
-fn classes(input: &[u8], listing: &Listing) -> Vec<Class> {
-    let mut all = classes_of_inputs(input, listing);
-    all.extend(classes_of_values(listing));
-    all.extend(classes_of_ends(input, listing));
-    all
+/// A read may give less than there will be.
+fn in_pieces(program: &Program, sender: Sender, frame: &[u8]) -> Result<u64, Difference> {
+    let ends = [0, 2, 17];
+    for end in ends {
+        sides::compare(program, sender, &[&frame[..end], &frame[end..]])?;
+    }
+    Ok(ends.len() as u64)
 }
 
-fn classes_of_inputs(input: &[u8], listing: &Listing) -> Vec<Class> {
-    let text = &listing.text;
-    let frames = text
-        .lines()
-        .filter(|line| line.starts_with("frame"))
-        .count();
-    let empty = |kind: &str| {
-        let mut two = text.lines().zip(text.lines().skip(1));
-        two.any(|(one, next)| one.contains(kind) && !next.starts_with(['m', 'p']))
-    };
-    vec![
-        ("an empty input", input.is_empty()),
-        ("one frame", frames == 1),
-        ("several frames", frames > 1),
-        ("more than 65,536 bytes", input.len() > SEEN),
-        ("a HELLO", text.contains(" type 1 ")),
-        ("a DISCONNECT", text.contains(" type 2 ")),
-        (
-            "a list without a pair",
-            empty(" type 1 ") || empty(" type 2 "),
-        ),
-        ("a NOTIFY without a message", empty(" type 3 ")),
-        ("several messages", text.contains("\nmessage 1 ")),
-        ("a message without arguments", text.contains(" args 0\n")),
-        ("64 messages", text.contains("\nmessage 63 ")),
-        ("256 pairs", text.contains("\npair 255 ")),
-        ("a frame of 65,536 bytes", text.contains(" bytes 65536\n")),
-    ]
-}
-
-fn classes_of_values(listing: &Listing) -> Vec<Class> {
-    let text = &listing.text;
-    let of_kind = |kind| text.contains(&format!(" kind {kind} value "));
-    let negative = |kind| {
-        let mut parts = text.split(kind).skip(1);
-        parts.any(|part| part.starts_with('-'))
-    };
-    let kinds = (0..).zip(KINDS).map(|(kind, name)| (name, of_kind(kind)));
-    let all = [
-        ("a negative i32", negative(" kind 2 value ")),
-        ("a negative i64", negative(" kind 4 value ")),
-        ("an empty string", text.contains(" kind 8 value -\n")),
-        ("an empty binary", text.contains(" kind 9 value -\n")),
-        ("an empty key", text.contains(" key - ")),
-        ("an empty name", text.contains(" name - ")),
-        ("text that is not UTF-8", listing.lossy),
+/// Sets of every kind of value and in every scope, with unsets between them.
+fn of_every_kind() -> Ack {
+    let values = [
+        TypedData::Null,
+        TypedData::Bool(true),
+        TypedData::Int32(-730),
+        TypedData::UInt32(1_250),
+        TypedData::Int64(-1),
+        TypedData::UInt64(u64::MAX),
+        TypedData::IPv4(Ipv4Addr::LOCALHOST),
+        TypedData::IPv6(Ipv6Addr::LOCALHOST),
+        TypedData::String("ö".into()),
+        TypedData::Binary(vec![0, 0xff]),
     ];
-    kinds.chain(all).collect()
+    let mut actions = Vec::new();
+    for (index, value) in values.into_iter().enumerate() {
+        let (scope, name) = (SCOPES[index % 5], index.to_string());
+        actions.push(Action::SetVar { scope, name, value });
+        if index % 3 == 2 {
+            let name = "n".repeat(index % 2);
+            actions.push(Action::UnSetVar { scope, name });
+        }
+    }
+    Ack {
+        ids: [1, 300],
+        actions,
+    }
 }
 
-fn classes_of_ends(input: &[u8], listing: &Listing) -> Vec<Class> {
-    let ends = |number| matches!(listing.stop, Answer::Paper { number: n, .. } if n == number);
-    let last = listing.text.lines().last().unwrap_or_default();
-    let used = last.split(' ').nth(1).and_then(|used| used.parse().ok());
-    let used: usize = used.unwrap_or_default();
-    let seen = input.len().min(SEEN);
-    let rest = model::frame(&input[used..seen], LIMIT, ROOMS);
-    let full = rest.pairs.len() >= ROOMS.pairs;
-    let list = rest.messages.is_empty();
-    let names = ["2", "3", "4", "5", "6", "7", "8", "9"];
-    let refusals = (2..).zip(names).map(|(number, name)| (name, ends(number)));
-    let mut all = vec![
-        ("0", ends(0)),
-        ("0, at 65,536", ends(0) && used == SEEN),
-        ("1, from the length bytes", ends(1) && seen - used < 4),
-        ("1, from the frame", ends(1) && seen - used >= 4),
-        (
-            "1, from a frame that is not read to its end",
-            ends(1) && input.len() > SEEN,
-        ),
+/// Answers how many runs there are with words that the program does not know.
+fn words(program: &Program) -> Result<u64, Difference> {
+    let long = "agent".repeat(2_000);
+    let unknown: [&[&str]; 12] = [
+        &["agents"],
+        &["agen"],
+        &["Agent"],
+        &["agent "],
+        &["agent agent"],
+        &[""],
+        &["haproxy"],
+        &[&long],
+        &["agent", "agent"],
+        &["agent", ""],
+        &["", "agent"],
+        &["agent", "agent", "agent"],
     ];
-    all.extend(refusals);
-    all.extend([
-        (
-            "9, and 10 without it",
-            ends(9) && rest.pairs.len() > ROOMS.pairs,
-        ),
-        ("10, a message", ends(10) && !full),
-        ("10, an argument", ends(10) && full && !list),
-        ("10, a pair of a list", ends(10) && list),
-        ("19", ends(NOT_FITTING)),
-        ("a refusal behind a frame", !ends(0) && !ends(1) && used > 0),
-    ]);
-    all
+    for words in unknown {
+        sides::usage(program, words, ACK)?;
+    }
+    Ok(unknown.len() as u64)
 }
 
 // ---------------------------------------------------------------- timing
@@ -185,10 +230,10 @@ pub fn bench(_: &mut Random) {
         }
         input.extend(frame);
     }
-    let right = lines::of(&input).text;
+    let right = lines::of(Sender::Haproxy, &input).text;
     let name = format!("spoplist, {} bytes", input.len());
     timing::processes(&name, 20, || {
-        let ran = program.run(&[&input]);
+        let ran = program.run(&[], &[&input]);
         assert!(ran.text == right.as_bytes(), "the program lists otherwise");
     });
 }
