@@ -30,14 +30,15 @@ pair 1 key 6f6b kind 1 value 1
 end 29 0 0
 ";
 
-/// An ACK with the paper's two actions, and its listing.
+/// The paper's ACK, and its listing.
 const ACK: &[u8] =
-    b"\0\0\0\x17\x67\0\0\0\x01\x01\x02\x01\x03\x02\x04slot\x03\x07\x02\x02\x01\x02ok";
+    b"\0\0\0\x1c\x67\0\0\0\x01\x01\x02\x01\x03\x02\x04slot\x03\x07\x02\x02\x01\x02ok\x01\x03\0\0\0";
 const ACK_LINES: &str = "\
-frame 0 type 103 stream 1 id 2 bytes 27
+frame 0 type 103 stream 1 id 2 bytes 32
 action 0 set scope 2 name 736c6f74 kind 3 value 7
 action 1 unset scope 1 name 6f6b
-end 27 0 0
+action 2 set scope 0 name - kind 0 value -
+end 32 0 0
 ";
 
 /// Of frames that the other one sends.
