@@ -20,7 +20,7 @@ use Rattle.frame.specs.declared.Action.{Action}
 use Rattle.frame.specs.Records.{keyOf}
 use Rattle.listing.specs.Digits.{dash, decimal, signed, shown}
 use Rattle.listing.specs.Lines.{filled, messageForm, pairForm, setForm, unsetForm, dataText, valueText, actionLine}
-use Rattle.listing.specs.Check.{messageChecks, pairChecks, actionChecks}
+use Rattle.listing.specs.Check.{messageChecks, pairChecks, isAction, actionChecks}
 use Rattle.listing.specs.Inner.{kindForm}
 
 -- ---- a value's text
@@ -209,14 +209,14 @@ module _ (f : List ℕ) (p : Pair) where
       (one .0, two .0, three .0)
 
 module _ (f : List ℕ) (x : Action) where
-  pub action-unknown : (leb (x .scope) 4 && (eqb (x .verb) 1 || eqb (x .verb) 2)) ≡ false → first (actionChecks f x) ≡ 14
+  pub action-unknown : isAction x ≡ false → first (actionChecks f x) ≡ 14
   action-unknown h = first-fails 14 _ _ h
 
-  pub action-known : (leb (x .scope) 4 && (eqb (x .verb) 1 || eqb (x .verb) 2)) ≡ true → first (actionChecks f x) ≡ first (pairChecks f (x .pair))
+  pub action-known : isAction x ≡ true → first (actionChecks f x) ≡ first (pairChecks f (x .pair))
   action-known h = first-holds 14 _ _ h
 
   pub action-pair : first (actionChecks f x) ≡ 0 → first (pairChecks f (x .pair)) ≡ 0
-  action-pair e = first-passed 14 (leb (x .scope) 4 && (eqb (x .verb) 1 || eqb (x .verb) 2)) (pairChecks f (x .pair)) (λ z. omega arith) e .1
+  action-pair e = first-passed 14 (isAction x) (pairChecks f (x .pair)) (λ z. omega arith) e .1
 
   -- its line in parts: a set's, and an unset's
   pub action-set : (i : ℕ) → x .verb ≡ 1

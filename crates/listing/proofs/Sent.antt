@@ -7,7 +7,7 @@ use Prim.Native.Nat.{ℕ, _+_, _*_, _^_, _/_, _≤_, _<_}
 use native.Mathlib.Omega.{arith}
 use lib.Dec.{eqb}
 use lib.ListN.{length, take, drop, length-append, length-drop}
-use borrow.Author.Tests.{le-leb}
+use borrow.Author.Tests.{le-leb, eq-eqb, ne-eqb}
 use Rattle.answer.specs.Answer.{done, written}
 use Rattle.answer.specs.Table.{records, joined}
 use Rattle.answer.proofs.Cases.{bool-cases, true-false}
@@ -32,7 +32,7 @@ use Rattle.agent.specs.Frame.{Sent, agents}
 use Rattle.agent.specs.Promise.{sentRead, readInto, Fills}
 use Rattle.agent.proofs.Standing.{Stands, stands, by-verb, ActionRun, actions-stand, of-actions, of-pairs, agent-cut}
 use Rattle.listing.specs.Lines.{pairLine, actionLine}
-use Rattle.listing.specs.Check.{actionChecks}
+use Rattle.listing.specs.Check.{isAction, actionChecks}
 use Rattle.listing.specs.Order.{actionAnswer}
 use Rattle.listing.proofs.Pieces.{after-none, action-known}
 use Rattle.listing.proofs.Coming.{after-holds}
@@ -50,6 +50,16 @@ pub record Acts (n : ℕ) (x : Action) : Type 0 where
   pub scope : x .scope ≤ 4
   pub whole : Whole n (x .pair)
   pub null : x .verb ≡ 2 → recordOf (x .pair .value) ≡ value 0 0 0 0
+
+acts-known : (n : ℕ) (x : Action) → Acts n x → isAction x ≡ true
+acts-known n x a =
+    let scope = le-leb (x .scope) 4 (a .scope) in
+    by-verb x (a .verbs) (λ one. rw (scope, eq-eqb (x .verb) 1 one))
+    (λ two.
+    let none = a .null two in
+    let kind : x .pair .value .kind ≡ 0 = cc in
+    let flags : x .pair .value .flags ≡ 0 = cc in
+    rw (scope, ne-eqb (x .verb) 1 (λ z. omega arith), eq-eqb (x .verb) 2 two, eq-eqb (x .pair .value .kind) 0 kind, eq-eqb (x .pair .value .flags) 0 flags))
 
 -- Law: an action that was read is one.
 pub action-acts : (f : List ℕ) (at : ℕ) (x : Action) (next : ℕ) → Stands f at x next → Acts (length f) x
@@ -137,7 +147,7 @@ module _ (limit : ℕ) (s oldPairs newPairs oldActions newActions : List ℕ) (m
       let acts : Acts (length f) x = rw here at (each-at (Acts (length f)) (actionAt newActions) (length (c .actions)) 0 (rw sent-actions-held (held .actions)) k h) in
       after-holds 16 _ (actionChecks f x) (written (actionLine k f x)) (le-leb ((k + 1) * actionWidth) (length newActions) room)
       ∙ after-none (actionChecks f x) (written (actionLine k f x))
-      (action-known f x (rw (le-leb (x .scope) 4 (acts .scope), acts .verbs)) ∙ pair-passes f (x .pair) (acts .whole))
+      (action-known f x (acts-known (length f) x acts) ∙ pair-passes f (x .pair) (acts .whole))
 
   -- Law: so no line is refused where 2n + 128 bytes are lent.
   pub sent-room : (k : ℕ) → k < 2 ^ 64

@@ -1,5 +1,5 @@
 -- What a record that is to have a line is refused with, in the order of a writer (docs/RULES.md).
-use mathlib.Core.Bool.{_&&_, _||_}
+use mathlib.Core.Bool.{Bool, _&&_, _||_}
 use mathlib.Core.List.{List, [], _∷_}
 use Prim.Native.Nat.{ℕ}
 use lib.Dec.{leb, eqb}
@@ -20,7 +20,10 @@ pairChecks f p =
     ∷ (16, inside f (p .start) (p .len))
     ∷ (16, ranged f (recordOf (p .value))) ∷ []
 
--- An action's own numbers outside their fields (SPOE.txt, section 3.4: it is a set or an unset, of a scope up to 4), and what its pair is
--- refused with. The value of an unset has no text, and is checked as that of a set.
+-- A set or an unset, of a scope from 0 to 4 (SPOE.txt, section 3.4). An unset has no value: null without flags stands for it.
+abbrev pub isAction : Action → Bool
+isAction x = leb (x .scope) 4 && (eqb (x .verb) 1 || (eqb (x .verb) 2 && (eqb (x .pair .value .kind) 0 && eqb (x .pair .value .flags) 0)))
+
+-- its own numbers, and then what its name and value are refused with, as a pair
 abbrev pub actionChecks : List ℕ → Action → List Check
-actionChecks f x = (14, leb (x .scope) 4 && (eqb (x .verb) 1 || eqb (x .verb) 2)) ∷ pairChecks f (x .pair)
+actionChecks f x = (14, isAction x) ∷ pairChecks f (x .pair)

@@ -5,6 +5,11 @@
 --     pair 0 key 736c6f74 kind 3 value 7
 --     pair 1 key 6f6b kind 1 value 1
 --     end 29 0 0
+--
+-- and of an agent's frame
+--
+--     action 0 set scope 2 name 736c6f74 kind 3 value 7
+--     action 1 unset scope 1 name 6f6b
 use mathlib.Core.Bool.{Bool, cond, _||_}
 use mathlib.Core.List.{List, [], _∷_, _++_}
 use Prim.Native.Nat.{ℕ}

@@ -1,4 +1,4 @@
--- A frame's lines one by one: which comes next, where its records stand in two tables.
+-- A frame's lines one by one: which comes next, where its records stand in two tables; and an action's, by its place in a third.
 use mathlib.Core.Bool.{Bool, cond, _&&_, _||_}
 use mathlib.Core.List.{List, _∷_}
 use Prim.Native.Nat.{ℕ, _+_, _-_}

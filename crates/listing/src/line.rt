@@ -32,7 +32,7 @@ ghost use Rattle.types.specs.Inner.{Puts};
 ghost use Rattle.types.specs.Form.{inside};
 ghost use Rattle.types.specs.Promise.{recordOf};
 ghost use Rattle.listing.specs.Lines.{valueText};
-ghost use Rattle.listing.specs.Check.{pairChecks, actionChecks};
+ghost use Rattle.listing.specs.Check.{pairChecks, isAction, actionChecks};
 ghost use Rattle.listing.specs.Promise.{WriteFrameLine, WriteMessageLine, WritePairLine, WriteActionLine, WriteEndLine};
 ghost use Rattle.listing.specs.Inner.{Listed, namedText, valuedText};
 
@@ -233,9 +233,9 @@ fn check_action(action: Action, frame: &[u8]) -> u64
     check_pair(action.pair, frame)
 }
 
-// Whether it is a set or an unset, of a scope that there is.
+// Whether it is a set or an unset, of a scope that there is. What an unset does not have must not be lost in its line.
 fn is_action(action: Action) -> bool
-    ensures { λ r. ⌜ r ≡ (leb (action .scope) 4 && (eqb (action .verb) 1 || eqb (action .verb) 2)) ⌝ }
+    ensures { λ r. ⌜ r ≡ isAction action ⌝ }
 {
     if 4 < action.scope {
         return false;
@@ -243,7 +243,13 @@ fn is_action(action: Action) -> bool
     if action.verb == SET_VAR {
         return true;
     }
-    action.verb == UNSET_VAR
+    if action.verb != UNSET_VAR {
+        return false;
+    }
+    if action.pair.value.kind != 0 {
+        return false;
+    }
+    action.pair.value.flags == 0
 }
 
 // Writes a line of words with their numbers, a key, and a value's kind and text.

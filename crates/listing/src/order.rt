@@ -1,4 +1,5 @@
-// The lines of a frame in their order, where its records stand in two tables: each message before its own arguments.
+// The lines of a frame in their order, where its records stand in two tables: each message before its own arguments. And those of an
+// ACK, one for each action of a table.
 use crate::Place;
 use crate::Step;
 use crate::line::write_action_line;

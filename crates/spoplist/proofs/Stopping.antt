@@ -11,9 +11,11 @@ use Rattle.parser.specs.declared.Rooms.{Rooms}
 use Rattle.parser.specs.declared.Metadata.{Metadata}
 use Rattle.parser.specs.Frame.{Reading, wait, answered, frameRead}
 use Rattle.parser.specs.Promise.{Counts, countsOf, frameTells}
-use Rattle.agent.specs.Frame.{Sent, agentRead}
+use Rattle.agent.specs.Frame.{agentRead}
 use Rattle.agent.specs.Promise.{agentTells}
+use Rattle.parser.proofs.Entries.{said-done}
 use Rattle.parser.proofs.Accepted.{frame-cut}
+use Rattle.agent.proofs.Entries.{countsOf as sentCounts, said-done as said-done-by}
 use Rattle.agent.proofs.Standing.{agent-cut}
 use Rattle.spoplist.specs.Listing.{taken, stopFrom, stopOf, haproxysTake, agentsTake}
 use Rattle.spoplist.specs.Inner.{Accepts}
@@ -24,15 +26,6 @@ use Rattle.spoplist.specs.Inner.{Accepts}
 module _ {A : Type 0} (count : A → Counts) (tells : Reading (Metadata × A) → Reading (Metadata × Counts)) (waits : (n : ℕ) → tells (wait n) ≡ wait n)
     (does : (m : Metadata) (c : A) (n : ℕ) → tells (answered (done (m, c) n)) ≡ answered (done (m, count c) n))
     (refuses : (n place : ℕ) → tells (answered (refused n place)) ≡ answered (refused n place)) where
-  pub told-done : (x : Reading (Metadata × A)) (m : Metadata) (k : Counts) (used : ℕ) → answered (done (m, k) used) ≡ tells x
-      → (y : Metadata × A) × (x ≡ answered (done y used))
-  told-done (wait n) m k used q = let e = q ∙ waits n in let z : _≡_ {A = ℕ} 0 1 = cc in absurd (omega arith)
-  told-done (answered (refused n place)) m k used q = let e = q ∙ refuses n place in let z : _≡_ {A = ℕ} 0 1 = cc in absurd (omega arith)
-  told-done (answered (done (n, c) u)) m k used q =
-      let e = q ∙ does n c u in
-      let same : used ≡ u = cc in
-      ((n, c), ap (λ (v : ℕ). answered (done (n, c) v)) (sym same))
-
   pub told-wait : (x : Reading (Metadata × A)) (n : ℕ) → wait n ≡ tells x → taken x ≡ refused 1 n
   told-wait (wait m) n q = let e = q ∙ waits m in let same : n ≡ m = cc in ap (refused 1) (sym same)
   told-wait (answered (refused m place)) n q = let e = q ∙ refuses m place in let z : _≡_ {A = ℕ} 0 1 = cc in absurd (omega arith)
@@ -52,8 +45,8 @@ module _ (limit : ℕ) (rooms : Rooms) (s : List ℕ) where
   pub said-taken : (m : Metadata) (k : Counts) (used : ℕ) → answered (done (m, k) used) ≡ frameTells (frameRead limit rooms s)
       → Accepts s (haproxysTake limit rooms s) used
   said-taken m k used e =
-      let o = told-done countsOf frameTells (λ n. refl) (λ n c u. refl) (λ n p. refl) (frameRead limit rooms s) m k used e in
-      let h = frame-cut limit rooms s (o .0 .0) (o .0 .1) used (o .1) in
+      let o = said-done (frameRead limit rooms s) m k used e in
+      let h = frame-cut limit rooms s m (o .0) used (o .1) in
       record { is = ap taken (o .1); some = omega (arith, h .four); most = h .there }
 
   pub said-wait : (n : ℕ) → wait n ≡ frameTells (frameRead limit rooms s) → haproxysTake limit rooms s ≡ refused 1 n
@@ -64,21 +57,18 @@ module _ (limit : ℕ) (rooms : Rooms) (s : List ℕ) where
 
 -- and of agents'
 module _ (limit pairs room : ℕ) (s : List ℕ) where
-  abbrev countsIn : Sent → Counts
-  countsIn x = (length (x .pairs), length (x .actions))
-
   pub sent-taken : (m : Metadata) (k : Counts) (used : ℕ) → answered (done (m, k) used) ≡ agentTells (agentRead limit pairs room s)
       → Accepts s (agentsTake limit pairs room s) used
   sent-taken m k used e =
-      let o = told-done countsIn agentTells (λ n. refl) (λ n c u. refl) (λ n p. refl) (agentRead limit pairs room s) m k used e in
-      let h = agent-cut limit pairs room s (o .0 .0) (o .0 .1) used (o .1) in
+      let o = said-done-by (agentRead limit pairs room s) m k used e in
+      let h = agent-cut limit pairs room s m (o .0) used (o .1) in
       record { is = ap taken (o .1); some = omega (arith, h .four); most = h .there }
 
   pub sent-wait : (n : ℕ) → wait n ≡ agentTells (agentRead limit pairs room s) → agentsTake limit pairs room s ≡ refused 1 n
-  sent-wait n e = told-wait countsIn agentTells (λ n. refl) (λ n c u. refl) (λ n p. refl) (agentRead limit pairs room s) n e
+  sent-wait n e = told-wait sentCounts agentTells (λ n. refl) (λ n c u. refl) (λ n p. refl) (agentRead limit pairs room s) n e
 
   pub sent-refused : (number place : ℕ) → answered (refused number place) ≡ agentTells (agentRead limit pairs room s) → agentsTake limit pairs room s ≡ refused number place
-  sent-refused number place e = told-refused countsIn agentTells (λ n. refl) (λ n c u. refl) (λ n p. refl) (agentRead limit pairs room s) number place e
+  sent-refused number place e = told-refused sentCounts agentTells (λ n. refl) (λ n c u. refl) (λ n p. refl) (agentRead limit pairs room s) number place e
 
 -- ---- how it goes on
 
