@@ -8,7 +8,7 @@ use frame::Pair;
 use frame::SET_VAR;
 use frame::UNSET_VAR;
 use parser::PairRead;
-use types::Text;
+use types::StringRead;
 use types::Value;
 ghost use mathlib.Core.Path.{_≡_};
 ghost use mathlib.Core.Bool.{not, _||_};
@@ -69,10 +69,10 @@ fn read_unset(input: &[u8], scope: u64) -> ActionRead
     ensures { λ r. ⌜ actionSaid r ≡ actionOf (now (input .entry)) ⌝ }
 {
     match types::read_string(&input[3..]) {
-        Text::Refused(r) => {
+        StringRead::Refused(r) => {
             return refused_at(r.number, 3 + r.place);
         },
-        Text::Done { start, len, used } => {
+        StringRead::Done { start, len, used } => {
             return ActionRead::Done {
                 action: Action {
                     verb: UNSET_VAR,

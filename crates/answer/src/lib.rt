@@ -13,8 +13,8 @@ pub const TOO_SOON: u64 = 3;
 pub const UNKNOWN: u64 = 4;
 // A frame has ABORT set.
 pub const ABORTED: u64 = 5;
-// A frame is an agent's own.
-pub const AGENTS: u64 = 6;
+// A frame is one that the other side sends.
+pub const OTHER_SIDE: u64 = 6;
 // A number is too large.
 pub const TOO_LARGE: u64 = 7;
 // A data type is 10 to 15.

@@ -15,8 +15,8 @@ use libc::STDOUT_FILENO;
 use show::print_bytes;
 use show::refused;
 use show::verdict;
-use types::Typed;
-use varint::Number;
+use types::ValueRead;
+use varint::NumberRead;
 
 // What is marked: the refusal's number or 0, the bytes used or the place, and the number that was read.
 struct Answer {
@@ -192,7 +192,7 @@ fn value(input: &[u8], kind: u64, flags: u64, marked: Answer) {
     print_bytes(input);
     io::write_all(STDOUT_FILENO, b": ");
     match types::typed_data(input) {
-        Typed::Done { value, used } => {
+        ValueRead::Done { value, used } => {
             io::write_all(STDOUT_FILENO, b"kind ");
             io::print_decimal(STDOUT_FILENO, value.kind);
             io::write_all(STDOUT_FILENO, b" number ");
@@ -204,7 +204,7 @@ fn value(input: &[u8], kind: u64, flags: u64, marked: Answer) {
             let same = value.kind == kind && value.a == marked.value && value.b == 0;
             verdict(same && value.flags == flags && marked.number == 0 && marked.at == used);
         },
-        Typed::Refused(r) => {
+        ValueRead::Refused(r) => {
             refused(r);
             verdict(marked.number == r.number && marked.at == r.place);
         },
@@ -296,13 +296,13 @@ fn reads(input: &[u8], marked: Answer) {
     print_bytes(input);
     io::write_all(STDOUT_FILENO, b": ");
     match varint::decode_varint(input) {
-        Number::Done { value, used } => {
+        NumberRead::Done { value, used } => {
             io::print_decimal(STDOUT_FILENO, value);
             io::write_all(STDOUT_FILENO, b" from ");
             io::print_decimal(STDOUT_FILENO, used as u64);
             verdict(marked.number == 0 && marked.at == used && marked.value == value);
         },
-        Number::Refused(r) => {
+        NumberRead::Refused(r) => {
             refused(r);
             verdict(marked.number == r.number && marked.at == r.place);
         },

@@ -16,7 +16,7 @@ use frame::MESSAGE_WIDTH;
 use frame::Message;
 use frame::PAIR_WIDTH;
 use frame::Pair;
-use types::Text;
+use types::StringRead;
 ghost use mathlib.Core.Path.{_≡_};
 ghost use mathlib.Core.Bool.{false};
 ghost use Prim.Native.Nat.{_+_, _≤_, _<_, _^_};
@@ -76,7 +76,7 @@ fn fill_message(payload: &[u8], base: usize, state: State, table: &mut [u64]) ->
     ensures { λ r. ⌜ FillsMessage (now (payload .entry)) base state r (now (table .entry)) (now (table .exit)) ⌝ }
 {
     let at = state.at;
-    let Text::Done { start, len, used } = types::read_string(&payload[at..]) else {
+    let StringRead::Done { start, len, used } = types::read_string(&payload[at..]) else {
         return state;
     };
     let end = at + used;

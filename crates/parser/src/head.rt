@@ -8,12 +8,12 @@ use crate::StartRead;
 use crate::fill::into_tables;
 use crate::look::look_either;
 use answer::ABORTED;
-use answer::AGENTS;
+use answer::OTHER_SIDE;
 use answer::OVERSIZE;
 use answer::Refusal;
 use answer::TOO_SOON;
 use answer::UNKNOWN;
-use varint::Number;
+use varint::NumberRead;
 ghost use mathlib.Core.Path.{_≡_};
 ghost use mathlib.Core.Bool.{true, false};
 ghost use Prim.Native.Nat.{_≤_, _<_};
@@ -89,10 +89,10 @@ fn read_last(f: &[u8], agents: bool, kind: u64, flags: u64, stream: u64, at: usi
     ensures { λ r. ⌜ metadataSaid r ≡ lastId agents kind flags stream at (now (f .entry)) ⌝ }
 {
     match varint::decode_varint(&f[at..]) {
-        Number::Refused(r) => {
+        NumberRead::Refused(r) => {
             return refused_at(r.number, at + r.place);
         },
-        Number::Done { value, used } => {
+        NumberRead::Done { value, used } => {
             if sent_by(agents, kind) {
                 return MetadataRead::Done {
                     metadata: Metadata {
@@ -104,7 +104,7 @@ fn read_last(f: &[u8], agents: bool, kind: u64, flags: u64, stream: u64, at: usi
                     start: at + used,
                 };
             }
-            return refused_at(AGENTS, 4);
+            return refused_at(OTHER_SIDE, 4);
         },
     }
 }
@@ -115,10 +115,10 @@ fn read_ids(f: &[u8], agents: bool, kind: u64, flags: u64) -> MetadataRead
     ensures { λ r. ⌜ metadataSaid r ≡ ids agents kind flags (now (f .entry)) ⌝ }
 {
     match varint::decode_varint(&f[9..]) {
-        Number::Refused(r) => {
+        NumberRead::Refused(r) => {
             return refused_at(r.number, 9 + r.place);
         },
-        Number::Done { value, used } => {
+        NumberRead::Done { value, used } => {
             return read_last(f, agents, kind, flags, value, 9 + used);
         },
     }

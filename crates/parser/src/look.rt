@@ -10,7 +10,7 @@ use answer::Refusal;
 use answer::TABLE_FULL;
 use answer::TOO_SOON;
 use frame::Pair;
-use types::Text;
+use types::StringRead;
 ghost use mathlib.Core.Path.{_≡_};
 ghost use mathlib.Core.Bool.{true, false, _&&_, _||_};
 ghost use mathlib.Core.List.{List};
@@ -134,10 +134,10 @@ fn look_message(payload: &[u8], kv: bool, rooms: Rooms, state: State) -> Step
 {
     let at = state.at;
     match types::read_string(&payload[at..]) {
-        Text::Refused(r) => {
+        StringRead::Refused(r) => {
             return refused_at(r.number, at + r.place);
         },
-        Text::Done {
+        StringRead::Done {
             start: _,
             len: _,
             used,

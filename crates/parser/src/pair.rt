@@ -2,13 +2,13 @@
 use crate::PairRead;
 use answer::Refusal;
 use frame::Pair;
-use types::Text;
-use types::Typed;
+use types::StringRead;
 use types::Value;
+use types::ValueRead;
 ghost use mathlib.Core.Path.{_≡_};
 ghost use Prim.Native.Nat.{ℕ, _+_, _≤_, _<_, _^_};
 ghost use Rattle.types.specs.Value.{moved as movedRecord};
-ghost use Rattle.types.specs.Promise.{recordOf, textRead};
+ghost use Rattle.types.specs.Promise.{recordOf, stringSaid};
 ghost use Rattle.answer.specs.Answer.{refused};
 ghost use Rattle.parser.specs.Pair.{movedPair};
 ghost use Rattle.parser.specs.Promise.{pairSaid, ReadPair};
@@ -18,17 +18,17 @@ pub fn read_pair(input: &[u8]) -> PairRead
     ensures { λ r. ⌜ ReadPair (now (input .entry)) r ⌝ }
 {
     let key = types::read_string(input);
-    let Text::Done { start, len, used } = key else {
+    let StringRead::Done { start, len, used } = key else {
         return key_refused(key);
     };
     match types::typed_data(&input[used..]) {
-        Typed::Refused(r) => {
+        ValueRead::Refused(r) => {
             return PairRead::Refused(Refusal {
                 number: r.number,
                 place: used + r.place,
             });
         },
-        Typed::Done { value, used: n } => {
+        ValueRead::Done { value, used: n } => {
             return PairRead::Done {
                 pair: Pair {
                     start: start as u64,
@@ -42,12 +42,12 @@ pub fn read_pair(input: &[u8]) -> PairRead
 }
 
 // The refusal of a key; 0 at 0 of one that was read, which is not asked.
-fn key_refused(key: Text) -> PairRead
-    ensures { λ r. ⌜ ((number place : ℕ) → textRead key ≡ refused number place → pairSaid r ≡ refused number place) ⌝ }
+fn key_refused(key: StringRead) -> PairRead
+    ensures { λ r. ⌜ ((number place : ℕ) → stringSaid key ≡ refused number place → pairSaid r ≡ refused number place) ⌝ }
 {
     match key {
-        Text::Refused(r) => PairRead::Refused(r),
-        Text::Done {
+        StringRead::Refused(r) => PairRead::Refused(r),
+        StringRead::Done {
             start: _,
             len: _,
             used: _,

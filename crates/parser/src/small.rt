@@ -19,7 +19,7 @@ use answer::TOO_SOON;
 use frame::MESSAGE_WIDTH;
 use frame::Message;
 use frame::PAIR_WIDTH;
-use types::Text;
+use types::StringRead;
 ghost use mathlib.Core.Path.{_≡_};
 ghost use mathlib.Core.Bool.{false};
 ghost use Prim.Native.Nat.{ℕ, _+_, _≤_, _<_, _^_};
@@ -64,10 +64,10 @@ fn take_message(payload: &[u8], base: usize, rooms: Rooms, state: State, table: 
 {
     let at = state.at;
     match types::read_string(&payload[at..]) {
-        Text::Refused(r) => {
+        StringRead::Refused(r) => {
             return refused_at(r.number, at + r.place);
         },
-        Text::Done { start, len, used } => {
+        StringRead::Done { start, len, used } => {
             let end = at + used;
             if payload.len() <= end {
                 return refused_at(TOO_SOON, end);

@@ -13,7 +13,7 @@ use frame::Pair;
 use parser::Few;
 use parser::FrameRead;
 use parser::Rooms;
-use types::Text;
+use types::StringRead;
 use types::Value;
 use walker::Place;
 use walker::Step;
@@ -24,7 +24,7 @@ ghost use Prim.Native.Nat.{ℕ, _-_, _≤_};
 ghost use lib.ListN.{length, drop, getD};
 ghost use Rattle.answer.specs.Answer.{done, written, leaves};
 ghost use Rattle.types.specs.Value.{string};
-ghost use Rattle.types.specs.Promise.{textRead};
+ghost use Rattle.types.specs.Promise.{stringSaid};
 ghost use Rattle.frame.specs.declared.Pair.{Pair as PairRecord};
 ghost use Rattle.frame.specs.Records.{messageWidth, messageNumbers};
 ghost use Rattle.parser.specs.Pair.{pairFrom};
@@ -51,11 +51,11 @@ const NONE: Few = Few {
 };
 
 // The string that stands at `at`; a refusal where that lies behind the bytes.
-fn name_at(input: &[u8], at: usize) -> Text
-    ensures { λ r. ⌜ textRead r ≡ string (drop at (now (input .entry))) ⌝ }
+fn name_at(input: &[u8], at: usize) -> StringRead
+    ensures { λ r. ⌜ stringSaid r ≡ string (drop at (now (input .entry))) ⌝ }
 {
     if input.len() < at {
-        return Text::Refused(Refusal {
+        return StringRead::Refused(Refusal {
             number: TOO_SOON,
             place: 0,
         });
@@ -132,7 +132,7 @@ fn to_argument(input: &[u8], total: usize, first: usize, from: Far, messages: &m
             return x;
         }
         let at = x.at;
-        let Text::Done { start, len, used } = name_at(input, at) else {
+        let StringRead::Done { start, len, used } = name_at(input, at) else {
             return x;
         };
         let end = at + used;

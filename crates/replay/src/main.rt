@@ -10,9 +10,9 @@ use hello::Chosen;
 use hello::Size;
 use hello::VERSION_WIDTH;
 use libc::STDOUT_FILENO;
-use types::Typed;
 use types::Value;
-use varint::Number;
+use types::ValueRead;
+use varint::NumberRead;
 
 // What a line turned out to be.
 enum Verdict {
@@ -198,8 +198,10 @@ fn decoded(input: &[u8], fields: &[u8]) -> Verdict {
     let at = number_of(&fields[17..33]);
     let value = number_of(&fields[34..]);
     match varint::decode_varint(input) {
-        Number::Done { value: v, used } => agreed(answer == 0 && at == used as u64 && value == v),
-        Number::Refused(r) => agreed(answer == r.number && at == r.place as u64),
+        NumberRead::Done { value: v, used } => agreed(
+            answer == 0 && at == used as u64 && value == v,
+        ),
+        NumberRead::Refused(r) => agreed(answer == r.number && at == r.place as u64),
     }
 }
 
@@ -277,11 +279,11 @@ fn value_line(fields: &[u8]) -> Verdict {
 // The Rust passes the flags over, so they are not compared.
 fn valued(input: &[u8], answer: u64, at: u64, want: Value) -> Verdict {
     match types::typed_data(input) {
-        Typed::Done { value, used } => {
+        ValueRead::Done { value, used } => {
             let same = value.kind == want.kind && value.a == want.a && value.b == want.b;
             agreed(same && answer == 0 && at == used as u64)
         },
-        Typed::Refused(r) => agreed(answer == r.number && at == r.place as u64),
+        ValueRead::Refused(r) => agreed(answer == r.number && at == r.place as u64),
     }
 }
 

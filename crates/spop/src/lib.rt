@@ -14,10 +14,10 @@ use hello::Size;
 use parser::FrameRead;
 use parser::PairRead;
 use plain::Compared;
-use types::Typed;
 use types::VALUE_WIDTH;
 use types::Value;
-use varint::Number;
+use types::ValueRead;
+use varint::NumberRead;
 ghost use mathlib.Core.Path.{_≡_};
 ghost use Rattle.answer.specs.Writes.{said};
 ghost use Rattle.types.specs.Promise.{recordOf};
@@ -53,12 +53,12 @@ pub extern "C" fn spop_decode_varint(input: &[u8], value: &mut u64, at: &mut u64
     ensures { λ r. ⌜ SpopDecodeVarint (now (input .entry)) r (now (at .exit)) (now (value .entry)) (now (value .exit)) ⌝ }
 {
     match varint::decode_alone(input) {
-        Number::Done { value: n, used } => {
+        NumberRead::Done { value: n, used } => {
             *value = n;
             *at = used as u64;
             DONE
         },
-        Number::Refused(r) => refuse(r, at),
+        NumberRead::Refused(r) => refuse(r, at),
     }
 }
 
@@ -110,12 +110,12 @@ pub extern "C" fn spop_typed_data(input: &[u8], value: &mut [u64; VALUE_WIDTH], 
     ensures { λ r. ⌜ SpopTypedData (now (input .entry)) r (now (at .exit)) (now (value .entry)) (now (value .exit)) ⌝ }
 {
     match types::typed_data(input) {
-        Typed::Done { value: v, used } => {
+        ValueRead::Done { value: v, used } => {
             *value = [v.kind, v.a, v.b, v.flags];
             *at = used as u64;
             DONE
         },
-        Typed::Refused(r) => refuse(r, at),
+        ValueRead::Refused(r) => refuse(r, at),
     }
 }
 

@@ -6,35 +6,35 @@ use Prim.Native.Nat.{ℕ}
 use native.Mathlib.Omega.{arith}
 use Rattle.answer.specs.declared.Written.{Written}
 use Rattle.answer.proofs.Same.{refusal-same, writes-unique, one-only}
-use Rattle.types.specs.declared.Text.{Text}
-use Rattle.types.specs.declared.Text.the-variants as t
+use Rattle.types.specs.declared.StringRead.{StringRead}
+use Rattle.types.specs.declared.StringRead.the-variants as t
 use Rattle.types.specs.declared.Value.{Value}
-use Rattle.types.specs.declared.Typed.{Typed}
-use Rattle.types.specs.declared.Typed.the-variants as v
+use Rattle.types.specs.declared.ValueRead.{ValueRead}
+use Rattle.types.specs.declared.ValueRead.the-variants as v
 use Rattle.types.specs.declared.Measured.{Measured}
-use Rattle.types.specs.Promise.{textRead, typedRead, ReadString, TypedData, Writable, CheckString, CheckPart, CheckValue, ValueLen, MeasureValue, WriteString, WriteValue}
+use Rattle.types.specs.Promise.{stringSaid, valueSaid, ReadString, TypedData, Writable, CheckString, CheckPart, CheckValue, ValueLen, MeasureValue, WriteString, WriteValue}
 
 -- answers that say the same are the same
-pub textRead-same : (a b : Text) → textRead a ≡ textRead b → a ≡ b
-textRead-same (t.Done s l u) (t.Done s′ l′ u′) e = let p : s ≡ s′ = cc in let q : l ≡ l′ = cc in let r : u ≡ u′ = cc in cc
-textRead-same (t.Done s l u) (t.Refused q) e = let z : _≡_ {A = ℕ} 0 1 = cc in absurd (omega arith)
-textRead-same (t.Refused r) (t.Done s l u) e = let z : _≡_ {A = ℕ} 0 1 = cc in absurd (omega arith)
-textRead-same (t.Refused r) (t.Refused q) e = ap t.Refused (refusal-same r q (cc) (cc))
+pub stringSaid-same : (a b : StringRead) → stringSaid a ≡ stringSaid b → a ≡ b
+stringSaid-same (t.Done s l u) (t.Done s′ l′ u′) e = let p : s ≡ s′ = cc in let q : l ≡ l′ = cc in let r : u ≡ u′ = cc in cc
+stringSaid-same (t.Done s l u) (t.Refused q) e = let z : _≡_ {A = ℕ} 0 1 = cc in absurd (omega arith)
+stringSaid-same (t.Refused r) (t.Done s l u) e = let z : _≡_ {A = ℕ} 0 1 = cc in absurd (omega arith)
+stringSaid-same (t.Refused r) (t.Refused q) e = ap t.Refused (refusal-same r q (cc) (cc))
 
 value-same : (a b : Value) → a .kind ≡ b .kind → a .a ≡ b .a → a .b ≡ b .b → a .flags ≡ b .flags → a ≡ b
 value-same a b e f g h = λ i. record { kind = e i; a = f i; b = g i; flags = h i }
 
-pub typedRead-same : (a b : Typed) → typedRead a ≡ typedRead b → a ≡ b
-typedRead-same (v.Done x u) (v.Done y u′) e = let q : u ≡ u′ = cc in let p = value-same x y (cc) (cc) (cc) (cc) in cc
-typedRead-same (v.Done x u) (v.Refused q) e = let z : _≡_ {A = ℕ} 0 1 = cc in absurd (omega arith)
-typedRead-same (v.Refused r) (v.Done x u) e = let z : _≡_ {A = ℕ} 0 1 = cc in absurd (omega arith)
-typedRead-same (v.Refused r) (v.Refused q) e = ap v.Refused (refusal-same r q (cc) (cc))
+pub valueSaid-same : (a b : ValueRead) → valueSaid a ≡ valueSaid b → a ≡ b
+valueSaid-same (v.Done x u) (v.Done y u′) e = let q : u ≡ u′ = cc in let p = value-same x y (cc) (cc) (cc) (cc) in cc
+valueSaid-same (v.Done x u) (v.Refused q) e = let z : _≡_ {A = ℕ} 0 1 = cc in absurd (omega arith)
+valueSaid-same (v.Refused r) (v.Done x u) e = let z : _≡_ {A = ℕ} 0 1 = cc in absurd (omega arith)
+valueSaid-same (v.Refused r) (v.Refused q) e = ap v.Refused (refusal-same r q (cc) (cc))
 
-pub read-string-unique : (s : List ℕ) (r q : Text) → ReadString s r → ReadString s q → r ≡ q
-read-string-unique s r q p o = textRead-same r q (p ∙ sym o)
+pub read-string-unique : (s : List ℕ) (r q : StringRead) → ReadString s r → ReadString s q → r ≡ q
+read-string-unique s r q p o = stringSaid-same r q (p ∙ sym o)
 
-pub typed-data-unique : (s : List ℕ) (r q : Typed) → TypedData s r → TypedData s q → r ≡ q
-typed-data-unique s r q p o = typedRead-same r q (p ∙ sym o)
+pub typed-data-unique : (s : List ℕ) (r q : ValueRead) → TypedData s r → TypedData s q → r ≡ q
+typed-data-unique s r q p o = valueSaid-same r q (p ∙ sym o)
 
 pub writable-unique : (v : Value) (r q : Bool) → Writable v r → Writable v q → r ≡ q
 writable-unique v r q p o = one-only p o

@@ -1,9 +1,9 @@
 -- What the calls' own types mean, and what each call promises.
-use Rattle.types.specs.declared.Text.{Text}
-use Rattle.types.specs.declared.Text.the-variants as t
+use Rattle.types.specs.declared.StringRead.{StringRead}
+use Rattle.types.specs.declared.StringRead.the-variants as t
 use Rattle.types.specs.declared.Value.{Value}
-use Rattle.types.specs.declared.Typed.{Typed}
-use Rattle.types.specs.declared.Typed.the-variants as v
+use Rattle.types.specs.declared.ValueRead.{ValueRead}
+use Rattle.types.specs.declared.ValueRead.the-variants as v
 use Rattle.types.specs.declared.Measured.{Measured}
 use mathlib.Core.Path.{_≡_}
 use mathlib.Core.Bool.{Bool}
@@ -19,26 +19,26 @@ use Rattle.types.specs.Form.{stringBytes, valueBytes, writableRecord, va
 use Rattle.types.specs.Check.{stringChecks, partChecks, valueChecks}
 
 -- what the string reader's answer says
-abbrev pub textRead : Text → Answer Span
-textRead (t.Done start len used) = done (span start len) used
-textRead (t.Refused r) = refused (r .number) (r .place)
+abbrev pub stringSaid : StringRead → Answer Span
+stringSaid (t.Done start len used) = done (span start len) used
+stringSaid (t.Refused r) = refused (r .number) (r .place)
 
 -- a value's four numbers
 abbrev pub recordOf : Value → Record
 recordOf x = value (x .kind) (x .a) (x .b) (x .flags)
 
 -- what the value reader's answer says
-abbrev pub typedRead : Typed → Answer Record
-typedRead (v.Done x used) = done (recordOf x) used
-typedRead (v.Refused r) = refused (r .number) (r .place)
+abbrev pub valueSaid : ValueRead → Answer Record
+valueSaid (v.Done x used) = done (recordOf x) used
+valueSaid (v.Refused r) = refused (r .number) (r .place)
 
 -- ---- the promises
 
-abbrev pub ReadString : List ℕ → Text → Type 0
-ReadString input r = textRead r ≡ string input
+abbrev pub ReadString : List ℕ → StringRead → Type 0
+ReadString input r = stringSaid r ≡ string input
 
-abbrev pub TypedData : List ℕ → Typed → Type 0
-TypedData input r = typedRead r ≡ typed input
+abbrev pub TypedData : List ℕ → ValueRead → Type 0
+TypedData input r = valueSaid r ≡ typed input
 
 -- whether it is not 14
 abbrev pub Writable : Value → Bool → Type 0

@@ -20,7 +20,7 @@ ghost use mathlib.Core.Path.{_≡_};
 ghost use Rattle.types.specs.Value.{signExtended};
 
 // What the string reader answers: where the bytes are, and how many the string took with its length number.
-pub enum Text {
+pub enum StringRead {
     Done {
         start: usize,
         len: usize,
@@ -43,7 +43,7 @@ pub struct Value {
 pub const VALUE_WIDTH: usize = 4;
 
 // What the value reader answers.
-pub enum Typed {
+pub enum ValueRead {
     Done { value: Value, used: usize },
     Refused(Refusal),
 }

@@ -1,11 +1,11 @@
 // Strings and values, read from the front of some bytes.
-use crate::Text;
-use crate::Typed;
+use crate::StringRead;
 use crate::Value;
+use crate::ValueRead;
 use answer::NO_TYPE;
 use answer::Refusal;
 use answer::TOO_SOON;
-use varint::Number;
+use varint::NumberRead;
 ghost use mathlib.Core.Path.{_≡_};
 ghost use mathlib.Core.Bool.{true, false, cond};
 ghost use Prim.Native.Nat.{_+_, _≤_, _<_};
@@ -13,26 +13,26 @@ ghost use lib.Dec.{leb};
 ghost use lib.ListN.{length};
 ghost use Rattle.answer.specs.Answer.{done, refused};
 ghost use Rattle.types.specs.Value.{Width, integer, address, shape, value as aRecord, narrowed};
-ghost use Rattle.types.specs.Promise.{typedRead, ReadString, TypedData};
+ghost use Rattle.types.specs.Promise.{valueSaid, ReadString, TypedData};
 ghost use Rattle.types.specs.Inner.{ReadsKind, numbered};
 
 // Reads the string at the front of `input`: a length number and that many bytes.
-pub fn read_string(input: &[u8]) -> Text
+pub fn read_string(input: &[u8]) -> StringRead
     ensures { λ r. ⌜ ReadString (now (input .entry)) r ⌝ }
 {
     match varint::decode_varint(input) {
-        Number::Refused(r) => {
-            return Text::Refused(r);
+        NumberRead::Refused(r) => {
+            return StringRead::Refused(r);
         },
-        Number::Done { value, used } => {
+        NumberRead::Done { value, used } => {
             if ((input.len() - used) as u64) < value {
-                return Text::Refused(Refusal {
+                return StringRead::Refused(Refusal {
                     number: TOO_SOON,
                     place: used,
                 });
             }
             let len = value as usize;
-            return Text::Done {
+            return StringRead::Done {
                 start: used,
                 len,
                 used: used + len,
@@ -42,11 +42,11 @@ pub fn read_string(input: &[u8]) -> Text
 }
 
 // Reads the value at the front of `input`.
-pub fn typed_data(input: &[u8]) -> Typed
+pub fn typed_data(input: &[u8]) -> ValueRead
     ensures { λ r. ⌜ TypedData (now (input .entry)) r ⌝ }
 {
     if input.len() == 0 {
-        return Typed::Refused(Refusal {
+        return ValueRead::Refused(Refusal {
             number: TOO_SOON,
             place: 0,
         });
@@ -65,20 +65,20 @@ pub fn typed_data(input: &[u8]) -> Typed
 const NUMBERED: u64 = 0x33C;
 
 // Reads the number behind the type byte, of one of these kinds, and what that number stands for.
-fn read_number(kind: u64, flags: u64, input: &[u8]) -> Typed
+fn read_number(kind: u64, flags: u64, input: &[u8]) -> ValueRead
     requires { ⌜ 0 < length (now input) ⌝ }
     requires { ⌜ numbered (shape kind) ≡ true ⌝ }
-    ensures { λ r. ⌜ ReadsKind kind flags (now (input .entry)) (typedRead r) ⌝ }
+    ensures { λ r. ⌜ ReadsKind kind flags (now (input .entry)) (valueSaid r) ⌝ }
 {
     match varint::decode_varint(&input[1..]) {
-        Number::Refused(r) => {
+        NumberRead::Refused(r) => {
             let place = 1 + r.place;
-            return Typed::Refused(Refusal {
+            return ValueRead::Refused(Refusal {
                 number: r.number,
                 place,
             });
         },
-        Number::Done { value, used } => {
+        NumberRead::Done { value, used } => {
             let taken = 1 + used;
             if kind < 6 {
                 return integer_value(kind, flags, value, taken);
@@ -89,11 +89,11 @@ fn read_number(kind: u64, flags: u64, input: &[u8]) -> Typed
 }
 
 // An integer whose number is n, and which took so many bytes.
-fn integer_value(kind: u64, flags: u64, n: u64, taken: usize) -> Typed
+fn integer_value(kind: u64, flags: u64, n: u64, taken: usize) -> ValueRead
     requires { ⌜ (2 ≤ kind) × (kind < 6) ⌝ }
-    ensures { λ r. ⌜ ((w : Width) → shape kind ≡ integer w → typedRead r ≡ done (aRecord kind (narrowed w n) 0 flags) taken) ⌝ }
+    ensures { λ r. ⌜ ((w : Width) → shape kind ≡ integer w → valueSaid r ≡ done (aRecord kind (narrowed w n) 0 flags) taken) ⌝ }
 {
-    Typed::Done {
+    ValueRead::Done {
         value: Value {
             kind,
             a: narrow(kind, n),
@@ -119,19 +119,19 @@ fn narrow(kind: u64, n: u64) -> u64
 }
 
 // Finds the address of len bytes behind the type byte.
-fn read_address(kind: u64, len: usize, flags: u64, input: &[u8]) -> Typed
+fn read_address(kind: u64, len: usize, flags: u64, input: &[u8]) -> ValueRead
     requires { ⌜ 0 < length (now input) ⌝ }
     requires { ⌜ shape kind ≡ address len ⌝ }
-    ensures { λ r. ⌜ ReadsKind kind flags (now (input .entry)) (typedRead r) ⌝ }
+    ensures { λ r. ⌜ ReadsKind kind flags (now (input .entry)) (valueSaid r) ⌝ }
 {
     if input.len() - 1 < len {
-        return Typed::Refused(Refusal {
+        return ValueRead::Refused(Refusal {
             number: TOO_SOON,
             place: 1,
         });
     }
     let taken = 1 + len;
-    Typed::Done {
+    ValueRead::Done {
         value: Value {
             kind,
             a: 1,
@@ -143,17 +143,17 @@ fn read_address(kind: u64, len: usize, flags: u64, input: &[u8]) -> Typed
 }
 
 // A string or a binary of n bytes, which start behind those taken so far.
-fn bytes_value(kind: u64, flags: u64, n: u64, taken: usize, input: &[u8]) -> Typed
+fn bytes_value(kind: u64, flags: u64, n: u64, taken: usize, input: &[u8]) -> ValueRead
     requires { ⌜ taken ≤ length (now input) ⌝ }
-    ensures { λ r. ⌜ typedRead r ≡ cond (leb (taken + n) (length (now (input .entry)))) (done (aRecord kind taken n flags) (taken + n)) (refused 3 taken) ⌝ }
+    ensures { λ r. ⌜ valueSaid r ≡ cond (leb (taken + n) (length (now (input .entry)))) (done (aRecord kind taken n flags) (taken + n)) (refused 3 taken) ⌝ }
 {
     if ((input.len() - taken) as u64) < n {
-        return Typed::Refused(Refusal {
+        return ValueRead::Refused(Refusal {
             number: TOO_SOON,
             place: taken,
         });
     }
-    Typed::Done {
+    ValueRead::Done {
         value: Value {
             kind,
             a: taken as u64,
@@ -177,13 +177,13 @@ fn address_len(kind: u64) -> usize
 
 // Reads a value of another kind: null, a bool or an address. They are told apart by their order, since a test for each number becomes
 // a table of jumps, which takes longer.
-fn read_other(kind: u64, flags: u64, input: &[u8]) -> Typed
+fn read_other(kind: u64, flags: u64, input: &[u8]) -> ValueRead
     requires { ⌜ 0 < length (now input) ⌝ }
     requires { ⌜ numbered (shape kind) ≡ false ⌝ }
-    ensures { λ r. ⌜ ReadsKind kind flags (now (input .entry)) (typedRead r) ⌝ }
+    ensures { λ r. ⌜ ReadsKind kind flags (now (input .entry)) (valueSaid r) ⌝ }
 {
     if 8 <= kind {
-        return Typed::Refused(Refusal {
+        return ValueRead::Refused(Refusal {
             number: NO_TYPE,
             place: 1,
         });
@@ -192,7 +192,7 @@ fn read_other(kind: u64, flags: u64, input: &[u8]) -> Typed
         return read_address(kind, address_len(kind), flags, input);
     }
     if kind == 0 {
-        return Typed::Done {
+        return ValueRead::Done {
             value: Value {
                 kind,
                 a: 0,
@@ -202,7 +202,7 @@ fn read_other(kind: u64, flags: u64, input: &[u8]) -> Typed
             used: 1,
         };
     }
-    Typed::Done {
+    ValueRead::Done {
         value: Value {
             kind,
             a: flags % 2,

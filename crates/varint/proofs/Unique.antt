@@ -5,16 +5,16 @@ use Prim.Native.Nat.{ℕ}
 use native.Mathlib.Omega.{arith}
 use Rattle.answer.specs.declared.Written.{Written}
 use Rattle.answer.proofs.Same.{refusal-same, writes-unique, one-only}
-use Rattle.varint.specs.declared.Number.{Number}
-use Rattle.varint.specs.declared.Number.the-variants as n
-use Rattle.varint.specs.Promise.{numberRead, VarintLen, EncodeVarint, DecodeVarint}
+use Rattle.varint.specs.declared.NumberRead.{NumberRead}
+use Rattle.varint.specs.declared.NumberRead.the-variants as n
+use Rattle.varint.specs.Promise.{numberSaid, VarintLen, EncodeVarint, DecodeVarint}
 
 -- answers that say the same are the same
-pub numberRead-same : (a b : Number) → numberRead a ≡ numberRead b → a ≡ b
-numberRead-same (n.Done v u) (n.Done v′ u′) e = let p : v ≡ v′ = cc in let q : u ≡ u′ = cc in cc
-numberRead-same (n.Done v u) (n.Refused q) e = let z : _≡_ {A = ℕ} 0 1 = cc in absurd (omega arith)
-numberRead-same (n.Refused r) (n.Done v u) e = let z : _≡_ {A = ℕ} 0 1 = cc in absurd (omega arith)
-numberRead-same (n.Refused r) (n.Refused q) e = ap n.Refused (refusal-same r q (cc) (cc))
+pub numberSaid-same : (a b : NumberRead) → numberSaid a ≡ numberSaid b → a ≡ b
+numberSaid-same (n.Done v u) (n.Done v′ u′) e = let p : v ≡ v′ = cc in let q : u ≡ u′ = cc in cc
+numberSaid-same (n.Done v u) (n.Refused q) e = let z : _≡_ {A = ℕ} 0 1 = cc in absurd (omega arith)
+numberSaid-same (n.Refused r) (n.Done v u) e = let z : _≡_ {A = ℕ} 0 1 = cc in absurd (omega arith)
+numberSaid-same (n.Refused r) (n.Refused q) e = ap n.Refused (refusal-same r q (cc) (cc))
 
 pub varint-len-unique : (i r q : ℕ) → VarintLen i r → VarintLen i q → r ≡ q
 varint-len-unique i r q p s = one-only p s
@@ -22,8 +22,8 @@ varint-len-unique i r q p s = one-only p s
 pub encode-varint-unique : (i : ℕ) (r q : Written) (old new other : List ℕ) → EncodeVarint i r old new → EncodeVarint i q old other → (r ≡ q) × (new ≡ other)
 encode-varint-unique i r q old new other p s = writes-unique p s
 
-pub decode-varint-unique : (s : List ℕ) (r q : Number) → DecodeVarint s r → DecodeVarint s q → r ≡ q
-decode-varint-unique s r q p o = numberRead-same r q (one-only p o)
+pub decode-varint-unique : (s : List ℕ) (r q : NumberRead) → DecodeVarint s r → DecodeVarint s q → r ≡ q
+decode-varint-unique s r q p o = numberSaid-same r q (one-only p o)
 
-pub decode-alone-unique : (s : List ℕ) (r q : Number) → DecodeVarint s r → DecodeVarint s q → r ≡ q
+pub decode-alone-unique : (s : List ℕ) (r q : NumberRead) → DecodeVarint s r → DecodeVarint s q → r ≡ q
 decode-alone-unique = decode-varint-unique

@@ -12,10 +12,10 @@ ghost use Prim.Native.Nat.{_≤_, _<_, _^_};
 ghost use lib.ListN.{length, drop};
 ghost use Rattle.answer.specs.Answer.{written, leaves};
 ghost use Rattle.varint.specs.Number.{more, groups};
-ghost use Rattle.varint.specs.Promise.{numberRead, VarintLen, EncodeVarint, DecodeVarint};
+ghost use Rattle.varint.specs.Promise.{numberSaid, VarintLen, EncodeVarint, DecodeVarint};
 
 // What the number reader answers.
-pub enum Number {
+pub enum NumberRead {
     Done { value: u64, used: usize },
     Refused(Refusal),
 }
@@ -77,7 +77,7 @@ fn encode_more(steps: u64, out: &mut [u8]) -> usize
 }
 
 // Reads the number at the front of `input`.
-pub fn decode_varint(input: &[u8]) -> Number
+pub fn decode_varint(input: &[u8]) -> NumberRead
     ensures { λ r. ⌜ DecodeVarint (now (input .entry)) r ⌝ }
 {
     if input.len() == 0 {
@@ -87,16 +87,16 @@ pub fn decode_varint(input: &[u8]) -> Number
     if 240 <= first {
         return decode_more(first as u64, input);
     }
-    Number::Done {
+    NumberRead::Done {
         value: first as u64,
         used: 1,
     }
 }
 
 // Reads on after a first byte that is not the number itself. Nine bytes cannot add up to more than 64 bits, so the tenth alone is asked.
-fn decode_more(first: u64, input: &[u8]) -> Number
+fn decode_more(first: u64, input: &[u8]) -> NumberRead
     requires { ⌜ first < 256 ⌝ }
-    ensures { λ r. ⌜ numberRead r ≡ more first 1 (drop 1 (now (input .entry))) ⌝ }
+    ensures { λ r. ⌜ numberSaid r ≡ more first 1 (drop 1 (now (input .entry))) ⌝ }
 {
     let mut sum = first;
     let mut used = 1;
@@ -116,12 +116,12 @@ fn decode_more(first: u64, input: &[u8]) -> Number
             break sum;
         }
     };
-    Number::Done { value, used }
+    NumberRead::Done { value, used }
 }
 
 // The same for one who reads a number by itself: where ten bytes are there, two are looked at together, so that of the lengths two and three
 // none is guessed wrong. Inside the readers of values and frames, where most numbers have one byte, that form took longer.
-pub fn decode_alone(input: &[u8]) -> Number
+pub fn decode_alone(input: &[u8]) -> NumberRead
     ensures { λ r. ⌜ DecodeVarint (now (input .entry)) r ⌝ }
 {
     if 10 <= input.len() && 240 <= input[0] {
@@ -131,10 +131,10 @@ pub fn decode_alone(input: &[u8]) -> Number
 }
 
 // Reads on after a first byte that is not the number itself, two bytes at a time. The second of them counts where the first goes on.
-fn decode_twos(first: u64, input: &[u8]) -> Number
+fn decode_twos(first: u64, input: &[u8]) -> NumberRead
     requires { ⌜ first < 256 ⌝ }
     requires { ⌜ 10 ≤ length (now input) ⌝ }
-    ensures { λ r. ⌜ numberRead r ≡ more first 1 (drop 1 (now (input .entry))) ⌝ }
+    ensures { λ r. ⌜ numberSaid r ≡ more first 1 (drop 1 (now (input .entry))) ⌝ }
 {
     let mut sum = first;
     let mut used = 1;
@@ -145,7 +145,7 @@ fn decode_twos(first: u64, input: &[u8]) -> Number
         let goes = byte / 128;
         sum = sum + (byte << shift) + ((goes * next) << (shift + 7));
         if (byte < 128) | (next < 128) {
-            return Number::Done {
+            return NumberRead::Done {
                 value: sum,
                 used: used + 1 + goes as usize,
             };
@@ -157,8 +157,8 @@ fn decode_twos(first: u64, input: &[u8]) -> Number
 }
 
 // Reads a tenth byte, after nine that add up to sum.
-fn decode_tenth(sum: u64, input: &[u8]) -> Number
-    ensures { λ r. ⌜ numberRead r ≡ more sum 9 (drop 9 (now (input .entry))) ⌝ }
+fn decode_tenth(sum: u64, input: &[u8]) -> NumberRead
+    ensures { λ r. ⌜ numberSaid r ≡ more sum 9 (drop 9 (now (input .entry))) ⌝ }
 {
     if input.len() <= 9 {
         return refused(TOO_SOON, 9);
@@ -171,14 +171,14 @@ fn decode_tenth(sum: u64, input: &[u8]) -> Number
     if u64::MAX - sum < addend {
         return refused(TOO_LARGE, 10);
     }
-    Number::Done {
+    NumberRead::Done {
         value: sum + addend,
         used: 10,
     }
 }
 
-fn refused(number: u64, place: usize) -> Number
-    ensures { λ r. ⌜ r ≡ Number.Refused (record { number = number; place = place }) ⌝ }
+fn refused(number: u64, place: usize) -> NumberRead
+    ensures { λ r. ⌜ r ≡ NumberRead.Refused (record { number = number; place = place }) ⌝ }
 {
-    Number::Refused(Refusal { number, place })
+    NumberRead::Refused(Refusal { number, place })
 }

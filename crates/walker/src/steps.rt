@@ -8,7 +8,7 @@ use frame::Message;
 use frame::Pair;
 use parser::PairRead;
 use types::Value;
-use varint::Number;
+use varint::NumberRead;
 ghost use mathlib.Core.Path.{_≡_};
 ghost use Prim.Native.Nat.{_+_, _-_, _≤_, _<_, _^_};
 ghost use Rattle.parser.specs.Pair.{movedPair};
@@ -26,10 +26,10 @@ fn behind_number(frame: &[u8], at: usize) -> usize
         return end;
     }
     match varint::decode_varint(&frame[at..]) {
-        Number::Refused(_) => {
+        NumberRead::Refused(_) => {
             return end;
         },
-        Number::Done { value: _, used } => {
+        NumberRead::Done { value: _, used } => {
             return at + used;
         },
     }

@@ -2,7 +2,7 @@
 -- Assumes nothing.
 use borrow.Author.Needs.{needs}
 use mathlib.Core.Path.{sym, ap, _∙_}
-use Rattle.varint.specs.Promise.{numberRead}
+use Rattle.varint.specs.Promise.{numberSaid}
 use Rattle.spop.proofs.Telling.{told-done, told-refused}
 use Rattle.spop.proofs.spop_decode_varint.Statement.{statement}
 use Rattle.spop.proofs.spop_decode_varint.Tie as tie
@@ -20,12 +20,12 @@ refuse-requires : tie.Need-refuse-requires
 refuse-requires c κs = search needs
 
 returns : tie.Need-returns
-returns c = told-done _ (sym (c .before .before .before .decode-alone .ensures) ∙ ap numberRead (c .before .n .given .1))
+returns c = told-done _ (sym (c .before .before .before .decode-alone .ensures) ∙ ap numberSaid (c .before .n .given .1))
 
 returns-2 : tie.Need-returns-2
 returns-2 c =
     let k = c .before .before .before in
-    told-refused _ (sym (k .before .before .decode-alone .ensures) ∙ ap numberRead (k .r .given .1)) (c .refuse .ensures)
+    told-refused _ (sym (k .before .before .decode-alone .ensures) ∙ ap numberSaid (k .r .given .1)) (c .refuse .ensures)
 
 pub spop-decode-varint-spec : {M : Type 1} → statement M
 spop-decode-varint-spec =

@@ -4,7 +4,7 @@ use mathlib.Core.Path.{sym, ap, _∙_}
 use borrow.Author.Needs.{needs}
 use Rattle.answer.specs.Answer.{Answer}
 use Rattle.types.specs.Value.{Record}
-use Rattle.types.specs.Promise.{typedRead}
+use Rattle.types.specs.Promise.{valueSaid}
 use Rattle.spop.proofs.Telling.{told-done, told-refused}
 use Rattle.spop.specs.Values.{recordIn, numbersOf}
 use Rattle.spop.proofs.spop_typed_data.Statement.{statement}
@@ -25,14 +25,14 @@ refuse-requires c κs = search needs
 returns : tie.Need-returns
 returns c =
     let a = c .before .before .before .before .before .before .args in
-    let e = sym (c .before .before .before .before .typed-data .ensures) ∙ ap typedRead (c .before .before .v .given .1) in
+    let e = sym (c .before .before .before .before .typed-data .ensures) ∙ ap valueSaid (c .before .before .v .given .1) in
     (told-done (recordIn (a .value .now)) e .0, sym (ap (λ (x : Answer Record). numbersOf x (a .value .now)) e))
 
 returns-2 : tie.Need-returns-2
 returns-2 c =
     let k = c .before .before .before in
     let a = k .before .before .before .before .args in
-    let e = sym (k .before .before .typed-data .ensures) ∙ ap typedRead (k .r .given .1) in
+    let e = sym (k .before .before .typed-data .ensures) ∙ ap valueSaid (k .r .given .1) in
     (told-refused (recordIn (a .value .now)) e (c .refuse .ensures) .0, sym (ap (λ (x : Answer Record). numbersOf x (a .value .now)) e))
 
 pub spop-typed-data-spec : {M : Type 1} → statement M

@@ -8,7 +8,7 @@ use native.Mathlib.Omega.{arith}
 use lib.ListN.{length, drop, getD, drop-of-length-le}
 use borrow.Author.Needs.{needs}
 use Rattle.varint.specs.Number.{more}
-use Rattle.varint.specs.Promise.{numberRead}
+use Rattle.varint.specs.Promise.{numberSaid}
 use Rattle.varint.proofs.Reading.{more-none}
 use Rattle.varint.proofs.Next.{fits, next-below, last, on}
 use Rattle.varint.proofs.decode_more.Statement.{statement}
@@ -43,7 +43,7 @@ returns-2 : tie.Need-returns-2 Inv-loop μ-loop
 returns-2 c =
     let k = c .before .before .before in
     let s = k .before .before .args .input .now in
-    ap numberRead (c .refused .ensures) ∙ sym (k .loop .inv .0 ∙ rw (drop-of-length-le s (c .before .if2 .taken)) (more-none _ _))
+    ap numberSaid (c .refused .ensures) ∙ sym (k .loop .inv .0 ∙ rw (drop-of-length-le s (c .before .if2 .taken)) (more-none _ _))
 
 shared-slice-read-byte : tie.Need-shared-slice-read-byte Inv-loop μ-loop
 shared-slice-read-byte c = omega arith

@@ -10,7 +10,7 @@ use lib.Seq.{drop-cons}
 use borrow.Author.Needs.{needs}
 use Rattle.answer.specs.Answer.{done, refused}
 use Rattle.varint.specs.Number.{more}
-use Rattle.varint.specs.Promise.{numberRead}
+use Rattle.varint.specs.Promise.{numberSaid}
 use Rattle.varint.proofs.Reading.{more-none, more-tenth, more-over, more-last}
 use Rattle.varint.proofs.decode_tenth.Statement.{statement}
 use Rattle.varint.proofs.decode_tenth.Tie as tie
@@ -47,7 +47,7 @@ refused-requires : tie.Need-refused-requires
 refused-requires c κs = search needs
 
 returns : tie.Need-returns
-returns c = let s = c .before .before .before .args .input .now in ap numberRead (c .refused .ensures) ∙ sym (none s _ (c .before .if1 .taken))
+returns c = let s = c .before .before .before .args .input .now in ap numberSaid (c .refused .ensures) ∙ sym (none s _ (c .before .if1 .taken))
 
 shared-slice-read-byte : tie.Need-shared-slice-read-byte
 shared-slice-read-byte c = search needs
@@ -58,7 +58,7 @@ refused-requires-2 c κs = search needs
 returns-2 : tie.Need-returns-2
 returns-2 c =
     let s = c .before .before .before .before .before .args .input .now in
-    ap numberRead (c .refused2 .ensures) ∙ sym (high s _ (c .before .before .before .if1 .left) (c .before .if2 .taken))
+    ap numberSaid (c .refused2 .ensures) ∙ sym (high s _ (c .before .before .before .if1 .left) (c .before .if2 .taken))
 
 cast-addend : tie.Need-cast-addend
 cast-addend c = search needs
@@ -72,7 +72,7 @@ refused-requires-3 c κs = search needs
 returns-3 : tie.Need-returns-3
 returns-3 c =
     let s = c .before .before .before .before .before .before .args .input .now in
-    ap numberRead (c .refused3 .ensures)
+    ap numberSaid (c .refused3 .ensures)
     ∙ sym (over s (c .before .before .before .before .before .before .args .sum) (c .before .before .before .before .if1 .left) (c .before .before .if2 .left) (omega (arith, c .before .if3 .taken)))
 
 add-t9 : tie.Need-add-t9

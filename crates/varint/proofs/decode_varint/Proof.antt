@@ -3,7 +3,7 @@
 use borrow.Author.Needs.{needs}
 use mathlib.Core.Path.{sym, ap, _∙_}
 use native.Mathlib.Omega.{arith}
-use Rattle.varint.specs.Promise.{numberRead}
+use Rattle.varint.specs.Promise.{numberSaid}
 use Rattle.varint.proofs.Next.{begins-none, begins-one, begins-on}
 use Rattle.varint.proofs.decode_varint.Statement.{statement}
 use Rattle.varint.proofs.decode_varint.Tie as tie
@@ -12,7 +12,7 @@ refused-requires : tie.Need-refused-requires
 refused-requires c κs = search needs
 
 returns : tie.Need-returns
-returns c = ap numberRead (c .refused .ensures) ∙ sym (begins-none _ (c .before .if1 .taken))
+returns c = ap numberSaid (c .refused .ensures) ∙ sym (begins-none _ (c .before .if1 .taken))
 
 shared-slice-read-first : tie.Need-shared-slice-read-first
 shared-slice-read-first c = search needs

@@ -11,7 +11,7 @@ use Rattle.parser.proofs.Pairs.{lent}
 use Rattle.agent.specs.Inner.{actionSaid}
 use Rattle.agent.proofs.Actions.{name-refused, name-done}
 use Rattle.types.specs.Value.{Span, string}
-use Rattle.types.specs.Promise.{textRead}
+use Rattle.types.specs.Promise.{stringSaid}
 use Rattle.types.proofs.Reading.{string-accepted, string-place}
 use Rattle.agent.proofs.action.read_unset.Statement.{statement}
 use Rattle.agent.proofs.action.read_unset.Tie as tie
@@ -38,13 +38,13 @@ start t = t .before .before .before
 abbrev bytes : tie.After-read-string → List ℕ
 bytes t = start t .args .input .now
 
-read : (t : tie.After-read-string) (a : Answer Span) → textRead (t .read-string .result) ≡ a → string (drop 3 (bytes t)) ≡ a
+read : (t : tie.After-read-string) (a : Answer Span) → stringSaid (t .read-string .result) ≡ a → string (drop 3 (bytes t)) ≡ a
 read t a e = lent string (bytes t) 3 (t .read-string .ensures) e
 
 add-refused-at : tie.Need-add-refused-at
 add-refused-at c =
     let t = c .before .before .before .before in
-    omega (arith, string-place _ _ _ (read t _ (ap textRead (c .before .before .r .given .1))), length-drop 3 (bytes t), start t .good, start t .pre .long)
+    omega (arith, string-place _ _ _ (read t _ (ap stringSaid (c .before .before .r .given .1))), length-drop 3 (bytes t), start t .good, start t .pre .long)
 
 refused-at-requires : tie.Need-refused-at-requires
 refused-at-requires c κs = search needs
@@ -52,7 +52,7 @@ refused-at-requires c κs = search needs
 returns : tie.Need-returns
 returns c =
     let t = c .before .before .before .before .before in
-    ap actionSaid (c .refused-at .ensures) ∙ sym (name-refused _ _ (start t .pre) _ _ (read t _ (ap textRead (c .before .before .before .r .given .1))))
+    ap actionSaid (c .refused-at .ensures) ∙ sym (name-refused _ _ (start t .pre) _ _ (read t _ (ap stringSaid (c .before .before .before .r .given .1))))
 
 enum-known-start : tie.Need-enum-known-start
 enum-known-start c = search needs
@@ -60,12 +60,12 @@ enum-known-start c = search needs
 add-t18 : tie.Need-add-t18
 add-t18 c =
     let t = c .before .before .before in
-    omega (arith, string-accepted _ _ _ _ (read t _ (ap textRead (c .before .start .given .1))) .1, length-drop 3 (bytes t), start t .good, start t .pre .long)
+    omega (arith, string-accepted _ _ _ _ (read t _ (ap stringSaid (c .before .start .given .1))) .1, length-drop 3 (bytes t), start t .good, start t .pre .long)
 
 returns-2 : tie.Need-returns-2
 returns-2 c =
     let t = c .before .before .before in
-    sym (name-done _ _ (start t .pre) _ _ _ (read t _ (ap textRead (c .before .start .given .1))))
+    sym (name-done _ _ (start t .pre) _ _ _ (read t _ (ap stringSaid (c .before .start .given .1))))
 
 pub read-unset-spec : {M : Type 1} → statement M
 read-unset-spec =

@@ -9,7 +9,7 @@ use lib.ListN.{length, drop, getD}
 use Rattle.answer.specs.Answer.{Answer, done, behind, written, leaves}
 use Rattle.answer.proofs.Cases.{not-both}
 use Rattle.types.specs.Value.{Span, span, string}
-use Rattle.types.specs.Promise.{textRead}
+use Rattle.types.specs.Promise.{stringSaid}
 use Rattle.frame.specs.Records.{messageNumbers}
 use Rattle.parser.specs.Payload.{movedSpan, stringFrom}
 use Rattle.parser.specs.Inner.{afterMessage}
@@ -50,13 +50,13 @@ bytes t = begin t .args .payload .now
 abbrev place : tie.After-read-string → ℕ
 place t = begin t .args .state .at
 
-read : (t : tie.After-read-string) (a : Answer Span) → textRead (t .read-string .result) ≡ a → string (drop (place t) (bytes t)) ≡ a
+read : (t : tie.After-read-string) (a : Answer Span) → stringSaid (t .read-string .result) ≡ a → string (drop (place t) (bytes t)) ≡ a
 read t a e = lent string (bytes t) (place t) (t .read-string .ensures) e
 
 returns : tie.Need-returns
 returns c start len end e =
     let t = c .before .before in
-    not-both e (ap (behind movedSpan (place t)) (read t _ (ap textRead (c .enum-told .given .1))))
+    not-both e (ap (behind movedSpan (place t)) (read t _ (ap stringSaid (c .enum-told .given .1))))
 
 -- the name, which is the one that stands there
 abbrev end : tie.After-known-told → ℕ
@@ -66,7 +66,7 @@ name : (k : tie.After-known-told)
     → let g = k .before .start .given .0 in
     let t = k .before .before .before in
     stringFrom (place t) (bytes t) ≡ done (span (place t + g .0) (g .1 .0)) (end k)
-name k = let t = k .before .before .before in ap (behind movedSpan (place t)) (read t _ (ap textRead (k .before .start .given .1)))
+name k = let t = k .before .before .before in ap (behind movedSpan (place t)) (read t _ (ap stringSaid (k .before .start .given .1)))
 
 inside : (k : tie.After-known-told) → let t = k .before .before .before in (end k < length (bytes t)) × (place t + k .before .start .given .0 .0 ≤ end k)
 inside k =

@@ -8,7 +8,7 @@ use native.Mathlib.Omega.{arith}
 use lib.ListN.{length, drop, length-drop}
 use Rattle.answer.specs.Answer.{Answer}
 use Rattle.varint.specs.Number.{number}
-use Rattle.varint.specs.Promise.{numberRead}
+use Rattle.varint.specs.Promise.{numberSaid}
 use Rattle.varint.proofs.Reading.{accepted, number-place}
 use Rattle.parser.specs.Inner.{metadataSaid}
 use Rattle.parser.proofs.Pairs.{lent}
@@ -38,13 +38,13 @@ start t = t .before .before .before
 abbrev bytes : tie.After-decode-varint → List ℕ
 bytes t = start t .args .f .now
 
-read : (t : tie.After-decode-varint) (a : Answer ℕ) → numberRead (t .decode-varint .result) ≡ a → number (drop 9 (bytes t)) ≡ a
+read : (t : tie.After-decode-varint) (a : Answer ℕ) → numberSaid (t .decode-varint .result) ≡ a → number (drop 9 (bytes t)) ≡ a
 read t a e = lent number (bytes t) 9 (t .decode-varint .ensures) e
 
 add-refused-at : tie.Need-add-refused-at
 add-refused-at c =
     let t = c .before .before .before .before in
-    omega (arith, number-place _ _ _ (read t _ (ap numberRead (c .before .before .r .given .1))), length-drop 9 (bytes t), start t .pre, start t .good)
+    omega (arith, number-place _ _ _ (read t _ (ap numberSaid (c .before .before .r .given .1))), length-drop 9 (bytes t), start t .pre, start t .good)
 
 refused-at-requires : tie.Need-refused-at-requires
 refused-at-requires c κs = search needs
@@ -53,7 +53,7 @@ returns : tie.Need-returns
 returns c =
     let k = c .before in
     let t = k .before .before .before .before in
-    ap metadataSaid (c .refused-at .ensures) ∙ sym (ids-refused _ _ _ _ _ _ (read t _ (ap numberRead (k .before .before .r .given .1))))
+    ap metadataSaid (c .refused-at .ensures) ∙ sym (ids-refused _ _ _ _ _ _ (read t _ (ap numberSaid (k .before .before .r .given .1))))
 
 enum-known-value : tie.Need-enum-known-value
 enum-known-value c = search needs
@@ -61,18 +61,18 @@ enum-known-value c = search needs
 add-read-last : tie.Need-add-read-last
 add-read-last c =
     let t = c .before .before .before in
-    omega (arith, accepted _ _ _ (read t _ (ap numberRead (c .before .value .given .1))) .2, length-drop 9 (bytes t), start t .pre, start t .good)
+    omega (arith, accepted _ _ _ (read t _ (ap numberSaid (c .before .value .given .1))) .2, length-drop 9 (bytes t), start t .pre, start t .good)
 
 read-last-requires : tie.Need-read-last-requires
 read-last-requires c κs =
     let t = c .before .before .before in
-    omega (arith, accepted _ _ _ (read t _ (ap numberRead (c .before .value .given .1))) .2, length-drop 9 (bytes t), start t .pre)
+    omega (arith, accepted _ _ _ (read t _ (ap numberSaid (c .before .value .given .1))) .2, length-drop 9 (bytes t), start t .pre)
 
 returns-2 : tie.Need-returns-2
 returns-2 c =
     let k = c .before in
     let t = k .before .before .before in
-    c .read-last .ensures ∙ sym (ids-on _ _ _ _ _ _ (read t _ (ap numberRead (k .before .value .given .1))))
+    c .read-last .ensures ∙ sym (ids-on _ _ _ _ _ _ (read t _ (ap numberSaid (k .before .value .given .1))))
 
 pub read-ids-spec : {M : Type 1} → statement M
 read-ids-spec =

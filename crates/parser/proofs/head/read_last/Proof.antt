@@ -8,7 +8,7 @@ use native.Mathlib.Omega.{arith}
 use lib.ListN.{length, drop, length-drop}
 use Rattle.answer.specs.Answer.{Answer}
 use Rattle.varint.specs.Number.{number}
-use Rattle.varint.specs.Promise.{numberRead}
+use Rattle.varint.specs.Promise.{numberSaid}
 use Rattle.varint.proofs.Reading.{accepted, number-place}
 use Rattle.parser.specs.Inner.{metadataSaid}
 use Rattle.parser.proofs.Pairs.{lent}
@@ -38,13 +38,13 @@ start t = t .before .before .before
 abbrev bytes : tie.After-decode-varint → List ℕ
 bytes t = start t .args .f .now
 
-read : (t : tie.After-decode-varint) (a : Answer ℕ) → numberRead (t .decode-varint .result) ≡ a → number (drop (start t .args .at) (bytes t)) ≡ a
+read : (t : tie.After-decode-varint) (a : Answer ℕ) → numberSaid (t .decode-varint .result) ≡ a → number (drop (start t .args .at) (bytes t)) ≡ a
 read t a e = lent number (bytes t) (start t .args .at) (t .decode-varint .ensures) e
 
 add-refused-at : tie.Need-add-refused-at
 add-refused-at c =
     let t = c .before .before .before .before in
-    omega (arith, number-place _ _ _ (read t _ (ap numberRead (c .before .before .r .given .1))), length-drop (start t .args .at) (bytes t), start t .pre, start t .good)
+    omega (arith, number-place _ _ _ (read t _ (ap numberSaid (c .before .before .r .given .1))), length-drop (start t .args .at) (bytes t), start t .pre, start t .good)
 
 refused-at-requires : tie.Need-refused-at-requires
 refused-at-requires c κs = search needs
@@ -53,7 +53,7 @@ returns : tie.Need-returns
 returns c =
     let k = c .before in
     let t = k .before .before .before .before in
-    ap metadataSaid (c .refused-at .ensures) ∙ sym (last-refused _ _ _ _ _ _ _ _ (read t _ (ap numberRead (k .before .before .r .given .1))))
+    ap metadataSaid (c .refused-at .ensures) ∙ sym (last-refused _ _ _ _ _ _ _ _ (read t _ (ap numberSaid (k .before .before .r .given .1))))
 
 enum-known-value : tie.Need-enum-known-value
 enum-known-value c = search needs
@@ -65,13 +65,13 @@ add-t18 : tie.Need-add-t18
 add-t18 c =
     let k = c .before .before in
     let t = k .before .before .before in
-    omega (arith, accepted _ _ _ (read t _ (ap numberRead (k .before .value .given .1))) .2, length-drop (start t .args .at) (bytes t), start t .pre, start t .good)
+    omega (arith, accepted _ _ _ (read t _ (ap numberSaid (k .before .value .given .1))) .2, length-drop (start t .args .at) (bytes t), start t .pre, start t .good)
 
 returns-2 : tie.Need-returns-2
 returns-2 c =
     let k = c .before .before in
     let t = k .before .before .before in
-    sym (last-done _ _ _ _ _ _ _ _ (read t _ (ap numberRead (k .before .value .given .1))) (sym (c .before .sent-by .ensures) ∙ c .if1 .taken))
+    sym (last-done _ _ _ _ _ _ _ _ (read t _ (ap numberSaid (k .before .value .given .1))) (sym (c .before .sent-by .ensures) ∙ c .if1 .taken))
 
 refused-at-requires-2 : tie.Need-refused-at-requires-2
 refused-at-requires-2 c κs = search needs
@@ -81,7 +81,7 @@ returns-3 c =
     let k = c .before .before .before in
     let t = k .before .before .before in
     ap metadataSaid (c .refused-at2 .ensures)
-    ∙ sym (last-other _ _ _ _ _ _ _ _ (read t _ (ap numberRead (k .before .value .given .1))) (sym (c .before .before .sent-by .ensures) ∙ c .before .if1 .left))
+    ∙ sym (last-other _ _ _ _ _ _ _ _ (read t _ (ap numberSaid (k .before .value .given .1))) (sym (c .before .before .sent-by .ensures) ∙ c .before .if1 .left))
 
 pub read-last-spec : {M : Type 1} → statement M
 read-last-spec =

@@ -8,7 +8,7 @@ use native.Mathlib.Omega.{arith}
 use lib.ListN.{length, drop, getD, length-drop}
 use Rattle.answer.specs.Answer.{Answer, done, refused, behind}
 use Rattle.types.specs.Value.{Span, span, string}
-use Rattle.types.specs.Promise.{textRead}
+use Rattle.types.specs.Promise.{stringSaid}
 use Rattle.types.proofs.Reading.{string-place, string-accepted}
 use Rattle.parser.specs.Payload.{Contents, withMessage, movedSpan, stringFrom}
 use Rattle.parser.proofs.Pairs.{lent}
@@ -41,13 +41,13 @@ bytes t = start t .args .payload .now
 abbrev place : tie.After-read-string → ℕ
 place t = start t .args .state .at
 
-read : (t : tie.After-read-string) (a : Answer Span) → textRead (t .read-string .result) ≡ a → string (drop (place t) (bytes t)) ≡ a
+read : (t : tie.After-read-string) (a : Answer Span) → stringSaid (t .read-string .result) ≡ a → string (drop (place t) (bytes t)) ≡ a
 read t a e = lent string (bytes t) (place t) (t .read-string .ensures) e
 
 add-refused-at : tie.Need-add-refused-at
 add-refused-at c =
     let t = c .before .before .before .before in
-    omega (arith, string-place _ _ _ (read t _ (ap textRead (c .before .before .r .given .1))), length-drop (place t) (bytes t), start t .pre, start t .good)
+    omega (arith, string-place _ _ _ (read t _ (ap stringSaid (c .before .before .r .given .1))), length-drop (place t) (bytes t), start t .pre, start t .good)
 
 refused-at-requires : tie.Need-refused-at-requires
 refused-at-requires c κs = search needs
@@ -57,7 +57,7 @@ returns c d st list =
     let k = c .before in
     let t = k .before .before .before .before in
     rw (c .refused-at .ensures)
-    (message-refused _ _ d _ _ _ (ap (behind movedSpan (place t)) (read t _ (ap textRead (k .before .before .r .given .1)))))
+    (message-refused _ _ d _ _ _ (ap (behind movedSpan (place t)) (read t _ (ap stringSaid (k .before .before .r .given .1)))))
 
 enum-known-used : tie.Need-enum-known-used
 enum-known-used c = search needs
@@ -70,12 +70,12 @@ name : (k : tie.After-known-told2)
     → let g = k .before .used .given .0 in
     let t = k .before .before .before in
     stringFrom (place t) (bytes t) ≡ done (span (place t + g .0) (g .1 .0)) (end k)
-name k = let t = k .before .before .before in ap (behind movedSpan (place t)) (read t _ (ap textRead (k .before .used .given .1)))
+name k = let t = k .before .before .before in ap (behind movedSpan (place t)) (read t _ (ap stringSaid (k .before .used .given .1)))
 
 inside : (k : tie.After-known-told2) → end k ≤ length (bytes (k .before .before .before))
 inside k =
     let t = k .before .before .before in
-    omega (arith, string-accepted _ _ _ _ (read t _ (ap textRead (k .before .used .given .1))) .1, length-drop (place t) (bytes t), start t .pre)
+    omega (arith, string-accepted _ _ _ _ (read t _ (ap stringSaid (k .before .used .given .1))) .1, length-drop (place t) (bytes t), start t .pre)
 
 add-end : tie.Need-add-end
 add-end c = omega (arith, inside c, start (c .before .before .before) .good)

@@ -3,7 +3,7 @@
 use borrow.Author.Needs.{needs}
 use mathlib.Core.Path.{sym, ap, _∙_}
 use Rattle.answer.proofs.Cases.{not-both}
-use Rattle.types.specs.Promise.{textRead}
+use Rattle.types.specs.Promise.{stringSaid}
 use Rattle.parser.proofs.Pairs.{refused-as}
 use Rattle.parser.proofs.pair.key_refused.Statement.{statement}
 use Rattle.parser.proofs.pair.key_refused.Tie as tie
@@ -15,10 +15,10 @@ enum-told : tie.Need-enum-told
 enum-told c = search needs
 
 returns : tie.Need-returns
-returns c number place e = refused-as (sym (ap textRead (c .before .key .given .1)) ∙ e)
+returns c number place e = refused-as (sym (ap stringSaid (c .before .key .given .1)) ∙ e)
 
 returns-2 : tie.Need-returns-2
-returns-2 c number place e = not-both (ap textRead (c .enum-told .given .1)) e
+returns-2 c number place e = not-both (ap stringSaid (c .enum-told .given .1)) e
 
 pub key-refused-spec : {M : Type 1} → statement M
 key-refused-spec = tie.close (tie.spec enum-known-key enum-told returns returns-2)

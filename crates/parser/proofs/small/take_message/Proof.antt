@@ -8,7 +8,7 @@ use native.Mathlib.Omega.{arith}
 use lib.ListN.{length, drop, getD, length-drop}
 use Rattle.answer.specs.Answer.{Answer, done, behind, written, leaves}
 use Rattle.types.specs.Value.{Span, span, string}
-use Rattle.types.specs.Promise.{textRead}
+use Rattle.types.specs.Promise.{stringSaid}
 use Rattle.types.proofs.Reading.{string-place, string-accepted}
 use Rattle.frame.specs.Records.{messageNumbers}
 use Rattle.parser.specs.Payload.{withMessage, movedSpan, stringFrom}
@@ -42,13 +42,13 @@ bytes t = begin t .args .payload .now
 abbrev place : tie.After-read-string → ℕ
 place t = begin t .args .state .at
 
-read : (t : tie.After-read-string) (a : Answer Span) → textRead (t .read-string .result) ≡ a → string (drop (place t) (bytes t)) ≡ a
+read : (t : tie.After-read-string) (a : Answer Span) → stringSaid (t .read-string .result) ≡ a → string (drop (place t) (bytes t)) ≡ a
 read t a e = lent string (bytes t) (place t) (t .read-string .ensures) e
 
 add-refused-at : tie.Need-add-refused-at
 add-refused-at c =
     let t = c .before .before .before .before in
-    omega (arith, string-place _ _ _ (read t _ (ap textRead (c .before .before .r .given .1))), length-drop (place t) (bytes t), begin t .pre .0, begin t .good)
+    omega (arith, string-place _ _ _ (read t _ (ap stringSaid (c .before .before .r .given .1))), length-drop (place t) (bytes t), begin t .pre .0, begin t .good)
 
 refused-at-requires : tie.Need-refused-at-requires
 refused-at-requires c κs = search needs
@@ -57,7 +57,7 @@ returns : tie.Need-returns
 returns c =
     let k = c .before in
     let t = k .before .before .before .before in (
-      λ d st. rw (c .refused-at .ensures) (message-refused _ _ d _ _ _ (ap (behind movedSpan (place t)) (read t _ (ap textRead (k .before .before .r .given .1))))),
+      λ d st. rw (c .refused-at .ensures) (message-refused _ _ d _ _ _ (ap (behind movedSpan (place t)) (read t _ (ap stringSaid (k .before .before .r .given .1))))),
       λ y e start len end f. step-apart (sym e ∙ c .refused-at .ensures),
     )
 
@@ -72,13 +72,13 @@ name : (k : tie.After-known-told2)
     → let g = k .before .start .given .0 in
     let t = k .before .before .before in
     stringFrom (place t) (bytes t) ≡ done (span (place t + g .0) (g .1 .0)) (end k)
-name k = let t = k .before .before .before in ap (behind movedSpan (place t)) (read t _ (ap textRead (k .before .start .given .1)))
+name k = let t = k .before .before .before in ap (behind movedSpan (place t)) (read t _ (ap stringSaid (k .before .start .given .1)))
 
 inside : (k : tie.After-known-told2) → let t = k .before .before .before in (end k ≤ length (bytes t)) × (place t + k .before .start .given .0 .0 ≤ end k)
 inside k =
     let t = k .before .before .before in
     let g = k .before .start .given .0 in
-    omega (arith, string-accepted (drop (place t) (bytes t)) (g .0) (g .1 .0) (g .1 .1 .0) (read t _ (ap textRead (k .before .start .given .1))), length-drop (place t) (bytes t), begin t .pre .0)
+    omega (arith, string-accepted (drop (place t) (bytes t)) (g .0) (g .1 .0) (g .1 .1 .0) (read t _ (ap stringSaid (k .before .start .given .1))), length-drop (place t) (bytes t), begin t .pre .0)
 
 add-end : tie.Need-add-end
 add-end c = omega (arith, inside c, begin (c .before .before .before) .good)

@@ -9,7 +9,7 @@ use lib.ListN.{length, take, drop}
 use Rattle.answer.specs.Answer.{Answer, done, behind}
 use Rattle.answer.proofs.Cases.{not-both}
 use Rattle.types.specs.Value.{Span, span}
-use Rattle.types.specs.Promise.{textRead}
+use Rattle.types.specs.Promise.{stringSaid}
 use Rattle.frame.specs.declared.Pair.{Pair}
 use Rattle.parser.specs.Payload.{movedSpan, stringFrom}
 use Rattle.parser.proofs.Walk.{string-next}
@@ -86,7 +86,7 @@ two t = t .before .before
 abbrev place : tie.After-name-at Inv-loop μ-loop → ℕ
 place t = turn (two t) .loop .x .at
 
-read : (t : tie.After-name-at Inv-loop μ-loop) (a : Answer Span) → textRead (t .name-at .result) ≡ a → stringFrom (place t) (bytes (turn (two t))) ≡ behind movedSpan (place t) a
+read : (t : tie.After-name-at Inv-loop μ-loop) (a : Answer Span) → stringSaid (t .name-at .result) ≡ a → stringFrom (place t) (bytes (turn (two t))) ≡ behind movedSpan (place t) a
 read t a e = ap (behind movedSpan (place t)) (sym (t .name-at .ensures) ∙ e)
 
 same-length-3 : tie.Need-same-length-3 Inv-loop μ-loop
@@ -95,7 +95,7 @@ same-length-3 c = turn (two (c .before .before)) .loop .inv .0
 returns-3 : tie.Need-returns-3 Inv-loop μ-loop
 returns-3 c ps goal f =
     let t = c .before .before in
-    not-both (next (two t) ps goal f .there .name) (read t _ (ap textRead (c .enum-told .given .1)))
+    not-both (next (two t) ps goal f .there .name) (read t _ (ap stringSaid (c .enum-told .given .1)))
 
 -- it was read
 abbrev named : tie.After-known-told Inv-loop μ-loop → tie.After-name-at Inv-loop μ-loop
@@ -107,7 +107,7 @@ count-at k = place (named k) + k .before .start .given .0 .1 .1 .0
 name : (k : tie.After-known-told Inv-loop μ-loop)
     → let g = k .before .start .given .0 in
     stringFrom (place (named k)) (bytes (turn (two (named k)))) ≡ done (span (place (named k) + g .0) (g .1 .0)) (count-at k)
-name k = read (named k) _ (ap textRead (k .before .start .given .1))
+name k = read (named k) _ (ap stringSaid (k .before .start .given .1))
 
 inside : (k : tie.After-known-told Inv-loop μ-loop) → (place (named k) + k .before .start .given .0 .0 ≤ count-at k) × (count-at k ≤ length (bytes (turn (two (named k)))))
 inside k =

@@ -3,7 +3,7 @@
 use borrow.Author.Needs.{needs}
 use mathlib.Core.Path.{_≡_, ap, _∙_}
 use native.Mathlib.Omega.{arith}
-use Rattle.varint.specs.Promise.{numberRead}
+use Rattle.varint.specs.Promise.{numberSaid}
 use Rattle.types.proofs.Behind.{none-bound, some-bound, number-none, integer-some, text-some}
 use Rattle.types.proofs.Shapes.{shape-integer, numbered-integer, numbered-text}
 use Rattle.types.proofs.read.read_number.Statement.{statement}
@@ -27,12 +27,12 @@ enum-known-r c = search needs
 add-place : tie.Need-add-place
 add-place c = let k = c .before .before .before .before in
     let a = k .before .before .before in
-    omega (arith, none-bound (a .args .input .now) (a .pre .0) (k .decode-varint .ensures) _ _ (ap numberRead (c .before .before .r .given .1)))
+    omega (arith, none-bound (a .args .input .now) (a .pre .0) (k .decode-varint .ensures) _ _ (ap numberSaid (c .before .before .r .given .1)))
 
 returns : tie.Need-returns
 returns c = let k = c .before .before .before .before in
     let a = k .before .before .before in
-    number-none (a .args .input .now) (a .pre .0) (k .decode-varint .ensures) (a .args .kind) (a .args .flags) (a .pre .1) _ _ (ap numberRead (c .before .before .r .given .1))
+    number-none (a .args .input .now) (a .pre .0) (k .decode-varint .ensures) (a .args .kind) (a .args .flags) (a .pre .1) _ _ (ap numberSaid (c .before .before .r .given .1))
 
 enum-known-value : tie.Need-enum-known-value
 enum-known-value c = search needs
@@ -40,7 +40,7 @@ enum-known-value c = search needs
 add-taken : tie.Need-add-taken
 add-taken c = let k = c .before .before .before in
     let a = k .before .before .before in
-    omega (arith, some-bound (a .args .input .now) (a .pre .0) (k .decode-varint .ensures) _ _ (ap numberRead (c .before .value .given .1)))
+    omega (arith, some-bound (a .args .input .now) (a .pre .0) (k .decode-varint .ensures) _ _ (ap numberSaid (c .before .value .given .1)))
 
 integer-value-requires : tie.Need-integer-value-requires
 integer-value-requires c κs = let a = c .before .before .before .before .before .before .before in
@@ -52,12 +52,12 @@ returns-2 c = let t = c .before in
     let a = k .before .before .before in
     shape-integer (a .args .kind) (numbered-integer (a .args .kind) (a .pre .1) (t .if1 .taken)) (t .if1 .taken)
     (λ w row. c .integer-value .ensures w row
-    ∙ integer-some (a .args .input .now) (a .pre .0) (k .decode-varint .ensures) (a .args .kind) (a .args .flags) w row _ _ (ap numberRead (t .before .before .value .given .1)))
+    ∙ integer-some (a .args .input .now) (a .pre .0) (k .decode-varint .ensures) (a .args .kind) (a .args .flags) w row _ _ (ap numberSaid (t .before .before .value .given .1)))
 
 bytes-value-requires : tie.Need-bytes-value-requires
 bytes-value-requires c κs = let k = c .before .before .before .before in
     let a = k .before .before .before in
-    some-bound (a .args .input .now) (a .pre .0) (k .decode-varint .ensures) _ _ (ap numberRead (c .before .before .value .given .1))
+    some-bound (a .args .input .now) (a .pre .0) (k .decode-varint .ensures) _ _ (ap numberSaid (c .before .before .value .given .1))
 
 returns-3 : tie.Need-returns-3
 returns-3 c = let t = c .before in
@@ -65,7 +65,7 @@ returns-3 c = let t = c .before in
     let a = k .before .before .before in
     c .bytes-value .ensures
     ∙ text-some (a .args .input .now) (a .pre .0) (k .decode-varint .ensures) (a .args .kind) (a .args .flags) (numbered-text (a .args .kind) (a .pre .1) (t .if1 .left)) _ _
-    (ap numberRead (t .before .before .value .given .1))
+    (ap numberSaid (t .before .before .value .given .1))
 
 pub read-number-spec : {M : Type 1} → statement M
 read-number-spec =

@@ -5,7 +5,7 @@ use mathlib.Core.Path.{_≡_, sym, ap, _∙_}
 use native.Mathlib.Omega.{arith}
 use Rattle.answer.specs.Answer.{done}
 use Rattle.varint.specs.Number.{number}
-use Rattle.varint.specs.Promise.{numberRead}
+use Rattle.varint.specs.Promise.{numberSaid}
 use Rattle.varint.proofs.Reading.{accepted}
 use Rattle.types.proofs.Reading.{string-refused, string-whole, string-short}
 use Rattle.types.proofs.read.read_string.Statement.{statement}
@@ -19,14 +19,14 @@ enum-known-r c = search needs
 
 returns : tie.Need-returns
 returns c = let s = c .before .before .before .before .before .args .input .now in
-    sym (string-refused s _ _ (sym (ap numberRead (sym (c .before .r .given .1)) ∙ c .before .before .before .decode-varint .ensures)))
+    sym (string-refused s _ _ (sym (ap numberSaid (sym (c .before .r .given .1)) ∙ c .before .before .before .decode-varint .ensures)))
 
 enum-known-value : tie.Need-enum-known-value
 enum-known-value c = search needs
 
 -- what the number is, where one was read
 read : (c : tie.After-known-told2) → number (c .before .before .before .before .before .args .input .now) ≡ done (c .before .value .given .0 .0) (c .before .value .given .0 .1 .0)
-read c = sym (ap numberRead (sym (c .before .value .given .1)) ∙ c .before .before .before .decode-varint .ensures)
+read c = sym (ap numberSaid (sym (c .before .value .given .1)) ∙ c .before .before .before .decode-varint .ensures)
 
 sub-if1 : tie.Need-sub-if1
 sub-if1 c = accepted _ _ _ (read c) .2

@@ -8,7 +8,7 @@ use native.Mathlib.Omega.{arith}
 use lib.ListN.{length, drop, length-drop}
 use Rattle.answer.specs.Answer.{Answer, behind}
 use Rattle.varint.specs.Number.{number}
-use Rattle.varint.specs.Promise.{numberRead}
+use Rattle.varint.specs.Promise.{numberSaid}
 use Rattle.varint.proofs.Reading.{accepted}
 use Rattle.parser.specs.Frame.{same}
 use Rattle.parser.proofs.Pairs.{lent}
@@ -42,15 +42,15 @@ start t = t .before .before .before .before
 abbrev bytes : tie.After-decode-varint → List ℕ
 bytes t = start t .args .frame .now
 
-read : (t : tie.After-decode-varint) (a : Answer ℕ) → numberRead (t .decode-varint .result) ≡ a → number (drop (start t .args .at) (bytes t)) ≡ a
+read : (t : tie.After-decode-varint) (a : Answer ℕ) → numberSaid (t .decode-varint .result) ≡ a → number (drop (start t .args .at) (bytes t)) ≡ a
 read t a e = lent number (bytes t) (start t .args .at) (t .decode-varint .ensures) e
 
-ends : (t : tie.After-decode-varint) (a : Answer ℕ) → numberRead (t .decode-varint .result) ≡ a
+ends : (t : tie.After-decode-varint) (a : Answer ℕ) → numberSaid (t .decode-varint .result) ≡ a
     → endOr (length (bytes t)) (behind same (start t .args .at) a) ≡ endOr (length (bytes t)) (behind same (start t .args .at) (number (drop (start t .args .at) (bytes t))))
 ends t a e = ap (λ (x : Answer ℕ). endOr (length (bytes t)) (behind same (start t .args .at) x)) (sym (read t a e))
 
 returns-2 : tie.Need-returns-2
-returns-2 c = ends (c .before .before) _ (ap numberRead (c .enum-told .given .1))
+returns-2 c = ends (c .before .before) _ (ap numberSaid (c .enum-told .given .1))
 
 enum-known-used : tie.Need-enum-known-used
 enum-known-used c = search needs
@@ -58,10 +58,10 @@ enum-known-used c = search needs
 add-result : tie.Need-add-result
 add-result c =
     let t = c .before .before .before in
-    omega (arith, accepted _ _ _ (read t _ (ap numberRead (c .before .used .given .1))) .2, length-drop (start t .args .at) (bytes t), t .before .before .if1 .left, start t .good)
+    omega (arith, accepted _ _ _ (read t _ (ap numberSaid (c .before .used .given .1))) .2, length-drop (start t .args .at) (bytes t), t .before .before .if1 .left, start t .good)
 
 returns-3 : tie.Need-returns-3
-returns-3 c = ends (c .before .before .before) _ (ap numberRead (c .before .used .given .1))
+returns-3 c = ends (c .before .before .before) _ (ap numberSaid (c .before .used .given .1))
 
 pub behind-number-spec : {M : Type 1} → statement M
 behind-number-spec =
