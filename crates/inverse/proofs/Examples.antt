@@ -9,7 +9,7 @@ use Rattle.answer.specs.Answer.{Answer, refused, next, written}
 use Rattle.answer.specs.Order.{inOrder, firstRefused}
 use Rattle.answer.specs.Table.{records, joined, some}
 use Rattle.varint.specs.Number.{more, number, groups, numberBytes}
-use Rattle.utf8.specs.Text.{rows, follow, inRange, front, rowFor, step, bySteps, isUtf8, lossy, same, sameText}
+use Rattle.utf8.specs.Text.{rows, follow, inRange, matching, rowFor, step, bySteps, isUtf8, lossy, sameBytes, sameText}
 use Rattle.types.specs.Value.{string, typed, shape, signExtended}
 use Rattle.types.specs.Form.{stringBytes, valueBytes}
 use Rattle.frame.specs.Head.{fourBytes, fourNumber, headBytes, frameBytes}
@@ -80,7 +80,7 @@ pub examples : (again list ≡ written list) × (again messages ≡ written mess
     × (again (one 12 (0x08 ∷ 0x01 ∷ 0xFF ∷ [])) ≡ refused 15 0)
     × (again (one 10 (0x31 ∷ [])) ≡ written (one 10 (0x11 ∷ [])))
     × (again (one 15 (0x03 ∷ 0xF7 ∷ 0xF1 ∷ 0xFE ∷ 0xFE ∷ 0x7E ∷ [])) ≡ written (one 11 (0x03 ∷ 0x07 ∷ [])))
-unfolding more number groups numberBytes rows follow inRange front rowFor step bySteps isUtf8 lossy same sameText string typed shape signExtended inOrder some
+unfolding more number groups numberBytes rows follow inRange matching rowFor step bySteps isUtf8 lossy sameBytes sameText string typed shape signExtended inOrder some
     firstRefused records joined stringBytes valueBytes fourBytes fourNumber headBytes frameBytes messageAt pairAt pair onePair oneMessage toEnd payload lastId ids
     metadata whole frontOf frameRead pairBytes pairRefusal newKey kvRefusal nameBytes messageBytes messageRefusal limited kvAllowed kvAnswer notifyAnswer
 examples = (refl, refl, refl, refl, refl)
@@ -90,7 +90,7 @@ examples = (refl, refl, refl, refl, refl)
 pub sent-examples : (sentAgain two ≡ written two) × (sentAgain (leave 0) ≡ written (leave 0)) × (sentAgain (leave 1) ≡ refused 14 0)
     × (sentAgain (ack 12 (0x02 ∷ 0x02 ∷ 0x00 ∷ 0x01 ∷ 0xFF ∷ [])) ≡ refused 15 0)
     × (sentAgain (ack 13 (0x01 ∷ 0x03 ∷ 0x00 ∷ 0x01 ∷ 0x61 ∷ 0x31 ∷ [])) ≡ written (ack 13 (0x01 ∷ 0x03 ∷ 0x00 ∷ 0x01 ∷ 0x61 ∷ 0x11 ∷ [])))
-unfolding more number groups numberBytes rows follow inRange front rowFor step bySteps isUtf8 lossy same sameText string typed shape signExtended inOrder some
+unfolding more number groups numberBytes rows follow inRange matching rowFor step bySteps isUtf8 lossy sameBytes sameText string typed shape signExtended inOrder some
     firstRefused records joined stringBytes valueBytes fourBytes fourNumber headBytes frameBytes pairAt actionAt pair onePair toEnd payload variable action oneAction
     actionsToEnd actions lastId ids metadata whole frontOf pairBytes pairRefusal newKey kvRefusal actionBytes actionWritable actionRefusal limited kvAllowed kvAnswer actionsAnswer
 sent-examples = (refl, refl, refl, refl, refl)

@@ -10,7 +10,7 @@ use Rattle.answer.specs.Answer.{Answer, done, refused, written}
 use Rattle.answer.specs.Order.{inOrder, firstRefused}
 use Rattle.answer.specs.Table.{records, joined, some}
 use Rattle.varint.specs.Number.{more, number, groups, numberBytes}
-use Rattle.utf8.specs.Text.{rows, follow, inRange, front, rowFor, step, bySteps, isUtf8, lossy, same, sameText}
+use Rattle.utf8.specs.Text.{rows, follow, inRange, matching, rowFor, step, bySteps, isUtf8, lossy, sameBytes, sameText}
 use Rattle.types.specs.Value.{Record, value, string, typed, shape, signExtended}
 use Rattle.types.specs.Form.{stringBytes, valueBytes}
 use Rattle.frame.specs.declared.Head.{Head}
@@ -209,7 +209,7 @@ examples =
 
 pub marked : All examples
 unfolding more number groups numberBytes string typed shape signExtended fourNumber inOrder some
-    rows follow inRange front rowFor step bySteps lossy same sameText
+    rows follow inRange matching rowFor step bySteps lossy sameBytes sameText
     pair onePair oneMessage toEnd payload lastId ids metadata whole frameFront frameRead frameSize
     isUtf8 firstRefused records joined stringBytes valueBytes fourBytes headBytes frameBytes messageAt pairAt pairBytes pairRefusal newKey kvRefusal
     nameBytes messageBytes messageRefusal limited kvAllowed kvAnswer notifyAnswer

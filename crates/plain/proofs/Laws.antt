@@ -14,7 +14,7 @@ use Rattle.answer.specs.Answer.{Answer, done, refused, written, leaves}
 use Rattle.answer.proofs.Cases.{lt-or-le}
 use Rattle.answer.proofs.Output.{leaves-length, writes-done}
 use Rattle.answer.proofs.Parts.{room-refused, room-leaves}
-use Rattle.utf8.specs.Text.{lossy, same}
+use Rattle.utf8.specs.Text.{lossy, sameBytes}
 use Rattle.utf8.specs.Promise.{LossyText}
 use Rattle.utf8.proofs.Same.{same-refl, same-next, same-stop, same-length}
 use Rattle.plain.specs.declared.Compared.the-variants as c
@@ -83,10 +83,10 @@ module _ (a b aOld bOld : List ℕ) where
 
 -- the first i bytes of both texts are the same: so the rests decide
 abbrev pub SameTo : List ℕ → List ℕ → ℕ → Type 0
-SameTo a b i = same (lossy a) (lossy b) ≡ same (drop i (lossy a)) (drop i (lossy b))
+SameTo a b i = sameBytes (lossy a) (lossy b) ≡ sameBytes (drop i (lossy a)) (drop i (lossy b))
 
 module _ {a aOld aNew b bOld bNew : List ℕ} {m n : ℕ} (p : Stands a aOld aNew m) (q : Stands b bOld bNew n) where
-  answered : {r : Bool} → r ≡ same (lossy a) (lossy b) → SameTextPlain a b (c.Done r) aOld aNew bOld bNew
+  answered : {r : Bool} → r ≡ sameBytes (lossy a) (lossy b) → SameTextPlain a b (c.Done r) aOld aNew bOld bNew
   answered e =
       record {
         says = ap (λ (x : Bool). done x 0) e ∙ sym (both-fit a b aOld bOld _ (p .fits) (q .fits));

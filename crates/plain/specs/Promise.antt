@@ -6,7 +6,7 @@ use Prim.Native.Nat.{ℕ}
 use lib.Dec.{leb}
 use lib.ListN.{length}
 use Rattle.answer.specs.Answer.{Answer, done, refused, written, leaves}
-use Rattle.utf8.specs.Text.{lossy, same}
+use Rattle.utf8.specs.Text.{lossy, sameBytes}
 use Rattle.plain.specs.declared.Compared.{Compared}
 use Rattle.plain.specs.declared.Compared.the-variants as c
 
@@ -23,7 +23,7 @@ module _ (a b aOld bOld : List ℕ) where
 
   -- whether both texts have the same bytes
   abbrev pub comparison : Answer Bool
-  comparison = fitting (done (same (lossy a) (lossy b)) 0)
+  comparison = fitting (done (sameBytes (lossy a) (lossy b)) 0)
 
 -- Each buffer, old before, is new afterwards: it has its text at the front, or where one of the two has no room it is as it was.
 pub record TextsLeft (a b aOld aNew bOld bNew : List ℕ) : Type 0 where

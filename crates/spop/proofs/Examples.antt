@@ -11,7 +11,7 @@ use Rattle.answer.specs.Order.{inOrder, firstRefused}
 use Rattle.answer.specs.Table.{records, joined, some}
 use Rattle.answer.proofs.Output.{writes-whole}
 use Rattle.varint.specs.Number.{groups, numberBytes}
-use Rattle.utf8.specs.Text.{rows, follow, inRange, front, rowFor, step, bySteps, isUtf8, lossy, same, sameText}
+use Rattle.utf8.specs.Text.{rows, follow, inRange, matching, rowFor, step, bySteps, isUtf8, lossy, sameBytes, sameText}
 use Rattle.types.specs.Value.{shape}
 use Rattle.types.proofs.Roundtrip.{means}
 use Rattle.types.specs.Form.{stringBytes, valueBytes}
@@ -39,7 +39,7 @@ pairs-frame =
     0 ∷ 0 ∷ 0 ∷ 18 ∷ 2 ∷ 0 ∷ 0 ∷ 0 ∷ 1 ∷ 0 ∷ 0 ∷ 0x01 ∷ 0x41 ∷ 0x23 ∷ 0x07 ∷ 0x01 ∷ 0x42 ∷ 0x08 ∷ 0x03 ∷ 0x32 ∷ 0x2E ∷ 0x30 ∷ []
 
 pub pairs-written : kvAnswer (headOf 2 true false 0 0) 18 text two 2 ≡ done pairs-frame 22
-unfolding groups numberBytes rows follow inRange front rowFor step bySteps isUtf8 lossy same sameText shape inOrder some firstRefused records joined
+unfolding groups numberBytes rows follow inRange matching rowFor step bySteps isUtf8 lossy sameBytes sameText shape inOrder some firstRefused records joined
     stringBytes valueBytes fourBytes headBytes frameBytes pairAt pairBytes pairRefusal newKey kvRefusal limited kvAllowed kvAnswer
 pairs-written = refl
 
@@ -64,7 +64,7 @@ messages-frame =
     ∷ 0x01 ∷ 0x6E ∷ 0x01 ∷ 0x01 ∷ 0x61 ∷ 0x11 ∷ []
 
 pub messages-written : notifyAnswer (headOf 3 true false 1 2) 24 names both 2 three 3 ≡ done messages-frame 28
-unfolding groups numberBytes rows follow inRange front rowFor step bySteps isUtf8 shape inOrder some firstRefused records joined
+unfolding groups numberBytes rows follow inRange matching rowFor step bySteps isUtf8 shape inOrder some firstRefused records joined
     stringBytes valueBytes fourBytes headBytes frameBytes messageAt pairAt pairBytes pairRefusal nameBytes messageBytes messageRefusal limited notifyAnswer
 messages-written = refl
 
@@ -104,17 +104,17 @@ both-frame =
     0 ∷ 0 ∷ 0 ∷ 20 ∷ 103 ∷ 0 ∷ 0 ∷ 0 ∷ 1 ∷ 240 ∷ 0 ∷ 3 ∷ 0x01 ∷ 0x03 ∷ 0x02 ∷ 0x01 ∷ 0x61 ∷ 0x03 ∷ 0x07 ∷ 0x02 ∷ 0x02 ∷ 0x01 ∷ 0x01 ∷ 0x62 ∷ []
 
 pub set-written : actionsAnswer (headOf 103 true false 1 1) 20 variables setting 1 ≡ written set-frame
-unfolding groups numberBytes rows follow inRange front rowFor step bySteps isUtf8 shape inOrder firstRefused records joined
+unfolding groups numberBytes rows follow inRange matching rowFor step bySteps isUtf8 shape inOrder firstRefused records joined
     stringBytes valueBytes fourBytes headBytes frameBytes actionAt pairBytes actionBytes actionWritable actionRefusal limited actionsAnswer
 set-written = refl
 
 pub unset-written : actionsAnswer (headOf 103 true false 1 2) 20 variables unsetting 1 ≡ written unset-frame
-unfolding groups numberBytes rows follow inRange front rowFor step bySteps isUtf8 shape inOrder firstRefused records joined
+unfolding groups numberBytes rows follow inRange matching rowFor step bySteps isUtf8 shape inOrder firstRefused records joined
     stringBytes valueBytes fourBytes headBytes frameBytes actionAt pairBytes actionBytes actionWritable actionRefusal limited actionsAnswer
 unset-written = refl
 
 pub both-written : actionsAnswer (headOf 103 true false 240 3) 20 variables (setting ++ unsetting) 2 ≡ written both-frame
-unfolding groups numberBytes rows follow inRange front rowFor step bySteps isUtf8 shape inOrder firstRefused records joined
+unfolding groups numberBytes rows follow inRange matching rowFor step bySteps isUtf8 shape inOrder firstRefused records joined
     stringBytes valueBytes fourBytes headBytes frameBytes actionAt pairBytes actionBytes actionWritable actionRefusal limited actionsAnswer
 both-written = refl
 
@@ -160,7 +160,7 @@ ack-frame =
     0 ∷ 0 ∷ 0 ∷ 19 ∷ 103 ∷ 0 ∷ 0 ∷ 0 ∷ 1 ∷ 1 ∷ 2 ∷ 1 ∷ 3 ∷ 2 ∷ 0x01 ∷ 0x41 ∷ 0x23 ∷ 0x07 ∷ 2 ∷ 2 ∷ 4 ∷ 0x01 ∷ 0x42 ∷ []
 
 pub actions-written : agentAnswer (headOf 103 true false 1 2) 19 text [] 0 acts 2 ≡ done ack-frame 23
-unfolding groups numberBytes rows follow inRange front rowFor step bySteps isUtf8 lossy same sameText shape inOrder some firstRefused records joined
+unfolding groups numberBytes rows follow inRange matching rowFor step bySteps isUtf8 lossy sameBytes sameText shape inOrder some firstRefused records joined
     stringBytes valueBytes fourBytes headBytes frameBytes actionAt pairBytes actionBytes actionWritable actionRefusal limited actionsAnswer
 actions-written = refl
 

@@ -10,7 +10,7 @@ use lib.ListN.{length, drop, getD}
 use lib.Seq.{getD-drop}
 use borrow.Author.Tests.{ltb-true, leb-true, le-ltb, le-leb, lt-leb, eq-eqb}
 use Rattle.answer.proofs.Cases.{lt-or-le, bool-cases, true-false, both-true}
-use Rattle.utf8.specs.Text.{Range, _to_, row, rows, follow, inRange, front, led, rowFor, char, step, isUtf8}
+use Rattle.utf8.specs.Text.{Range, _to_, row, rows, follow, inRange, matching, led, rowFor, char, step, isUtf8}
 use Rattle.utf8.specs.Inner.{Fits, FitsAt, FitTo, FirstFit, EndsWhole}
 use Rattle.utf8.proofs.Stepping.{inRange-in, step-for, step-ascii}
 use Rattle.utf8.proofs.Lossy.{empty, isUtf8-none, isUtf8-char}
@@ -168,15 +168,15 @@ abbrev Later : ℕ → Type 0
 Later b = (0x80 ≤ b) × (b ≤ 0xBF)
 
 step-two : (d e : ℕ) (s : List ℕ) → Begun d e 2 → step (d ∷ e ∷ s) ≡ char 2
-unfolding follow front
+unfolding follow matching
 step-two d e s r = step-for (d ∷ e ∷ s) (omega arith) ∙ rw (r .is) (simp (r .can))
 
 step-three : (d e f : ℕ) (s : List ℕ) → Begun d e 3 → Later f → step (d ∷ e ∷ f ∷ s) ≡ char 3
-unfolding follow front
+unfolding follow matching
 step-three d e f s r p = step-for (d ∷ e ∷ f ∷ s) (omega arith) ∙ rw (r .is) (simp (r .can, inRange-in 0x80 0xBF f (p .0) (p .1)))
 
 step-four : (d e f g : ℕ) (s : List ℕ) → Begun d e 4 → Later f → Later g → step (d ∷ e ∷ f ∷ g ∷ s) ≡ char 4
-unfolding follow front
+unfolding follow matching
 step-four d e f g s r p q =
     step-for (d ∷ e ∷ f ∷ g ∷ s) (omega arith) ∙ rw (r .is) (simp (r .can, inRange-in 0x80 0xBF f (p .0) (p .1), inRange-in 0x80 0xBF g (q .0) (q .1)))
 

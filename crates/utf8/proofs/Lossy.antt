@@ -8,7 +8,7 @@ use native.Mathlib.Omega.{arith}
 use lib.ListN.{length, take, drop, length-append, length-drop, take-append-drop}
 use lib.Seq.{drop-at, length-take-le, take-append-le, drop-append-le}
 use Rattle.answer.proofs.Cases.{true-false}
-use Rattle.utf8.specs.Text.{Step, ends, char, mark, step, stepSize, whole, replacement, becomes, bySteps, isUtf8, lossy}
+use Rattle.utf8.specs.Text.{Step, ends, char, mark, step, stepSize, wellFormed, replacement, becomes, bySteps, isUtf8, lossy}
 use Rattle.utf8.proofs.Stepping.{Bounded, step-bounds, step-kept, step-none, step-replacement}
 
 -- ---- one step
@@ -56,9 +56,9 @@ pub lossy-on : (s : List ℕ) → lossy s ≡ becomes (step s) s ++ lossy (drop 
 unfolding lossy
 lossy-on s = by-steps-on (λ x t others. becomes x t ++ others) [] refl s
 
-pub isUtf8-on : (s : List ℕ) → isUtf8 s ≡ whole (step s) && isUtf8 (drop (stepSize (step s)) s)
+pub isUtf8-on : (s : List ℕ) → isUtf8 s ≡ wellFormed (step s) && isUtf8 (drop (stepSize (step s)) s)
 unfolding isUtf8
-isUtf8-on s = by-steps-on (λ x t others. whole x && others) true refl s
+isUtf8-on s = by-steps-on (λ x t others. wellFormed x && others) true refl s
 
 pub lossy-none : lossy [] ≡ []
 unfolding lossy bySteps

@@ -10,43 +10,43 @@ use lib.ListN.{length, take, drop, getD}
 use native.Mathlib.Numerals.{add-one}
 use lib.Seq.{drop-cons, take-at, length-take-le}
 use borrow.Author.Tests.{eq-eqb, ne-eqb, eqb-true}
-use Rattle.utf8.specs.Text.{Step, ends, char, mark, step, stepSize, becomes, isUtf8, lossy, same, sameText}
+use Rattle.utf8.specs.Text.{Step, ends, char, mark, step, stepSize, becomes, isUtf8, lossy, sameBytes, sameText}
 use Rattle.answer.proofs.Cases.{bool-cases, true-false, both-true}
 use Rattle.utf8.proofs.Stepping.{step-bounds}
 use Rattle.utf8.proofs.Lossy.{empty, lossy-on, lossy-none, lossy-char, lossy-mark, lossy-same, lossy-step-char, lossy-step-mark, char-bounds}
 
 -- ---- the same bytes
 
-pub same-refl : (s : List ℕ) → same s s ≡ true
-unfolding same
+pub same-refl : (s : List ℕ) → sameBytes s s ≡ true
+unfolding sameBytes
 same-refl [] = refl
 same-refl (b ∷ s) = simp (eq-eqb b b refl, same-refl s)
 
-pub same-true : (s t : List ℕ) → same s t ≡ true → s ≡ t
-unfolding same
+pub same-true : (s t : List ℕ) → sameBytes s t ≡ true → s ≡ t
+unfolding sameBytes
 same-true [] [] e = refl
 same-true [] (b ∷ t) e = true-false e refl
 same-true (a ∷ s) [] e = true-false e refl
-same-true (a ∷ s) (b ∷ t) e = let q = both-true (eqb a b) (same s t) e in ap₂ _∷_ (eqb-true a b (q .0)) (same-true s t (q .1))
+same-true (a ∷ s) (b ∷ t) e = let q = both-true (eqb a b) (sameBytes s t) e in ap₂ _∷_ (eqb-true a b (q .0)) (same-true s t (q .1))
 
-pub same-iff : (s t : List ℕ) → (same s t ≡ true) ↔ (s ≡ t)
+pub same-iff : (s t : List ℕ) → (sameBytes s t ≡ true) ↔ (s ≡ t)
 same-iff s t = (same-true s t, λ e. rw e (same-refl t))
 
-pub same-apart : (s t : List ℕ) → (s ≡ t → ⊥) → same s t ≡ false
-same-apart s t ne = bool-cases (same s t) (λ e. absurd (ne (same-true s t e))) (λ e. e)
+pub same-apart : (s t : List ℕ) → (s ≡ t → ⊥) → sameBytes s t ≡ false
+same-apart s t ne = bool-cases (sameBytes s t) (λ e. absurd (ne (same-true s t e))) (λ e. e)
 
 -- one byte of each
 module _ (s t : List ℕ) (i : ℕ) (h : i < length s) (g : i < length t) where
-  pub same-next : getD s i 0 ≡ getD t i 0 → same (drop i s) (drop i t) ≡ same (drop (i + 1) s) (drop (i + 1) t)
-  unfolding same
+  pub same-next : getD s i 0 ≡ getD t i 0 → sameBytes (drop i s) (drop i t) ≡ sameBytes (drop (i + 1) s) (drop (i + 1) t)
+  unfolding sameBytes
   same-next e = rw (add-one, drop-cons s i 0 h, drop-cons t i 0 g) (simp (eq-eqb (getD s i 0) (getD t i 0) e))
 
-  pub same-stop : (getD s i 0 ≡ getD t i 0 → ⊥) → same (drop i s) (drop i t) ≡ false
-  unfolding same
+  pub same-stop : (getD s i 0 ≡ getD t i 0 → ⊥) → sameBytes (drop i s) (drop i t) ≡ false
+  unfolding sameBytes
   same-stop ne = rw (drop-cons s i 0 h, drop-cons t i 0 g) (simp (ne-eqb (getD s i 0) (getD t i 0) ne))
 
-pub same-front : (p s t : List ℕ) → same (p ++ s) (p ++ t) ≡ same s t
-unfolding same
+pub same-front : (p s t : List ℕ) → sameBytes (p ++ s) (p ++ t) ≡ sameBytes s t
+unfolding sameBytes
 same-front [] s t = refl
 same-front (b ∷ p) s t = simp (eq-eqb b b refl, same-front p s t)
 
@@ -95,14 +95,14 @@ piece-lossy s = go (step s) refl
     go (mark n) is = rw (lossy-step-mark s n is, is) (ap (take 3) (lossy-mark s n is))
 
 -- Where the first pieces are the same, the rests decide; where not, the lossy texts differ in their first piece.
-pub same-text-on : (s t : List ℕ) → same (piece s) (piece t) ≡ true → sameText s t ≡ sameText (rest s) (rest t)
+pub same-text-on : (s t : List ℕ) → sameBytes (piece s) (piece t) ≡ true → sameText s t ≡ sameText (rest s) (rest t)
 unfolding sameText
 same-text-on s t e =
-    ap₂ same (lossy-on s) (lossy-on t)
-    ∙ ap (λ (p : List ℕ). same (p ++ lossy (rest s)) (piece t ++ lossy (rest t))) (same-true (piece s) (piece t) e)
+    ap₂ sameBytes (lossy-on s) (lossy-on t)
+    ∙ ap (λ (p : List ℕ). sameBytes (p ++ lossy (rest s)) (piece t ++ lossy (rest t))) (same-true (piece s) (piece t) e)
     ∙ same-front (piece t) (lossy (rest s)) (lossy (rest t))
 
-pub same-text-off : (s t : List ℕ) → same (piece s) (piece t) ≡ false → sameText s t ≡ false
+pub same-text-off : (s t : List ℕ) → sameBytes (piece s) (piece t) ≡ false → sameText s t ≡ false
 unfolding sameText
 same-text-off s t e =
     same-apart (lossy s) (lossy t)
@@ -110,10 +110,10 @@ same-text-off s t e =
 
 -- ---- at the end
 
-pub same-length : (s t : List ℕ) → (length s ≡ length t → ⊥) → same s t ≡ false
+pub same-length : (s t : List ℕ) → (length s ≡ length t → ⊥) → sameBytes s t ≡ false
 same-length s t ne = same-apart s t (λ e. ne (ap length e))
 
-pub same-none : (t : List ℕ) → same [] t ≡ eqb (length t) 0
-unfolding same
+pub same-none : (t : List ℕ) → sameBytes [] t ≡ eqb (length t) 0
+unfolding sameBytes
 same-none [] = refl
 same-none (b ∷ t) = sym (eqb·suc-zero (length t))

@@ -10,7 +10,7 @@ use lib.ListN.{length, take, drop, getD, drop-of-length-le}
 use lib.Seq.{drop-cons}
 use borrow.Author.Tests.{le-leb, lt-leb, eq-eqb, ne-eqb, leb-true}
 use Rattle.answer.proofs.Cases.{bool-cases, both-true}
-use Rattle.utf8.specs.Text.{Range, _to_, Row, row, rows, follow, places, inRange, starts, front, Step, ends, char, mark, taken, Led, unused, led, rowFor, stepFor, step, replacement}
+use Rattle.utf8.specs.Text.{Range, _to_, Row, row, rows, follow, places, inRange, startsIn, matching, Step, ends, char, mark, taken, Led, unused, led, rowFor, stepFor, step, replacement}
 
 -- ---- a byte and its range
 
@@ -28,50 +28,50 @@ module _ (low high b : ℕ) where
   inRange-above h g = simp (le-leb low b h, lt-leb b high g)
 
 module _ (p : Range) (s : List ℕ) (at : ℕ) where
-  pub starts-end : length s ≤ at → starts p (drop at s) ≡ false
-  starts-end h = rw (drop-of-length-le s {i = at} h)
+  pub starts-in-end : length s ≤ at → startsIn p (drop at s) ≡ false
+  starts-in-end h = rw (drop-of-length-le s {i = at} h)
 
-  pub starts-at : at < length s → starts p (drop at s) ≡ inRange p (getD s at 0)
-  starts-at h = rw (drop-cons s at 0 h)
+  pub starts-in-at : at < length s → startsIn p (drop at s) ≡ inRange p (getD s at 0)
+  starts-in-at h = rw (drop-cons s at 0 h)
 
 -- ---- how many bytes are as the places say
 
-pub front-none : (s : List ℕ) → front [] s ≡ 0
-unfolding front
-front-none s = refl
+pub matching-none : (s : List ℕ) → matching [] s ≡ 0
+unfolding matching
+matching-none s = refl
 
 module _ (p : Range) (ps : List Range) (s : List ℕ) where
-  pub front-stop : starts p s ≡ false → front (p ∷ ps) s ≡ 0
-  unfolding front
-  front-stop e = simp e
+  pub matching-stop : startsIn p s ≡ false → matching (p ∷ ps) s ≡ 0
+  unfolding matching
+  matching-stop e = simp e
 
-  pub front-on : starts p s ≡ true → front (p ∷ ps) s ≡ suc (front ps (drop 1 s))
-  unfolding front
-  front-on e = simp e
+  pub matching-on : startsIn p s ≡ true → matching (p ∷ ps) s ≡ suc (matching ps (drop 1 s))
+  unfolding matching
+  matching-on e = simp e
 
 -- no more than there are places, and than there are bytes: place by place
-pub front-places : (ps : List Range) (s : List ℕ) → front ps s ≤ length ps
-front-places [] s = rw (front-none s) zero-le
-front-places (p ∷ ps) s =
-    bool-cases (starts p s)
-    (λ e. rw (front-on p ps s e) (suc-le-suc (front-places ps (drop 1 s))))
-    (λ e. rw (front-stop p ps s e) zero-le)
+pub matching-places : (ps : List Range) (s : List ℕ) → matching ps s ≤ length ps
+matching-places [] s = rw (matching-none s) zero-le
+matching-places (p ∷ ps) s =
+    bool-cases (startsIn p s)
+    (λ e. rw (matching-on p ps s e) (suc-le-suc (matching-places ps (drop 1 s))))
+    (λ e. rw (matching-stop p ps s e) zero-le)
 
 -- a byte that is in a range is there
-starts-some : (p : Range) (s : List ℕ) → starts p s ≡ true → 1 ≤ length s
-starts-some p [] e = let z : _≡_ {A = ℕ} 0 1 = cc in absurd (omega arith)
-starts-some p (b ∷ s) e = suc-le-suc zero-le
+starts-in-some : (p : Range) (s : List ℕ) → startsIn p s ≡ true → 1 ≤ length s
+starts-in-some p [] e = let z : _≡_ {A = ℕ} 0 1 = cc in absurd (omega arith)
+starts-in-some p (b ∷ s) e = suc-le-suc zero-le
 
 length-rest : (s : List ℕ) → 1 ≤ length s → suc (length (drop 1 s)) ≡ length s
 length-rest [] h = absurd (omega arith)
 length-rest (b ∷ s) h = refl
 
-pub front-there : (ps : List Range) (s : List ℕ) → front ps s ≤ length s
-front-there [] s = rw (front-none s) zero-le
-front-there (p ∷ ps) s =
-    bool-cases (starts p s)
-    (λ e. rw (front-on p ps s e) (let h = front-there ps (drop 1 s) in omega (arith, length-rest s (starts-some p s e))))
-    (λ e. rw (front-stop p ps s e) zero-le)
+pub matching-there : (ps : List Range) (s : List ℕ) → matching ps s ≤ length s
+matching-there [] s = rw (matching-none s) zero-le
+matching-there (p ∷ ps) s =
+    bool-cases (startsIn p s)
+    (λ e. rw (matching-on p ps s e) (let h = matching-there ps (drop 1 s) in omega (arith, length-rest s (starts-in-some p s e))))
+    (λ e. rw (matching-stop p ps s e) zero-le)
 
 -- the places after the first
 pub follow-none : (p : Range) → follow 0 p ≡ []
@@ -88,18 +88,18 @@ follow-length zero p = refl
 follow-length (suc left) p = ap suc (follow-length left (0x80 to 0xBF))
 
 -- all places filled: the bytes behind them do not matter, place by place
-pub front-kept : (ps : List Range) (s t : List ℕ) → front ps s ≡ length ps → front ps (take (length ps) s ++ t) ≡ length ps
-front-kept [] s t e = front-none _
-front-kept (p ∷ ps) [] t e =
-    bool-cases (starts p [])
-    (λ q. let h = starts-some p [] q in absurd (omega arith))
-    (λ q. let h = sym (front-stop p ps [] q) ∙ e in absurd (omega arith))
-front-kept (p ∷ ps) (b ∷ s) t e =
-    bool-cases (starts p (b ∷ s))
+pub matching-kept : (ps : List Range) (s t : List ℕ) → matching ps s ≡ length ps → matching ps (take (length ps) s ++ t) ≡ length ps
+matching-kept [] s t e = matching-none _
+matching-kept (p ∷ ps) [] t e =
+    bool-cases (startsIn p [])
+    (λ q. let h = starts-in-some p [] q in absurd (omega arith))
+    (λ q. let h = sym (matching-stop p ps [] q) ∙ e in absurd (omega arith))
+matching-kept (p ∷ ps) (b ∷ s) t e =
+    bool-cases (startsIn p (b ∷ s))
     (λ q.
-    let h : front ps s ≡ length ps = (let h = sym (front-on p ps (b ∷ s) q) ∙ e in omega arith) in
-    front-on p ps (b ∷ (take (length ps) s ++ t)) q ∙ ap suc (front-kept ps s t h))
-    (λ q. let h = sym (front-stop p ps (b ∷ s) q) ∙ e in absurd (omega arith))
+    let h : matching ps s ≡ length ps = (let h = sym (matching-on p ps (b ∷ s) q) ∙ e in omega arith) in
+    matching-on p ps (b ∷ (take (length ps) s ++ t)) q ∙ ap suc (matching-kept ps s t h))
+    (λ q. let h = sym (matching-stop p ps (b ∷ s) q) ∙ e in absurd (omega arith))
 
 -- ---- the row of a first byte
 
@@ -177,10 +177,10 @@ step-bounds (b ∷ s) = go (rowFor rows b) (found b)
     go unused f = (omega arith, omega arith, omega arith)
     go (led (row lead second bytes)) f =
         let ps = places (row lead second bytes) in
-        taken-bounds (length ps) (front ps (b ∷ s)) (suc (length s))
-        (rw (front-on lead (follow (bytes - 1) second) (b ∷ s) (f .0)) (suc-le-suc zero-le))
-        (front-there ps (b ∷ s))
-        (front-places ps (b ∷ s))
+        taken-bounds (length ps) (matching ps (b ∷ s)) (suc (length s))
+        (rw (matching-on lead (follow (bytes - 1) second) (b ∷ s) (f .0)) (suc-le-suc zero-le))
+        (matching-there ps (b ∷ s))
+        (matching-places ps (b ∷ s))
         (f .1)
 
 -- ---- a well-formed sequence in front of a list stays in front: its bytes fill all of its row's places
@@ -203,10 +203,10 @@ step-kept (b ∷ s) t (suc n) e = go (rowFor rows b) e
     go unused f = let z : _≡_ {A = ℕ} 0 1 = cc f in absurd (omega arith)
     go (led (row lead second bytes)) f =
         let ps = follow (bytes - 1) second in
-        let m = taken-char (suc (length ps)) (front (lead ∷ ps) (b ∷ s)) (suc n) f in
+        let m = taken-char (suc (length ps)) (matching (lead ∷ ps) (b ∷ s)) (suc n) f in
         let k : n ≡ length ps = omega (arith, m .0, m .1) in
-        let h = front-kept (lead ∷ ps) (b ∷ s) t (m .0) in
-        rw k (taken-all (suc (length ps)) (front (lead ∷ ps) (b ∷ (take (length ps) s ++ t))) h ∙ ap char h)
+        let h = matching-kept (lead ∷ ps) (b ∷ s) t (m .0) in
+        rw k (taken-all (suc (length ps)) (matching (lead ∷ ps) (b ∷ (take (length ps) s ++ t))) h ∙ ap char h)
 
 -- ---- where the first byte decides
 
@@ -218,7 +218,7 @@ step-ends (b ∷ s) h = absurd (omega arith)
 -- in the code's terms: the first byte is in its range, and the places behind it are left
 abbrev pub stepBehind : Led → List ℕ → Step
 stepBehind unused s = mark 1
-stepBehind (led (row lead second bytes)) s = taken (suc (bytes - 1)) (suc (front (follow (bytes - 1) second) (drop 1 s)))
+stepBehind (led (row lead second bytes)) s = taken (suc (bytes - 1)) (suc (matching (follow (bytes - 1) second) (drop 1 s)))
 
 pub step-for : (s : List ℕ) → 1 ≤ length s → step s ≡ stepBehind (rowFor rows (getD s 0 0)) s
 unfolding step
@@ -227,7 +227,7 @@ step-for (b ∷ s) h = go (rowFor rows b) (found b)
   where
     go : (x : Led) → Found b x → stepFor x (b ∷ s) ≡ stepBehind x (b ∷ s)
     go unused f = refl
-    go (led (row lead second bytes)) f = ap₂ taken (ap suc (follow-length (bytes - 1) second)) (front-on lead (follow (bytes - 1) second) (b ∷ s) (f .0))
+    go (led (row lead second bytes)) f = ap₂ taken (ap suc (follow-length (bytes - 1) second)) (matching-on lead (follow (bytes - 1) second) (b ∷ s) (f .0))
 
 -- ---- two steps that are known
 
@@ -236,12 +236,12 @@ unfolding step
 step-none = refl
 
 pub step-replacement : (t : List ℕ) → step (replacement ++ t) ≡ char 3
-unfolding step rowFor rows follow front inRange
+unfolding step rowFor rows follow matching inRange
 step-replacement t = refl
 
 -- ASCII
 pub step-ascii : (b : ℕ) (s : List ℕ) → b < 128 → step (b ∷ s) ≡ char 1
-unfolding step rowFor rows follow front inRange
+unfolding step rowFor rows follow matching inRange
 step-ascii b s h = simp (le-leb 0 b zero-le, le-leb b 127 (omega arith))
 
 pub step-ascii-front : (s : List ℕ) → 1 ≤ length s → getD s 0 0 < 128 → step s ≡ char 1

@@ -15,7 +15,7 @@ use Rattle.utf8.specs.declared.Lead as l
 use Rattle.utf8.specs.declared.Lead.the-variants as v
 use Rattle.utf8.specs.declared.Both as b
 use Rattle.utf8.specs.declared.Both.the-variants as o
-use Rattle.utf8.specs.Text.{Range, _to_, Row, row, Led, unused, led, Step, ends, char, mark, stepSize, whole, becomes, isUtf8, lossy, sameText}
+use Rattle.utf8.specs.Text.{Range, _to_, Row, row, Led, unused, led, Step, ends, char, mark, stepSize, wellFormed, becomes, isUtf8, lossy, sameText}
 
 -- a range and a row of the code's table
 abbrev pub asRange : g.Range → Range
@@ -51,7 +51,7 @@ pub record AsciiTo (s : List ℕ) (n : ℕ) : Type 0 where
 -- As a step does, x takes some bytes off the front of s, and says what they become.
 pub record Advances (s : List ℕ) (x : Step) : Type 0 where
   pub text : lossy s ≡ becomes x s ++ lossy (drop (stepSize x) s)
-  pub well : isUtf8 s ≡ whole x && isUtf8 (drop (stepSize x) s)
+  pub well : isUtf8 s ≡ wellFormed x && isUtf8 (drop (stepSize x) s)
   pub there : stepSize x ≤ length s
   pub moves : 1 ≤ length s → 1 ≤ stepSize x
 

@@ -41,14 +41,14 @@ unfoldable pub inRange : Range → ℕ → Bool
 inRange (low to high) b = leb low b && leb b high
 
 -- the first byte is there and in the range
-abbrev pub starts : Range → List ℕ → Bool
-starts p [] = false
-starts p (b ∷ s) = inRange p b
+abbrev pub startsIn : Range → List ℕ → Bool
+startsIn p [] = false
+startsIn p (b ∷ s) = inRange p b
 
 -- how many bytes at the front are as these places say
-unfoldable pub front : List Range → List ℕ → ℕ
-front [] s = 0
-front (p ∷ ps) s = cond (starts p s) (suc (front ps (drop 1 s))) 0
+unfoldable pub matching : List Range → List ℕ → ℕ
+matching [] s = 0
+matching (p ∷ ps) s = cond (startsIn p s) (suc (matching ps (drop 1 s))) 0
 
 -- What stands at the front of some bytes: nothing, a well-formed sequence of so many bytes, or a maximal subpart of an
 -- ill-formed one.
@@ -74,7 +74,7 @@ rowFor (row lead second bytes ∷ rs) b = cond (inRange lead b) (led (row lead s
 -- none (D93b).
 abbrev pub stepFor : Led → List ℕ → Step
 stepFor unused s = mark 1
-stepFor (led r) s = taken (length (places r)) (front (places r) s)
+stepFor (led r) s = taken (length (places r)) (matching (places r) s)
 
 unfoldable pub step : List ℕ → Step
 step [] = ends
@@ -87,10 +87,10 @@ stepSize (char n) = n
 stepSize (mark n) = n
 
 -- whether it is well-formed
-abbrev pub whole : Step → Bool
-whole ends = true
-whole (char n) = true
-whole (mark n) = false
+abbrev pub wellFormed : Step → Bool
+wellFormed ends = true
+wellFormed (char n) = true
+wellFormed (mark n) = false
 
 -- U+FFFD, the replacement character
 abbrev pub replacement : List ℕ
@@ -112,18 +112,18 @@ bySteps turn end (suc left) s = turn (step s) s (bySteps turn end left (drop (st
 
 -- The bytes are well-formed UTF-8: every step is.
 unfoldable pub isUtf8 : List ℕ → Bool
-isUtf8 s = bySteps (λ x t others. whole x && others) true (length s) s
+isUtf8 s = bySteps (λ x t others. wellFormed x && others) true (length s) s
 
 -- The bytes with each maximal subpart of an ill-formed sequence replaced ("U+FFFD Substitution of Maximal Subparts").
 unfoldable pub lossy : List ℕ → List ℕ
 lossy s = bySteps (λ x t others. becomes x t ++ others) [] (length s) s
 
 -- The same bytes, and the same lossy text.
-unfoldable pub same : List ℕ → List ℕ → Bool
-same [] [] = true
-same [] (b ∷ t) = false
-same (a ∷ s) [] = false
-same (a ∷ s) (b ∷ t) = eqb a b && same s t
+unfoldable pub sameBytes : List ℕ → List ℕ → Bool
+sameBytes [] [] = true
+sameBytes [] (b ∷ t) = false
+sameBytes (a ∷ s) [] = false
+sameBytes (a ∷ s) (b ∷ t) = eqb a b && sameBytes s t
 
 unfoldable pub sameText : List ℕ → List ℕ → Bool
-sameText s t = same (lossy s) (lossy t)
+sameText s t = sameBytes (lossy s) (lossy t)

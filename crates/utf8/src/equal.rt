@@ -8,7 +8,7 @@ ghost use mathlib.Core.Path.{_≡_};
 ghost use mathlib.Core.Bool.{true, _&&_};
 ghost use Prim.Native.Nat.{_+_, _≤_};
 ghost use lib.ListN.{length, take};
-ghost use Rattle.utf8.specs.Text.{stepSize, becomes, same, sameText};
+ghost use Rattle.utf8.specs.Text.{stepSize, becomes, sameBytes, sameText};
 ghost use Rattle.utf8.specs.Promise.{SameText};
 ghost use Rattle.utf8.specs.Inner.{seen, ascii, Walks};
 
@@ -77,7 +77,7 @@ fn eights_equal(a: &[u8], b: &[u8], last: usize) -> bool
 fn eight_equal(a: &[u8], b: &[u8]) -> bool
     requires { ⌜ 8 ≤ length (now a) ⌝ }
     requires { ⌜ 8 ≤ length (now b) ⌝ }
-    ensures { λ r. ⌜ r ≡ same (take 8 (now (a .entry))) (take 8 (now (b .entry))) ⌝ }
+    ensures { λ r. ⌜ r ≡ sameBytes (take 8 (now (a .entry))) (take 8 (now (b .entry))) ⌝ }
 {
     (a[0] == b[0])
         & (a[1] == b[1])
@@ -106,7 +106,7 @@ fn both_stride(a: &[u8], b: &[u8]) -> Both
 fn eight_same(a: &[u8], b: &[u8]) -> bool
     requires { ⌜ 8 ≤ length (now a) ⌝ }
     requires { ⌜ 8 ≤ length (now b) ⌝ }
-    ensures { λ r. ⌜ r ≡ ascii (take 8 (now (a .entry))) && same (take 8 (now (a .entry))) (take 8 (now (b .entry))) ⌝ }
+    ensures { λ r. ⌜ r ≡ ascii (take 8 (now (a .entry))) && sameBytes (take 8 (now (a .entry))) (take 8 (now (b .entry))) ⌝ }
 {
     eight_ascii(a) & eight_equal(a, b)
 }
@@ -127,7 +127,7 @@ fn both_step(a: &[u8], b: &[u8]) -> Both
 fn same_start(a: &[u8], x: Step, b: &[u8], y: Step) -> bool
     requires { ⌜ stepSize (seen x) ≤ length (now a) ⌝ }
     requires { ⌜ stepSize (seen y) ≤ length (now b) ⌝ }
-    ensures { λ r. ⌜ r ≡ same (becomes (seen x) (now (a .entry))) (becomes (seen y) (now (b .entry))) ⌝ }
+    ensures { λ r. ⌜ r ≡ sameBytes (becomes (seen x) (now (a .entry))) (becomes (seen y) (now (b .entry))) ⌝ }
 {
     match x {
         Step::End => starts_as(&[], b, y),
@@ -138,7 +138,7 @@ fn same_start(a: &[u8], x: Step, b: &[u8], y: Step) -> bool
 
 fn starts_as(text: &[u8], b: &[u8], y: Step) -> bool
     requires { ⌜ stepSize (seen y) ≤ length (now b) ⌝ }
-    ensures { λ r. ⌜ r ≡ same (now (text .entry)) (becomes (seen y) (now (b .entry))) ⌝ }
+    ensures { λ r. ⌜ r ≡ sameBytes (now (text .entry)) (becomes (seen y) (now (b .entry))) ⌝ }
 {
     match y {
         Step::End => same_bytes(text, &[]),
@@ -148,7 +148,7 @@ fn starts_as(text: &[u8], b: &[u8], y: Step) -> bool
 }
 
 fn same_bytes(a: &[u8], b: &[u8]) -> bool
-    ensures { λ r. ⌜ r ≡ same (now (a .entry)) (now (b .entry)) ⌝ }
+    ensures { λ r. ⌜ r ≡ sameBytes (now (a .entry)) (now (b .entry)) ⌝ }
 {
     if a.len() != b.len() {
         return false;

@@ -6,7 +6,7 @@ use crate::Step;
 ghost use mathlib.Core.Path.{_≡_};
 ghost use Prim.Native.Nat.{suc, _-_, _≤_};
 ghost use lib.ListN.{length, drop};
-ghost use Rattle.utf8.specs.Text.{rows, rowFor, follow, front, taken, step};
+ghost use Rattle.utf8.specs.Text.{rows, rowFor, follow, matching, taken, step};
 ghost use Rattle.utf8.specs.Inner.{asRange, seen, ledBy};
 
 const ROWS: [Row; 9] = [
@@ -146,7 +146,7 @@ fn lead_row(lead: u8) -> Lead
 // The step whose first byte is right, in a row of so many bytes and this range for the second.
 fn step_on(s: &[u8], bytes: usize, second: Range) -> Step
     requires { ⌜ 1 ≤ length (now s) ⌝ }
-    ensures { λ r. ⌜ seen r ≡ taken (suc (bytes - 1)) (suc (front (follow (bytes - 1) (asRange second)) (drop 1 (now (s .entry))))) ⌝ }
+    ensures { λ r. ⌜ seen r ≡ taken (suc (bytes - 1)) (suc (matching (follow (bytes - 1) (asRange second)) (drop 1 (now (s .entry))))) ⌝ }
 {
     let mut at = 1;
     let mut low = second.low;

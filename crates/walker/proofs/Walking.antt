@@ -33,7 +33,7 @@ use Rattle.parser.proofs.Frames.{last-refused, last-other, last-done, ids-refus
 use Rattle.parser.proofs.Accepted.{ended-same, kv-run, payload-all, frame-cut}
 use Rattle.walker.specs.declared.Place.{Place}
 use Rattle.walker.specs.declared.Step.the-variants as v
-use Rattle.walker.specs.Walk.{endOr, behindNumber, kvOf, argumentsOf, step}
+use Rattle.walker.specs.Walk.{endOr, behindNumber, kvOf, argumentsPlace, walkStep}
 use Rattle.walker.proofs.Stepping.{step-end, step-is}
 
 -- ---- what a walk finds
@@ -41,13 +41,13 @@ use Rattle.walker.proofs.Stepping.{step-end, step-is}
 -- From one place to another the steps find these pairs.
 abbrev pub Finds : List ℕ → Place → List Pair → Place → Type 0
 Finds s x [] y = x ≡ y
-Finds s x (p ∷ ps) y = (z : Place) × (step s x ≡ v.Found p z) × Finds s z ps y
+Finds s x (p ∷ ps) y = (z : Place) × (walkStep s x ≡ v.Found p z) × Finds s z ps y
 
 -- And behind them is the end.
 pub record FindsAll (s : List ℕ) (x : Place) (ps : List Pair) : Type 0 where
   pub last : Place
   pub finds : Finds s x ps last
-  pub ends : step s last ≡ v.End
+  pub ends : walkStep s last ≡ v.End
 
 -- ---- pairs that stand one behind the other
 
@@ -279,23 +279,23 @@ take-short (suc n) [] = omega arith
 take-short (suc n) (x ∷ xs) = omega (arith, take-short n xs)
 
 -- a message's arguments start behind its count byte
-arguments-start : (x : Message) → behindCount x < 2 ^ 64 → argumentsOf x ≡ argumentsAt (behindCount x) (x .count)
-unfolding argumentsOf
+arguments-start : (x : Message) → behindCount x < 2 ^ 64 → argumentsPlace x ≡ argumentsAt (behindCount x) (x .count)
+unfolding argumentsPlace
 arguments-start x h = rw (lt-ltb (behindCount x) (2 ^ 64) h)
 
 -- Law: a walk over a message's arguments finds those pairs that the message's record names, in order, and then the end.
 pub messages-walked : (limit : ℕ) (rooms : Rooms) (s : List ℕ) (m : Metadata) (c : Contents) (used : ℕ) → frameRead limit rooms s ≡ answered (done (m, c) used)
-    → m .kind ≡ 3 → length s < 2 ^ 64 → Each (λ x. FindsAll (take used s) (argumentsOf x) (argumentsIn (c .pairs) x)) (c .messages)
+    → m .kind ≡ 3 → length s < 2 ^ 64 → Each (λ x. FindsAll (take used s) (argumentsPlace x) (argumentsIn (c .pairs) x)) (c .messages)
 messages-walked limit rooms s m c used e is3 small =
     let h = frame-cut limit rooms s m c used e .holds in
     let f = take used s in
     let n = h .start in
     let is : payload false rooms (drop n f) ≡ done (h .held) (h .end) = ap (λ (b : Bool). payload (not b) rooms (drop n f)) (sym (eq-eqb (m .kind) 3 is3)) ∙ h .is in
-    rw (sym (h .moved)) (each-map (λ x. FindsAll f (argumentsOf x) (argumentsIn (map (movedPair n) (h .held .pairs)) x)) (movedMessage n)
+    rw (sym (h .moved)) (each-map (λ x. FindsAll f (argumentsPlace x) (argumentsIn (map (movedPair n) (h .held .pairs)) x)) (movedMessage n)
     (λ x w. one f n (metadata-start false f m n (h .head)) (omega (arith, small, take-short used s)) (h .held .pairs) x w) (h .held .messages) (messages-whole rooms (drop n f) (h .held) (h .end) is))
   where
     one : (f : List ℕ) (n : ℕ) → n ≤ length f → length f < 2 ^ 64 → (ps : List Pair) (x : Message) → Whole (drop n f) ps x
-        → FindsAll f (argumentsOf (movedMessage n x)) (argumentsIn (map (movedPair n) ps) (movedMessage n x))
+        → FindsAll f (argumentsPlace (movedMessage n x)) (argumentsIn (map (movedPair n) ps) (movedMessage n x))
     one f n h fits ps x w =
         let qs = argumentsIn ps x in
         let place : n + x .start + x .len + 1 < 2 ^ 64 = omega (arith, w .inside, length-drop n f, fits) in
@@ -303,10 +303,10 @@ messages-walked limit rooms s m c used e is3 small =
         let many : length (map (movedPair n) qs) ≡ x .count = length-map qs (movedPair n) ∙ length-take-le (x .count) (drop (x .first) ps) (omega (arith, w .within, length-drop (x .first) ps)) in
         let run = run-moved f n (behindCount x) qs (w .last) (w .run) in
         let finds = arguments-finds f (n + behindCount x) (map (movedPair n) qs) (n + w .last) 0 run in
-        let at : argumentsAt (n + behindCount x) (length (map (movedPair n) qs) + 0) ≡ argumentsOf (movedMessage n x) = ap₂ argumentsAt (omega arith) (omega (arith, many)) ∙ sym (arguments-start (movedMessage n x) place) in
+        let at : argumentsAt (n + behindCount x) (length (map (movedPair n) qs) + 0) ≡ argumentsPlace (movedMessage n x) = ap₂ argumentsAt (omega arith) (omega (arith, many)) ∙ sym (arguments-start (movedMessage n x) place) in
         record {
           last = argumentsAt (n + w .last) 0;
-          finds = subst (λ (qs : List Pair). Finds f (argumentsOf (movedMessage n x)) qs (argumentsAt (n + w .last) 0)) (sym same)
+          finds = subst (λ (qs : List Pair). Finds f (argumentsPlace (movedMessage n x)) qs (argumentsAt (n + w .last) 0)) (sym same)
               (subst (λ (y : Place). Finds f y (map (movedPair n) qs) (argumentsAt (n + w .last) 0)) at finds);
           ends = step-end f (argumentsAt (n + w .last) 0) refl;
         }

@@ -28,8 +28,8 @@ unfoldable pub kvOf : List ℕ → Place
 kvOf s = record { at = behindNumber s (behindNumber s 9); left = 0; kv = true }
 
 -- A message's arguments start behind its name and its count byte. Places are 64-bit numbers.
-unfoldable pub argumentsOf : Message → Place
-argumentsOf m =
+unfoldable pub argumentsPlace : Message → Place
+argumentsPlace m =
     let at = m .start + m .len + 1 in
     record { at = cond (ltb at (2 ^ 64)) at (2 ^ 64 - 1); left = m .count; kv = false }
 
@@ -41,10 +41,10 @@ comes s x = cond (x .kv) (ltb (x .at) (length s)) (ltb 0 (x .left))
 abbrev pub afterPlace : Place → ℕ → Place
 afterPlace x end = record { at = end; left = x .left - 1; kv = x .kv }
 
-abbrev pub stepOf : Place → Answer Pair → Step
-stepOf x (done p end) = v.Found p (afterPlace x end)
-stepOf x (refused n place) = v.Refused (record { number = n; place = place })
+abbrev pub stepSaid : Place → Answer Pair → Step
+stepSaid x (done p end) = v.Found p (afterPlace x end)
+stepSaid x (refused n place) = v.Refused (record { number = n; place = place })
 
 -- The step: the pair that stands at the place, where one is to come.
-unfoldable pub step : List ℕ → Place → Step
-step s x = cond (comes s x) (stepOf x (pairFrom (x .at) s)) v.End
+unfoldable pub walkStep : List ℕ → Place → Step
+walkStep s x = cond (comes s x) (stepSaid x (pairFrom (x .at) s)) v.End

@@ -14,7 +14,7 @@ ghost use Prim.Native.Nat.{_+_, _-_, _≤_, _<_, _^_};
 ghost use Rattle.parser.specs.Pair.{movedPair};
 ghost use Rattle.types.specs.Value.{moved as movedRecord};
 ghost use Rattle.types.specs.Promise.{recordOf};
-ghost use Rattle.walker.specs.Walk.{comes, step as stepOf, behindNumber};
+ghost use Rattle.walker.specs.Walk.{comes, walkStep, behindNumber};
 ghost use Rattle.walker.specs.Promise.{KvOf, ArgumentsOf, New, Moved, Next, StepFrom};
 
 // Where the number that stands at `at` ends; the end of the bytes where none does.
@@ -120,7 +120,7 @@ fn moved_pair(pair: Pair, n: u64) -> Pair
 
 // The step of a walk over the pairs of these bytes.
 pub(crate) fn step_at(frame: &[u8], place: Place) -> Step
-    ensures { λ r. ⌜ r ≡ stepOf (now (frame .entry)) place ⌝ }
+    ensures { λ r. ⌜ r ≡ walkStep (now (frame .entry)) place ⌝ }
 {
     if !to_come(frame, place) {
         return Step::End;

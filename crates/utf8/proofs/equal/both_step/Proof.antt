@@ -2,7 +2,7 @@
 -- Assumes nothing.
 use mathlib.Core.Path.{_≡_, sym, ap, _∙_}
 use borrow.Author.Tests.{not-true, not-false}
-use Rattle.utf8.specs.Text.{stepSize, same}
+use Rattle.utf8.specs.Text.{stepSize, sameBytes}
 use Rattle.utf8.proofs.Advance.{step-advances}
 use Rattle.utf8.proofs.Same.{piece}
 use Rattle.utf8.proofs.Walk.{walks-apart, walks-on}
@@ -12,7 +12,7 @@ use Rattle.utf8.proofs.equal.both_step.Tie as tie
 
 tested : (c : tie.After-same-start)
     → c .same-start .result
-    ≡ same (piece (c .before .before .before .before .before .args .a .now)) (piece (c .before .before .before .before .before .args .b .now))
+    ≡ sameBytes (piece (c .before .before .before .before .before .args .a .now)) (piece (c .before .before .before .before .before .args .b .now))
 tested c = rw (c .before .front-step2 .ensures, c .before .before .front-step .ensures) at (c .same-start .ensures)
 
 front-step-requires : tie.Need-front-step-requires

@@ -5,13 +5,13 @@ use mathlib.Core.Path.{_≡_, refl, sym, _∙_}
 use mathlib.Core.List.{[]}
 use native.Mathlib.Omega.{arith}
 use lib.ListN.{length, drop, drop-of-length-le}
-use Rattle.utf8.specs.Text.{same}
+use Rattle.utf8.specs.Text.{sameBytes}
 use Rattle.utf8.proofs.Same.{same-next, same-stop, same-length, same-refl}
 use Rattle.utf8.proofs.equal.same_bytes.Statement.{statement}
 use Rattle.utf8.proofs.equal.same_bytes.Tie as tie
 
 abbrev Inv-loop : tie.InvT-loop
-Inv-loop a b i₀ i = same a b ≡ same (drop i a) (drop i b)
+Inv-loop a b i₀ i = sameBytes a b ≡ sameBytes (drop i a) (drop i b)
 
 abbrev μ-loop : tie.MeasureT-loop
 μ-loop a b i₀ i = length a - i

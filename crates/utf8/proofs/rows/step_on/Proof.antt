@@ -9,36 +9,36 @@ use native.Mathlib.Omega.{arith}
 use lib.ListN.{length, drop}
 use lib.Seq.{drop-drop}
 use borrow.Author.Tests.{eq-eqb, ne-eqb}
-use Rattle.utf8.specs.Text.{_to_, follow, starts, front, char, mark, taken}
-use Rattle.utf8.proofs.Stepping.{inRange-in, inRange-below, inRange-above, starts-end, starts-at, front-none, front-stop, front-on, follow-none, follow-on}
+use Rattle.utf8.specs.Text.{_to_, follow, startsIn, matching, char, mark, taken}
+use Rattle.utf8.proofs.Stepping.{inRange-in, inRange-below, inRange-above, starts-in-end, starts-in-at, matching-none, matching-stop, matching-on, follow-none, follow-on}
 use Rattle.utf8.proofs.rows.step_on.Statement.{statement}
 use Rattle.utf8.proofs.rows.step_on.Tie as tie
 
 -- n places are filled: at, and then as many as the bytes from there on fill
-module _ (s : List ℕ) (n bytes at low high : ℕ) (all : n ≡ at + front (follow (bytes - at) (low to high)) (drop at s)) where
+module _ (s : List ℕ) (n bytes at low high : ℕ) (all : n ≡ at + matching (follow (bytes - at) (low to high)) (drop at s)) where
   module _ (h : at < bytes) where
     more : follow (bytes - at) (low to high) ≡ (low to high) ∷ follow (bytes - (at + 1)) (0x80 to 0xBF)
     more = ap (λ (k : ℕ). follow k (low to high)) (omega arith) ∙ follow-on (bytes - (at + 1)) (low to high)
 
-    stop : starts (low to high) (drop at s) ≡ false → taken (suc (bytes - 1)) n ≡ mark at
+    stop : startsIn (low to high) (drop at s) ≡ false → taken (suc (bytes - 1)) n ≡ mark at
     stop e =
-        let k : n ≡ at = all ∙ rw more (ap (λ (k : ℕ). at + k) (front-stop _ _ (drop at s) e) ∙ omega arith) in
+        let k : n ≡ at = all ∙ rw more (ap (λ (k : ℕ). at + k) (matching-stop _ _ (drop at s) e) ∙ omega arith) in
         rw k (simp (ne-eqb at (suc (bytes - 1)) (λ q. omega arith)))
 
-    on : starts (low to high) (drop at s) ≡ true → n ≡ at + 1 + front (follow (bytes - (at + 1)) (0x80 to 0xBF)) (drop (at + 1) s)
+    on : startsIn (low to high) (drop at s) ≡ true → n ≡ at + 1 + matching (follow (bytes - (at + 1)) (0x80 to 0xBF)) (drop (at + 1) s)
     on e =
         all
-        ∙ rw more (ap (λ (k : ℕ). at + k) (front-on _ _ (drop at s) e ∙ ap (λ (t : List ℕ). suc (front (follow (bytes - (at + 1)) (0x80 to 0xBF)) t)) (drop-drop 1 at s)) ∙ omega arith)
+        ∙ rw more (ap (λ (k : ℕ). at + k) (matching-on _ _ (drop at s) e ∙ ap (λ (t : List ℕ). suc (matching (follow (bytes - (at + 1)) (0x80 to 0xBF)) t)) (drop-drop 1 at s)) ∙ omega arith)
 
   end : bytes ≤ at → 1 ≤ at → at ≤ suc (bytes - 1) → taken (suc (bytes - 1)) n ≡ char at
   end h some most =
       let none : follow (bytes - at) (low to high) ≡ [] = ap (λ (k : ℕ). follow k (low to high)) (omega arith) ∙ follow-none _ in
-      let k : n ≡ at = all ∙ rw none (ap (λ (k : ℕ). at + k) (front-none (drop at s)) ∙ omega arith) in
+      let k : n ≡ at = all ∙ rw none (ap (λ (k : ℕ). at + k) (matching-none (drop at s)) ∙ omega arith) in
       rw k (simp (eq-eqb at (suc (bytes - 1)) (omega arith)))
 
 abbrev Inv-loop : tie.InvT-loop
 Inv-loop s bytes at₀ low₀ high₀ at low high =
-    (suc (front (follow (bytes - 1) (low₀ to high₀)) (drop 1 s)) ≡ at + front (follow (bytes - at) (low to high)) (drop at s))
+    (suc (matching (follow (bytes - 1) (low₀ to high₀)) (drop 1 s)) ≡ at + matching (follow (bytes - at) (low to high)) (drop at s))
     × (1 ≤ at)
     × (at ≤ suc (bytes - 1))
     × (at ≤ length s)
@@ -52,7 +52,7 @@ loop-holds c = (omega arith, omega arith, omega arith, c .pre)
 returns : tie.Need-returns Inv-loop μ-loop
 returns c = let k = c .before .before in
     let s = k .before .args .s .now in
-    sym (stop s _ (k .before .args .bytes) (k .loop .at) (k .loop .low) (k .loop .high) (k .loop .inv .0) (c .before .loop-test .taken) (starts-end _ s (k .loop .at) (c .if1 .taken)))
+    sym (stop s _ (k .before .args .bytes) (k .loop .at) (k .loop .low) (k .loop .high) (k .loop .inv .0) (c .before .loop-test .taken) (starts-in-end _ s (k .loop .at) (c .if1 .taken)))
 
 shared-slice-read-byte : tie.Need-shared-slice-read-byte Inv-loop μ-loop
 shared-slice-read-byte c = omega arith
@@ -62,14 +62,14 @@ returns-2 c = let k = c .before .before .before .before in
     let s = k .before .args .s .now in
     sym
     (stop s _ (k .before .args .bytes) (k .loop .at) (k .loop .low) (k .loop .high) (k .loop .inv .0) (c .before .before .before .loop-test .taken)
-    (starts-at _ s (k .loop .at) (c .before .before .if1 .left) ∙ inRange-below _ _ _ (c .if2 .taken)))
+    (starts-in-at _ s (k .loop .at) (c .before .before .if1 .left) ∙ inRange-below _ _ _ (c .if2 .taken)))
 
 returns-3 : tie.Need-returns-3 Inv-loop μ-loop
 returns-3 c = let k = c .before .before .before .before .before in
     let s = k .before .args .s .now in
     sym
     (stop s _ (k .before .args .bytes) (k .loop .at) (k .loop .low) (k .loop .high) (k .loop .inv .0) (c .before .before .before .before .loop-test .taken)
-    (starts-at _ s (k .loop .at) (c .before .before .before .if1 .left) ∙ inRange-above _ _ _ (c .before .if2 .left) (c .if3 .taken)))
+    (starts-in-at _ s (k .loop .at) (c .before .before .before .if1 .left) ∙ inRange-above _ _ _ (c .before .if2 .left) (c .if3 .taken)))
 
 add-at : tie.Need-add-at Inv-loop μ-loop
 add-at c = omega arith
@@ -81,7 +81,7 @@ loop-again : tie.Need-loop-again Inv-loop μ-loop
 loop-again c = let k = c .before .before .before .before .before in
     let s = k .before .args .s .now in (
       on s _ (k .before .args .bytes) (k .loop .at) (k .loop .low) (k .loop .high) (k .loop .inv .0) (c .before .before .before .before .loop-test .taken)
-          (starts-at _ s (k .loop .at) (c .before .before .before .if1 .left) ∙ inRange-in _ _ _ (c .before .if2 .left) (c .if3 .left)),
+          (starts-in-at _ s (k .loop .at) (c .before .before .before .if1 .left) ∙ inRange-in _ _ _ (c .before .if2 .left) (c .if3 .left)),
       omega arith,
       omega arith,
       omega arith,
