@@ -52,7 +52,7 @@ pub extern "C" fn spop_encode_varint(n: u64, out: &mut [u8], at: &mut u64) -> u6
 pub extern "C" fn spop_decode_varint(input: &[u8], value: &mut u64, at: &mut u64) -> u64
     ensures { λ r. ⌜ SpopDecodeVarint (now (input .entry)) r (now (at .exit)) (now (value .entry)) (now (value .exit)) ⌝ }
 {
-    match varint::decode_alone(input) {
+    match varint::decode_varint(input) {
         NumberRead::Done { value: n, used } => {
             *value = n;
             *at = used as u64;

@@ -24,6 +24,3 @@ encode-varint-unique i r q old new other p s = writes-unique p s
 
 pub decode-varint-unique : (s : List ℕ) (r q : NumberRead) → DecodeVarint s r → DecodeVarint s q → r ≡ q
 decode-varint-unique s r q p o = numberSaid-same r q (one-only p o)
-
-pub decode-alone-unique : (s : List ℕ) (r q : NumberRead) → DecodeVarint s r → DecodeVarint s q → r ≡ q
-decode-alone-unique = decode-varint-unique

@@ -119,43 +119,6 @@ fn decode_more(first: u64, input: &[u8]) -> NumberRead
     NumberRead::Done { value, used }
 }
 
-// The same for one who reads a number by itself: where ten bytes are there, two are looked at together, so that of the lengths two and three
-// none is guessed wrong. Inside the readers of values and frames, where most numbers have one byte, that form took longer.
-pub fn decode_alone(input: &[u8]) -> NumberRead
-    ensures { λ r. ⌜ DecodeVarint (now (input .entry)) r ⌝ }
-{
-    if 10 <= input.len() && 240 <= input[0] {
-        return decode_twos(input[0] as u64, input);
-    }
-    decode_varint(input)
-}
-
-// Reads on after a first byte that is not the number itself, two bytes at a time. The second of them counts where the first goes on.
-fn decode_twos(first: u64, input: &[u8]) -> NumberRead
-    requires { ⌜ first < 256 ⌝ }
-    requires { ⌜ 10 ≤ length (now input) ⌝ }
-    ensures { λ r. ⌜ numberSaid r ≡ more first 1 (drop 1 (now (input .entry))) ⌝ }
-{
-    let mut sum = first;
-    let mut used = 1;
-    let mut shift: u64 = 4;
-    while used < 9 {
-        let byte = input[used] as u64;
-        let next = input[used + 1] as u64;
-        let goes = byte / 128;
-        sum = sum + (byte << shift) + ((goes * next) << (shift + 7));
-        if (byte < 128) | (next < 128) {
-            return NumberRead::Done {
-                value: sum,
-                used: used + 1 + goes as usize,
-            };
-        }
-        used += 2;
-        shift += 14;
-    }
-    decode_tenth(sum, input)
-}
-
 // Reads a tenth byte, after nine that add up to sum.
 fn decode_tenth(sum: u64, input: &[u8]) -> NumberRead
     ensures { λ r. ⌜ numberSaid r ≡ more sum 9 (drop 9 (now (input .entry))) ⌝ }

@@ -7,8 +7,8 @@ use Rattle.spop.proofs.Telling.{told-done, told-refused}
 use Rattle.spop.proofs.spop_decode_varint.Statement.{statement}
 use Rattle.spop.proofs.spop_decode_varint.Tie as tie
 
-decode-alone-requires : tie.Need-decode-alone-requires
-decode-alone-requires c κs = search needs
+decode-varint-requires : tie.Need-decode-varint-requires
+decode-varint-requires c κs = search needs
 
 enum-known-n : tie.Need-enum-known-n
 enum-known-n c = search needs
@@ -20,14 +20,14 @@ refuse-requires : tie.Need-refuse-requires
 refuse-requires c κs = search needs
 
 returns : tie.Need-returns
-returns c = told-done _ (sym (c .before .before .before .decode-alone .ensures) ∙ ap numberSaid (c .before .n .given .1))
+returns c = told-done _ (sym (c .before .before .before .decode-varint .ensures) ∙ ap numberSaid (c .before .n .given .1))
 
 returns-2 : tie.Need-returns-2
 returns-2 c =
     let k = c .before .before .before in
-    told-refused _ (sym (k .before .before .decode-alone .ensures) ∙ ap numberSaid (k .r .given .1)) (c .refuse .ensures)
+    told-refused _ (sym (k .before .before .decode-varint .ensures) ∙ ap numberSaid (k .r .given .1)) (c .refuse .ensures)
 
 pub spop-decode-varint-spec : {M : Type 1} → statement M
 spop-decode-varint-spec =
     tie.close
-    (tie.spec decode-alone-requires enum-known-n enum-known-r refuse-requires returns returns-2)
+    (tie.spec decode-varint-requires enum-known-n enum-known-r refuse-requires returns returns-2)
