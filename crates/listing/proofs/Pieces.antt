@@ -18,7 +18,7 @@ use Rattle.frame.specs.declared.Message.{Message}
 use Rattle.frame.specs.declared.Pair.{Pair}
 use Rattle.frame.specs.declared.Action.{Action}
 use Rattle.frame.specs.Records.{keyOf}
-use Rattle.listing.specs.Digits.{dash, decimal, signed, shown}
+use Rattle.listing.specs.Digits.{letters, dash, decimal, signed, shown}
 use Rattle.listing.specs.Lines.{filled, messageForm, pairForm, setForm, unsetForm, dataText, valueText, actionLine}
 use Rattle.listing.specs.Check.{messageChecks, pairChecks, isAction, actionChecks}
 use Rattle.listing.specs.Inner.{kindForm}
@@ -64,95 +64,49 @@ module _ (f : List ℕ) (kind a b flags : ℕ) where
 
 -- ---- lines in parts
 
--- `message `, ` name `
-abbrev wordMessage : List ℕ
-wordMessage = 109 ∷ 101 ∷ 115 ∷ 115 ∷ 97 ∷ 103 ∷ 101 ∷ 32 ∷ []
-
-abbrev wordName : List ℕ
-wordName = 32 ∷ 110 ∷ 97 ∷ 109 ∷ 101 ∷ 32 ∷ []
-
--- `message # name `, ` args #` and the line's end
+-- what stands in front of a name, and behind that of a message
 abbrev pub messageFront : List ℕ
-messageFront = 109 ∷ 101 ∷ 115 ∷ 115 ∷ 97 ∷ 103 ∷ 101 ∷ 32 ∷ 35 ∷ 32 ∷ 110 ∷ 97 ∷ 109 ∷ 101 ∷ 32 ∷ []
+messageFront = letters "message # name "
 
 abbrev pub messageBack : List ℕ
-messageBack = 32 ∷ 97 ∷ 114 ∷ 103 ∷ 115 ∷ 32 ∷ 35 ∷ 10 ∷ []
+messageBack = letters " args #\n"
+
+abbrev pub pairFront : List ℕ
+pairFront = letters "pair # key "
+
+abbrev pub setFront : List ℕ
+setFront = letters "action # set scope # name "
+
+abbrev pub unsetFront : List ℕ
+unsetFront = letters "action # unset scope # name "
 
 pub message-parts : (i t n : List ℕ)
     → filled messageForm (i ∷ t ∷ n ∷ []) ≡ filled messageFront (i ∷ []) ++ (t ++ filled messageBack (n ∷ []))
 unfolding filled
-message-parts i t n = ap (λ (l : List ℕ). wordMessage ++ l) (sym (append-assoc i wordName (t ++ filled messageBack (n ∷ []))))
-
--- `pair `, ` key `, ` kind `, ` value `
-abbrev wordPair : List ℕ
-wordPair = 112 ∷ 97 ∷ 105 ∷ 114 ∷ 32 ∷ []
-
-abbrev wordKey : List ℕ
-wordKey = 32 ∷ 107 ∷ 101 ∷ 121 ∷ 32 ∷ []
-
-abbrev wordKind : List ℕ
-wordKind = 32 ∷ 107 ∷ 105 ∷ 110 ∷ 100 ∷ 32 ∷ []
-
-abbrev wordValue : List ℕ
-wordValue = 32 ∷ 118 ∷ 97 ∷ 108 ∷ 117 ∷ 101 ∷ 32 ∷ []
-
--- `pair # key `
-abbrev pub pairFront : List ℕ
-pairFront = 112 ∷ 97 ∷ 105 ∷ 114 ∷ 32 ∷ 35 ∷ 32 ∷ 107 ∷ 101 ∷ 121 ∷ 32 ∷ []
+message-parts i t n = simp append-assoc
 
 pub pair-parts : (i t k v : List ℕ)
     → filled pairForm (i ∷ t ∷ k ∷ v ∷ []) ≡ filled pairFront (i ∷ []) ++ (t ++ (filled kindForm (k ∷ []) ++ (v ++ (10 ∷ []))))
 unfolding filled
-pair-parts i t k v =
-    ap (λ (l : List ℕ). wordPair ++ (i ++ (wordKey ++ (t ++ (wordKind ++ l))))) (sym (append-assoc k wordValue (v ++ (10 ∷ []))))
-    ∙ ap (λ (l : List ℕ). wordPair ++ l) (sym (append-assoc i wordKey (t ++ (filled kindForm (k ∷ []) ++ (v ++ (10 ∷ []))))))
-
--- `action `, ` set scope `, ` unset scope `, before the two numbers of an action, and its name
-abbrev wordAction : List ℕ
-wordAction = 97 ∷ 99 ∷ 116 ∷ 105 ∷ 111 ∷ 110 ∷ 32 ∷ []
-
-abbrev wordSet : List ℕ
-wordSet = 32 ∷ 115 ∷ 101 ∷ 116 ∷ 32 ∷ 115 ∷ 99 ∷ 111 ∷ 112 ∷ 101 ∷ 32 ∷ []
-
-abbrev wordUnset : List ℕ
-wordUnset = 32 ∷ 117 ∷ 110 ∷ 115 ∷ 101 ∷ 116 ∷ 32 ∷ 115 ∷ 99 ∷ 111 ∷ 112 ∷ 101 ∷ 32 ∷ []
-
-abbrev pub setFront : List ℕ
-setFront = 97 ∷ 99 ∷ 116 ∷ 105 ∷ 111 ∷ 110 ∷ 32 ∷ 35 ∷ 32 ∷ 115 ∷ 101 ∷ 116 ∷ 32 ∷ 115 ∷ 99 ∷ 111 ∷ 112 ∷ 101 ∷ 32 ∷ 35 ∷ 32 ∷ 110 ∷ 97 ∷ 109 ∷ 101 ∷ 32 ∷ []
-
-abbrev pub unsetFront : List ℕ
-unsetFront = 97 ∷ 99 ∷ 116 ∷ 105 ∷ 111 ∷ 110 ∷ 32 ∷ 35 ∷ 32 ∷ 117 ∷ 110 ∷ 115 ∷ 101 ∷ 116 ∷ 32 ∷ 115 ∷ 99 ∷ 111 ∷ 112 ∷ 101 ∷ 32 ∷ 35 ∷ 32 ∷ 110 ∷ 97 ∷ 109 ∷ 101 ∷ 32 ∷ []
+pair-parts i t k v = simp (append-assoc i (letters " key "), append-assoc k (letters " value "))
 
 pub set-parts : (i c t k v : List ℕ)
     → filled setForm (i ∷ c ∷ t ∷ k ∷ v ∷ []) ≡ filled setFront (i ∷ c ∷ []) ++ (t ++ (filled kindForm (k ∷ []) ++ (v ++ (10 ∷ []))))
 unfolding filled
-set-parts i c t k v =
-    let rest = t ++ (filled kindForm (k ∷ []) ++ (v ++ (10 ∷ []))) in
-    ap (λ (l : List ℕ). wordAction ++ (i ++ (wordSet ++ (c ++ (wordName ++ (t ++ (wordKind ++ l))))))) (sym (append-assoc k wordValue (v ++ (10 ∷ []))))
-    ∙ ap (λ (l : List ℕ). wordAction ++ (i ++ (wordSet ++ l))) (sym (append-assoc c wordName rest))
-    ∙ ap (λ (l : List ℕ). wordAction ++ l) (sym (append-assoc i (wordSet ++ (c ++ wordName)) rest))
+set-parts i c t k v = simp (append-assoc i (letters " set scope " ++ (c ++ letters " name ")), append-assoc c (letters " name "), append-assoc k (letters " value "))
 
 pub unset-parts : (i c t : List ℕ)
     → filled unsetForm (i ∷ c ∷ t ∷ []) ≡ filled unsetFront (i ∷ c ∷ []) ++ (t ++ filled (10 ∷ []) [])
 unfolding filled
-unset-parts i c t =
-    ap (λ (l : List ℕ). wordAction ++ (i ++ (wordUnset ++ l))) (sym (append-assoc c wordName (t ++ (10 ∷ []))))
-    ∙ ap (λ (l : List ℕ). wordAction ++ l) (sym (append-assoc i (wordUnset ++ (c ++ wordName)) (t ++ (10 ∷ []))))
+unset-parts i c t = simp append-assoc
 
 -- how long they are: a line with a name, and one that ends in a value
 pub named-length : (front t back : List ℕ) → length (front ++ (t ++ back)) ≡ length front + length back + length t
-named-length front t back = omega (arith, length-append front (t ++ back), length-append t back)
+named-length front t back = simp length-append (omega arith)
 
 pub valued-length : (front t back v : List ℕ)
     → length (front ++ (t ++ (back ++ (v ++ (10 ∷ []))))) ≡ length front + length back + 1 + length t + length v
-valued-length front t back v =
-    omega (
-      arith,
-      length-append front (t ++ (back ++ (v ++ (10 ∷ [])))),
-      length-append t (back ++ (v ++ (10 ∷ []))),
-      length-append back (v ++ (10 ∷ [])),
-      length-append v (10 ∷ []),
-    )
+valued-length front t back v = simp length-append (omega arith)
 
 pub message-length : (i t n : List ℕ)
     → length (filled messageForm (i ∷ t ∷ n ∷ [])) ≡ length (filled messageFront (i ∷ [])) + length (filled messageBack (n ∷ [])) + length t

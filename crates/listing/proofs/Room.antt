@@ -36,31 +36,27 @@ use Rattle.listing.proofs.Distinct.{below}
 
 message-front : (t : List ℕ) → length (filled messageFront (t ∷ [])) ≡ 14 + length t
 unfolding filled
-message-front t = omega (arith, length-append t (32 ∷ 110 ∷ 97 ∷ 109 ∷ 101 ∷ 32 ∷ []))
+message-front t = simp length-append (omega arith)
 
 message-back : (t : List ℕ) → length (filled messageBack (t ∷ [])) ≡ 7 + length t
 unfolding filled
-message-back t = omega (arith, length-append t (10 ∷ []))
+message-back t = simp length-append (omega arith)
 
 pair-front : (t : List ℕ) → length (filled pairFront (t ∷ [])) ≡ 10 + length t
 unfolding filled
-pair-front t = omega (arith, length-append t (32 ∷ 107 ∷ 101 ∷ 121 ∷ 32 ∷ []))
+pair-front t = simp length-append (omega arith)
 
 pair-back : (t : List ℕ) → length (filled kindForm (t ∷ [])) ≡ 13 + length t
 unfolding filled
-pair-back t = omega (arith, length-append t (32 ∷ 118 ∷ 97 ∷ 108 ∷ 117 ∷ 101 ∷ 32 ∷ []))
+pair-back t = simp length-append (omega arith)
 
 set-front : (t u : List ℕ) → length (filled setFront (t ∷ u ∷ [])) ≡ 24 + length t + length u
 unfolding filled
-set-front t u =
-    let name : List ℕ = 32 ∷ 110 ∷ 97 ∷ 109 ∷ 101 ∷ 32 ∷ [] in
-    omega (arith, length-append t (32 ∷ 115 ∷ 101 ∷ 116 ∷ 32 ∷ 115 ∷ 99 ∷ 111 ∷ 112 ∷ 101 ∷ 32 ∷ (u ++ name)), length-append u name)
+set-front t u = simp length-append (omega arith)
 
 unset-front : (t u : List ℕ) → length (filled unsetFront (t ∷ u ∷ [])) ≡ 26 + length t + length u
 unfolding filled
-unset-front t u =
-    let name : List ℕ = 32 ∷ 110 ∷ 97 ∷ 109 ∷ 101 ∷ 32 ∷ [] in
-    omega (arith, length-append t (32 ∷ 117 ∷ 110 ∷ 115 ∷ 101 ∷ 116 ∷ 32 ∷ 115 ∷ 99 ∷ 111 ∷ 112 ∷ 101 ∷ 32 ∷ (u ++ name)), length-append u name)
+unset-front t u = simp length-append (omega arith)
 
 unset-back : length (filled (10 ∷ []) []) ≡ 1
 unfolding filled

@@ -2,16 +2,23 @@
 use mathlib.Core.Bool.{Bool, true, false, cond}
 use mathlib.Core.List.{List, [], _∷_, _++_}
 use Prim.Native.Nat.{ℕ, zero, suc, _+_, _-_, _/_, _%_, _^_}
+use Prim.Native.Char.{code}
+use Prim.Native.String.{String, [] as none, _∷_ as _then_}
 use lib.Dec.{ltb}
 use Rattle.answer.specs.Table.{joined}
 
+-- a text's letters in ASCII
+abbrev pub letters : String → List ℕ
+letters none = []
+letters (c then s) = code c ∷ letters s
+
 -- `-`, which stands for nothing, and before a negative number
 abbrev pub dash : ℕ
-dash = 45
+dash = code "-"
 
 -- a digit: `0` to `9`, then `a` to `f`
 abbrev pub glyph : ℕ → ℕ
-glyph d = cond (ltb d 10) (48 + d) (87 + d)
+glyph d = cond (ltb d 10) (code "0" + d) (code "a" - 10 + d)
 
 -- A number below ten is one digit, and any other its tens and a last digit.
 abbrev pub withLast : Bool → (ℕ → List ℕ) → ℕ → List ℕ

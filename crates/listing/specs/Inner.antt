@@ -7,7 +7,7 @@ use Rattle.answer.specs.declared.Written.the-variants as w
 use Rattle.types.specs.declared.Value.{Value}
 use Rattle.types.specs.Form.{writableRecord, ranged}
 use Rattle.types.specs.Promise.{recordOf}
-use Rattle.listing.specs.Digits.{decimal, shown}
+use Rattle.listing.specs.Digits.{letters, decimal, shown}
 use Rattle.listing.specs.Lines.{filled, valueText}
 use Rattle.listing.specs.declared.Place.{Place}
 use Rattle.listing.specs.declared.Step.{Step}
@@ -21,7 +21,7 @@ pub record Listed (f : List ℕ) (v : Value) : Type 0 where
 
 -- ` kind # value `, between a key and a value
 abbrev pub kindForm : List ℕ
-kindForm = 32 ∷ 107 ∷ 105 ∷ 110 ∷ 100 ∷ 32 ∷ 35 ∷ 32 ∷ 118 ∷ 97 ∷ 108 ∷ 117 ∷ 101 ∷ 32 ∷ []
+kindForm = letters " kind # value "
 
 -- A line with a name in it, between words with their numbers; and a line that ends in a value.
 abbrev pub namedText : List ℕ → List ℕ → List ℕ → List ℕ → List ℕ → List ℕ

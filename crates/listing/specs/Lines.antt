@@ -13,6 +13,7 @@
 use mathlib.Core.Bool.{Bool, cond, _||_}
 use mathlib.Core.List.{List, [], _∷_, _++_}
 use Prim.Native.Nat.{ℕ}
+use Prim.Native.Char.{code}
 use lib.Dec.{eqb}
 use lib.ListN.{drop, getD}
 use Rattle.types.specs.declared.Value.{Value}
@@ -24,13 +25,13 @@ use Rattle.frame.specs.declared.Message.{Message}
 use Rattle.frame.specs.declared.Action.{Action}
 use Rattle.frame.specs.Records.{keyOf}
 use Rattle.parser.specs.declared.Metadata.{Metadata}
-use Rattle.listing.specs.Digits.{dash, decimal, signed, shown}
+use Rattle.listing.specs.Digits.{letters, dash, decimal, signed, shown}
 
 -- ---- a line
 
 -- `#`, for which a text is put
 abbrev pub mark : ℕ
-mark = 35
+mark = code "#"
 
 -- what is put for a byte of a form, and the texts that are left: a mark takes the first, or none where none is left
 abbrev pub piece : ℕ → List (List ℕ) → List ℕ
@@ -45,30 +46,23 @@ filled [] texts = []
 filled (b ∷ form) texts = piece b texts ++ filled form (others b texts)
 
 -- The forms of the kinds of line, each with the line's end.
-
--- `frame # type # stream # id # bytes #`
 abbrev pub frameForm : List ℕ
-frameForm = 102 ∷ 114 ∷ 97 ∷ 109 ∷ 101 ∷ 32 ∷ 35 ∷ 32 ∷ 116 ∷ 121 ∷ 112 ∷ 101 ∷ 32 ∷ 35 ∷ 32 ∷ 115 ∷ 116 ∷ 114 ∷ 101 ∷ 97 ∷ 109 ∷ 32 ∷ 35 ∷ 32 ∷ 105 ∷ 100 ∷ 32 ∷ 35 ∷ 32 ∷ 98 ∷ 121 ∷ 116 ∷ 101 ∷ 115 ∷ 32 ∷ 35 ∷ 10 ∷ []
+frameForm = letters "frame # type # stream # id # bytes #\n"
 
--- `message # name # args #`
 abbrev pub messageForm : List ℕ
-messageForm = 109 ∷ 101 ∷ 115 ∷ 115 ∷ 97 ∷ 103 ∷ 101 ∷ 32 ∷ 35 ∷ 32 ∷ 110 ∷ 97 ∷ 109 ∷ 101 ∷ 32 ∷ 35 ∷ 32 ∷ 97 ∷ 114 ∷ 103 ∷ 115 ∷ 32 ∷ 35 ∷ 10 ∷ []
+messageForm = letters "message # name # args #\n"
 
--- `pair # key # kind # value #`
 abbrev pub pairForm : List ℕ
-pairForm = 112 ∷ 97 ∷ 105 ∷ 114 ∷ 32 ∷ 35 ∷ 32 ∷ 107 ∷ 101 ∷ 121 ∷ 32 ∷ 35 ∷ 32 ∷ 107 ∷ 105 ∷ 110 ∷ 100 ∷ 32 ∷ 35 ∷ 32 ∷ 118 ∷ 97 ∷ 108 ∷ 117 ∷ 101 ∷ 32 ∷ 35 ∷ 10 ∷ []
+pairForm = letters "pair # key # kind # value #\n"
 
--- `action # set scope # name # kind # value #`
 abbrev pub setForm : List ℕ
-setForm = 97 ∷ 99 ∷ 116 ∷ 105 ∷ 111 ∷ 110 ∷ 32 ∷ 35 ∷ 32 ∷ 115 ∷ 101 ∷ 116 ∷ 32 ∷ 115 ∷ 99 ∷ 111 ∷ 112 ∷ 101 ∷ 32 ∷ 35 ∷ 32 ∷ 110 ∷ 97 ∷ 109 ∷ 101 ∷ 32 ∷ 35 ∷ 32 ∷ 107 ∷ 105 ∷ 110 ∷ 100 ∷ 32 ∷ 35 ∷ 32 ∷ 118 ∷ 97 ∷ 108 ∷ 117 ∷ 101 ∷ 32 ∷ 35 ∷ 10 ∷ []
+setForm = letters "action # set scope # name # kind # value #\n"
 
--- `action # unset scope # name #`
 abbrev pub unsetForm : List ℕ
-unsetForm = 97 ∷ 99 ∷ 116 ∷ 105 ∷ 111 ∷ 110 ∷ 32 ∷ 35 ∷ 32 ∷ 117 ∷ 110 ∷ 115 ∷ 101 ∷ 116 ∷ 32 ∷ 115 ∷ 99 ∷ 111 ∷ 112 ∷ 101 ∷ 32 ∷ 35 ∷ 32 ∷ 110 ∷ 97 ∷ 109 ∷ 101 ∷ 32 ∷ 35 ∷ 10 ∷ []
+unsetForm = letters "action # unset scope # name #\n"
 
--- `end # # #`
 abbrev pub endForm : List ℕ
-endForm = 101 ∷ 110 ∷ 100 ∷ 32 ∷ 35 ∷ 32 ∷ 35 ∷ 32 ∷ 35 ∷ 10 ∷ []
+endForm = letters "end # # #\n"
 
 -- ---- what is put
 

@@ -1,7 +1,7 @@
 -- The listing's worked examples (docs/RULES.md, "The listing"), proved of the definition: the input of 29 bytes, and its five lines; and an agent's of 32 bytes, with
 -- the word `agent`, and its five.
 use mathlib.Core.Path.{_≡_, refl}
-use mathlib.Core.List.{List, [], _∷_}
+use mathlib.Core.List.{List, [], _∷_, _++_}
 use Prim.Native.Nat.{ℕ}
 use Rattle.answer.specs.Order.{inOrder}
 use Rattle.answer.specs.Table.{joined, some}
@@ -12,7 +12,7 @@ use Rattle.parser.specs.Pair.{pair}
 use Rattle.parser.specs.Payload.{onePair, oneMessage, toEnd, payload}
 use Rattle.parser.specs.Frame.{lastId, ids, metadata, whole, front, frameRead}
 use Rattle.agent.specs.Action.{variable, action, oneAction, toEnd as actionsToEnd, actions}
-use Rattle.listing.specs.Digits.{digits, decimal, signed, shown}
+use Rattle.listing.specs.Digits.{letters, digits, decimal, signed, shown}
 use Rattle.listing.specs.Lines.{filled, valueText, frameLine, messageLine, pairLine, actionLine, endLine}
 use Rattle.spoplist.specs.Listing.{stopFrom}
 use Rattle.spoplist.proofs.Inputs.{linesFrom, listing, sentListing}
@@ -25,20 +25,11 @@ input =
 
 abbrev pub lines : List ℕ
 lines =
-    -- frame 0 type 3 stream 1 id 2 bytes 29
-    102 ∷ 114 ∷ 97 ∷ 109 ∷ 101 ∷ 32 ∷ 48 ∷ 32 ∷ 116 ∷ 121 ∷ 112 ∷ 101 ∷ 32 ∷ 51 ∷ 32 ∷ 115 ∷ 116 ∷ 114 ∷ 101 ∷ 97 ∷ 109 ∷ 32 ∷ 49 ∷ 32 ∷
-    105 ∷ 100 ∷ 32 ∷ 50 ∷ 32 ∷ 98 ∷ 121 ∷ 116 ∷ 101 ∷ 115 ∷ 32 ∷ 50 ∷ 57 ∷ 10 ∷
-    -- message 0 name 64656c6179 args 2
-    109 ∷ 101 ∷ 115 ∷ 115 ∷ 97 ∷ 103 ∷ 101 ∷ 32 ∷ 48 ∷ 32 ∷ 110 ∷ 97 ∷ 109 ∷ 101 ∷ 32 ∷ 54 ∷ 52 ∷ 54 ∷ 53 ∷ 54 ∷ 99 ∷ 54 ∷ 49 ∷ 55 ∷
-    57 ∷ 32 ∷ 97 ∷ 114 ∷ 103 ∷ 115 ∷ 32 ∷ 50 ∷ 10 ∷
-    -- pair 0 key 736c6f74 kind 3 value 7
-    112 ∷ 97 ∷ 105 ∷ 114 ∷ 32 ∷ 48 ∷ 32 ∷ 107 ∷ 101 ∷ 121 ∷ 32 ∷ 55 ∷ 51 ∷ 54 ∷ 99 ∷ 54 ∷ 102 ∷ 55 ∷ 52 ∷ 32 ∷ 107 ∷ 105 ∷ 110 ∷ 100 ∷
-    32 ∷ 51 ∷ 32 ∷ 118 ∷ 97 ∷ 108 ∷ 117 ∷ 101 ∷ 32 ∷ 55 ∷ 10 ∷
-    -- pair 1 key 6f6b kind 1 value 1
-    112 ∷ 97 ∷ 105 ∷ 114 ∷ 32 ∷ 49 ∷ 32 ∷ 107 ∷ 101 ∷ 121 ∷ 32 ∷ 54 ∷ 102 ∷ 54 ∷ 98 ∷ 32 ∷ 107 ∷ 105 ∷ 110 ∷ 100 ∷ 32 ∷ 49 ∷ 32 ∷ 118 ∷
-    97 ∷ 108 ∷ 117 ∷ 101 ∷ 32 ∷ 49 ∷ 10 ∷
-    -- end 29 0 0
-    101 ∷ 110 ∷ 100 ∷ 32 ∷ 50 ∷ 57 ∷ 32 ∷ 48 ∷ 32 ∷ 48 ∷ 10 ∷ []
+    letters "frame 0 type 3 stream 1 id 2 bytes 29\n"
+    ++ letters "message 0 name 64656c6179 args 2\n"
+    ++ letters "pair 0 key 736c6f74 kind 3 value 7\n"
+    ++ letters "pair 1 key 6f6b kind 1 value 1\n"
+    ++ letters "end 29 0 0\n"
 
 pub example : listing 65532 (record { messages = 64; pairs = 256 }) input ≡ lines
 unfolding more number string typed shape signExtended fourNumber inOrder some joined
@@ -55,16 +46,11 @@ sent =
 
 abbrev pub sentLinesOf : List ℕ
 sentLinesOf =
-    -- frame 0 type 103 stream 1 id 2 bytes 32
-    102 ∷ 114 ∷ 97 ∷ 109 ∷ 101 ∷ 32 ∷ 48 ∷ 32 ∷ 116 ∷ 121 ∷ 112 ∷ 101 ∷ 32 ∷ 49 ∷ 48 ∷ 51 ∷ 32 ∷ 115 ∷ 116 ∷ 114 ∷ 101 ∷ 97 ∷ 109 ∷ 32 ∷ 49 ∷ 32 ∷ 105 ∷ 100 ∷ 32 ∷ 50 ∷ 32 ∷ 98 ∷ 121 ∷ 116 ∷ 101 ∷ 115 ∷ 32 ∷ 51 ∷ 50 ∷ 10 ∷
-    -- action 0 set scope 2 name 736c6f74 kind 3 value 7
-    97 ∷ 99 ∷ 116 ∷ 105 ∷ 111 ∷ 110 ∷ 32 ∷ 48 ∷ 32 ∷ 115 ∷ 101 ∷ 116 ∷ 32 ∷ 115 ∷ 99 ∷ 111 ∷ 112 ∷ 101 ∷ 32 ∷ 50 ∷ 32 ∷ 110 ∷ 97 ∷ 109 ∷ 101 ∷ 32 ∷ 55 ∷ 51 ∷ 54 ∷ 99 ∷ 54 ∷ 102 ∷ 55 ∷ 52 ∷ 32 ∷ 107 ∷ 105 ∷ 110 ∷ 100 ∷ 32 ∷ 51 ∷ 32 ∷ 118 ∷ 97 ∷ 108 ∷ 117 ∷ 101 ∷ 32 ∷ 55 ∷ 10 ∷
-    -- action 1 unset scope 1 name 6f6b
-    97 ∷ 99 ∷ 116 ∷ 105 ∷ 111 ∷ 110 ∷ 32 ∷ 49 ∷ 32 ∷ 117 ∷ 110 ∷ 115 ∷ 101 ∷ 116 ∷ 32 ∷ 115 ∷ 99 ∷ 111 ∷ 112 ∷ 101 ∷ 32 ∷ 49 ∷ 32 ∷ 110 ∷ 97 ∷ 109 ∷ 101 ∷ 32 ∷ 54 ∷ 102 ∷ 54 ∷ 98 ∷ 10 ∷
-    -- action 2 set scope 0 name - kind 0 value -
-    97 ∷ 99 ∷ 116 ∷ 105 ∷ 111 ∷ 110 ∷ 32 ∷ 50 ∷ 32 ∷ 115 ∷ 101 ∷ 116 ∷ 32 ∷ 115 ∷ 99 ∷ 111 ∷ 112 ∷ 101 ∷ 32 ∷ 48 ∷ 32 ∷ 110 ∷ 97 ∷ 109 ∷ 101 ∷ 32 ∷ 45 ∷ 32 ∷ 107 ∷ 105 ∷ 110 ∷ 100 ∷ 32 ∷ 48 ∷ 32 ∷ 118 ∷ 97 ∷ 108 ∷ 117 ∷ 101 ∷ 32 ∷ 45 ∷ 10 ∷
-    -- end 32 0 0
-    101 ∷ 110 ∷ 100 ∷ 32 ∷ 51 ∷ 50 ∷ 32 ∷ 48 ∷ 32 ∷ 48 ∷ 10 ∷ []
+    letters "frame 0 type 103 stream 1 id 2 bytes 32\n"
+    ++ letters "action 0 set scope 2 name 736c6f74 kind 3 value 7\n"
+    ++ letters "action 1 unset scope 1 name 6f6b\n"
+    ++ letters "action 2 set scope 0 name - kind 0 value -\n"
+    ++ letters "end 32 0 0\n"
 
 pub sent-example : sentListing 65532 256 256 sent ≡ sentLinesOf
 unfolding more number string typed shape signExtended fourNumber inOrder some joined
