@@ -12,17 +12,19 @@ use Rattle.parser.specs.Frame.{Reading, wait, answered, answerOf}
 use Rattle.parser.specs.Promise.{countsOf, frameTells}
 use Rattle.agent.specs.Frame.{Sent}
 use Rattle.agent.specs.Promise.{agentTells}
-use Rattle.spop.specs.Told.{numberOf, atOf, valueOf, Told}
-use Rattle.spop.specs.Values.{headsBy, sentCounts}
+use Rattle.spop.specs.Told.{numberOf, atOf, valueOr, Told}
+use Rattle.spop.specs.Values.{headNumbers, sentCounts}
 
 -- a reader was told a value, or a refusal
-module _ {A : Type 0} {a : Answer A} where
-  pub told-done : {value : A} {n : ℕ} (before : A) → a ≡ done value n → Told a 0 n × (value ≡ valueOf a before)
-  told-done before e = (record { says = sym (ap numberOf e); where-at = sym (ap atOf e) }, sym (ap (λ (b : Answer A). valueOf b before) e))
+module _ {A B : Type 0} {a : Answer A} (form : A → B) (before : B) where
+  kept : {b : Answer A} → a ≡ b → valueOr form b before ≡ valueOr form a before
+  kept e = sym (ap (λ (x : Answer A). valueOr form x before) e)
 
-  pub told-refused : {number place r at : ℕ} (before : A) → a ≡ refused number place → (r ≡ number) × (at ≡ place) → Told a r at × (before ≡ valueOf a before)
-  told-refused before e t =
-      (record { says = t .0 ∙ sym (ap numberOf e); where-at = t .1 ∙ sym (ap atOf e) }, sym (ap (λ (b : Answer A). valueOf b before) e))
+  pub told-done : {value : A} {n : ℕ} → a ≡ done value n → Told a 0 n × (form value ≡ valueOr form a before)
+  told-done e = (record { says = sym (ap numberOf e); where-at = sym (ap atOf e) }, kept e)
+
+  pub told-refused : {number place r at : ℕ} → a ≡ refused number place → (r ≡ number) × (at ≡ place) → Told a r at × (before ≡ valueOr form a before)
+  told-refused e t = (record { says = t .0 ∙ sym (ap numberOf e); where-at = t .1 ∙ sym (ap atOf e) }, kept e)
 
 -- a writer's own answer has the count alone, which is all that is told of it
 number-tells : (a : Answer (List ℕ)) → numberOf (tells a) ≡ numberOf a
@@ -64,7 +66,7 @@ agent-tells (answered a) = refl
 -- each is the answer's, and the head's numbers are its own or stay as they were
 module _ {A : Type 0} (counts : A → ℕ × ℕ) (before : List ℕ) where
   pub head-done : (x : Reading (Metadata × A)) (m : Metadata) (k : ℕ × ℕ) (n : ℕ) → answered (done (m, k) n) ≡ tellsBy counts x
-      → Told (answerOf x) 0 n × (m .kind ∷ m .flags ∷ m .stream ∷ m .frame ∷ k .0 ∷ k .1 ∷ [] ≡ headsBy counts (answerOf x) before)
+      → Told (answerOf x) 0 n × (m .kind ∷ m .flags ∷ m .stream ∷ m .frame ∷ k .0 ∷ k .1 ∷ [] ≡ valueOr (headNumbers counts) (answerOf x) before)
   head-done (wait w) m k n e = let z : _≡_ {A = ℕ} 0 1 = cc in absurd (omega arith)
   head-done (answered (done y u)) m k n e =
       let o = done-apart (answered-apart e) in (
@@ -73,13 +75,13 @@ module _ {A : Type 0} (counts : A → ℕ × ℕ) (before : List ℕ) where
       )
   head-done (answered (refused a p)) m k n e = let q = answered-apart e in let z : _≡_ {A = ℕ} 0 1 = cc in absurd (omega arith)
 
-  pub head-wait : (x : Reading (Metadata × A)) (n : ℕ) → wait n ≡ tellsBy counts x → Told (answerOf x) 1 n × (before ≡ headsBy counts (answerOf x) before)
+  pub head-wait : (x : Reading (Metadata × A)) (n : ℕ) → wait n ≡ tellsBy counts x → Told (answerOf x) 1 n × (before ≡ valueOr (headNumbers counts) (answerOf x) before)
   head-wait (wait w) n e = (record { says = refl; where-at = cc }, refl)
   head-wait (answered (done y u)) n e = let z : _≡_ {A = ℕ} 0 1 = cc in absurd (omega arith)
   head-wait (answered (refused a p)) n e = let z : _≡_ {A = ℕ} 0 1 = cc in absurd (omega arith)
 
   pub head-refused : (x : Reading (Metadata × A)) (number place : ℕ) → answered (refused number place) ≡ tellsBy counts x
-      → {r at : ℕ} → (r ≡ number) × (at ≡ place) → Told (answerOf x) r at × (before ≡ headsBy counts (answerOf x) before)
+      → {r at : ℕ} → (r ≡ number) × (at ≡ place) → Told (answerOf x) r at × (before ≡ valueOr (headNumbers counts) (answerOf x) before)
   head-refused (wait w) number place e t = let z : _≡_ {A = ℕ} 0 1 = cc in absurd (omega arith)
   head-refused (answered (done y u)) number place e t = let q = answered-apart e in let z : _≡_ {A = ℕ} 0 1 = cc in absurd (omega arith)
   head-refused (answered (refused a p)) number place e t =

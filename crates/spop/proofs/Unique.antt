@@ -9,7 +9,7 @@ use Rattle.answer.proofs.Same.{one-only}
 use Rattle.utf8.specs.Text.{lossy, sameText}
 use Rattle.plain.proofs.Laws.{both-fit}
 use Rattle.plain.proofs.Unique.{texts-unique}
-use Rattle.spop.specs.Told.{numberOf, atOf, valueOf, Told}
+use Rattle.spop.specs.Told.{numberOf, atOf, valueOr, Told}
 use Rattle.frame.specs.declared.Pair.{Pair}
 use Rattle.spop.specs.Promise.{SpopVarintLen, SpopEncodeVarint, SpopDecodeVarint, SpopIsUtf8, SpopSameText, SpopSameTextPlain, SpopLossyText, SpopTypedData, SpopValueLen, SpopCheckValue, SpopWriteValue, SpopReadPair, SpopReadFrame, SpopReadFrameRecords, SpopReadAgentFrame, SpopWriteKv, SpopWriteActions, SpopWriteNotify, SpopNegotiateMaxFrameSize, SpopNegotiateVersion}
 
@@ -37,7 +37,7 @@ pub spop-same-text-plain : (a b : List ℕ) (one two before : Bool) (r at : ℕ)
 unfolding sameText
 spop-same-text-plain a b one two before r at aOld aNew bOld bNew h g p s =
     let e = both-fit a b aOld bOld _ h g in
-    (s .told .says ∙ ap numberOf e, s .told .where-at ∙ ap atOf e, s .value ∙ ap (λ (x : Answer Bool). valueOf x before) e ∙ sym p)
+    (s .told .says ∙ ap numberOf e, s .told .where-at ∙ ap atOf e, s .value ∙ ap (λ (x : Answer Bool). valueOr (λ b. b) x before) e ∙ sym p)
 
 pub spop-value-len-unique : (value buffer : List ℕ) (r q : ℕ) → SpopValueLen value buffer r → SpopValueLen value buffer q → r ≡ q
 spop-value-len-unique value buffer r q p s = one-only p s

@@ -13,16 +13,17 @@ use Rattle.types.specs.Value.{typed}
 use Rattle.types.specs.Form.{valueAnswer, lengthOf}
 use Rattle.types.specs.Check.{valueChecks}
 use Rattle.frame.specs.declared.Pair.{Pair}
+use Rattle.frame.specs.Records.{pairNumbers}
 use Rattle.parser.specs.Pair.{pair}
 use Rattle.parser.specs.Frame.{answerOf, frameRead}
-use Rattle.parser.specs.Promise.{roomsOf, contentsRead, Fills}
+use Rattle.parser.specs.Promise.{countsOf, roomsOf, contentsRead, Fills}
 use Rattle.agent.specs.Promise.{sentRead, readInto}
 use Rattle.agent.specs.Promise as sent
 use Rattle.records.specs.Promise.{roomsFor, FillsRecords}
 use Rattle.writer.specs.Frame.{headOf, kvAnswer, actionsAnswer, notifyAnswer}
 use Rattle.hello.specs.Hello.{frameSize, announced, choice}
-use Rattle.spop.specs.Told.{Told, valueOf, chosenOf, Left}
-use Rattle.spop.specs.Values.{recordIn, numbersOf, pairNumbersOf, headNumbersOf, agentNumbersOf}
+use Rattle.spop.specs.Told.{Told, valueOr, chosenOf, Left}
+use Rattle.spop.specs.Values.{recordIn, recordNumbers, headNumbers, sentCounts}
 
 abbrev pub SpopVarintLen : ℕ → ℕ → Type 0
 SpopVarintLen n r = r ≡ length (numberBytes n)
@@ -31,7 +32,7 @@ abbrev pub SpopEncodeVarint : ℕ → ℕ → ℕ → List ℕ → List ℕ → 
 SpopEncodeVarint n r at old new = Left (written (numberBytes n)) r at old new
 
 abbrev pub SpopDecodeVarint : List ℕ → ℕ → ℕ → ℕ → ℕ → Type 0
-SpopDecodeVarint input r at before value = Told (number input) r at × (value ≡ valueOf (number input) before)
+SpopDecodeVarint input r at before value = Told (number input) r at × (value ≡ valueOr (λ n. n) (number input) before)
 
 abbrev pub SpopIsUtf8 : List ℕ → Bool → Type 0
 SpopIsUtf8 bytes r = r ≡ isUtf8 bytes
@@ -41,14 +42,14 @@ SpopSameText a b r = r ≡ sameText a b
 
 pub record SpopSameTextPlain (a b : List ℕ) (r at : ℕ) (before same : Bool) (aOld aNew bOld bNew : List ℕ) : Type 0 where
   pub told : Told (comparison a b aOld bOld) r at
-  pub value : same ≡ valueOf (comparison a b aOld bOld) before
+  pub value : same ≡ valueOr (λ x. x) (comparison a b aOld bOld) before
   pub texts : TextsLeft a b aOld aNew bOld bNew
 
 abbrev pub SpopLossyText : List ℕ → ℕ → ℕ → List ℕ → List ℕ → Type 0
 SpopLossyText bytes r at old new = Left (written (lossy bytes)) r at old new
 
 abbrev pub SpopTypedData : List ℕ → ℕ → ℕ → List ℕ → List ℕ → Type 0
-SpopTypedData input r at before value = Told (typed input) r at × (value ≡ numbersOf (typed input) before)
+SpopTypedData input r at before value = Told (typed input) r at × (value ≡ valueOr recordNumbers (typed input) before)
 
 abbrev pub SpopValueLen : List ℕ → List ℕ → ℕ → Type 0
 SpopValueLen value buffer r = r ≡ lengthOf (valueAnswer buffer (recordIn value))
@@ -60,21 +61,21 @@ abbrev pub SpopWriteValue : List ℕ → List ℕ → ℕ → ℕ → List ℕ �
 SpopWriteValue value buffer r at old new = Left (valueAnswer buffer (recordIn value)) r at old new
 
 abbrev pub SpopReadPair : List ℕ → ℕ → ℕ → List ℕ → List ℕ → Type 0
-SpopReadPair input r at before numbers = Told (pair input) r at × (numbers ≡ pairNumbersOf (pair input) before)
+SpopReadPair input r at before numbers = Told (pair input) r at × (numbers ≡ valueOr pairNumbers (pair input) before)
 
 pub record SpopReadFrame (input : List ℕ) (limit r at : ℕ) (before head oldMessages newMessages oldPairs newPairs : List ℕ) : Type 0 where
   pub told : Told (answerOf (frameRead limit (roomsOf oldMessages oldPairs) input)) r at
-  pub numbers : head ≡ headNumbersOf (answerOf (frameRead limit (roomsOf oldMessages oldPairs) input)) before
+  pub numbers : head ≡ valueOr (headNumbers countsOf) (answerOf (frameRead limit (roomsOf oldMessages oldPairs) input)) before
   pub fills : Fills (contentsRead (frameRead limit (roomsOf oldMessages oldPairs) input)) oldMessages newMessages oldPairs newPairs
 
 pub record SpopReadFrameRecords (input : List ℕ) (limit r at : ℕ) (before head oldMessages newMessages : List ℕ) (oldPairs newPairs : List Pair) : Type 0 where
   pub told : Told (answerOf (frameRead limit (roomsFor oldMessages oldPairs) input)) r at
-  pub numbers : head ≡ headNumbersOf (answerOf (frameRead limit (roomsFor oldMessages oldPairs) input)) before
+  pub numbers : head ≡ valueOr (headNumbers countsOf) (answerOf (frameRead limit (roomsFor oldMessages oldPairs) input)) before
   pub fills : FillsRecords (contentsRead (frameRead limit (roomsFor oldMessages oldPairs) input)) oldMessages newMessages oldPairs newPairs
 
 pub record SpopReadAgentFrame (input : List ℕ) (limit r at : ℕ) (before head oldPairs newPairs oldActions newActions : List ℕ) : Type 0 where
   pub told : Told (answerOf (readInto oldPairs oldActions limit input)) r at
-  pub numbers : head ≡ agentNumbersOf (answerOf (readInto oldPairs oldActions limit input)) before
+  pub numbers : head ≡ valueOr (headNumbers sentCounts) (answerOf (readInto oldPairs oldActions limit input)) before
   pub fills : sent.Fills (sentRead (readInto oldPairs oldActions limit input)) oldPairs newPairs oldActions newActions
 
 module _ (fin abort : Bool) (stream frame limit : ℕ) (buffer : List ℕ) where

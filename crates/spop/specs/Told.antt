@@ -16,10 +16,10 @@ module _ {A : Type 0} where
   atOf (done value n) = n
   atOf (refused number place) = place
 
-  -- what was read takes the place of what was there before
-  abbrev pub valueOf : Answer A → A → A
-  valueOf (done value n) before = value
-  valueOf (refused number place) before = before
+  -- what was read, in the form in which it is handed over, takes the place of what was there before
+  abbrev pub valueOr : {B : Type 0} → (A → B) → Answer A → B → B
+  valueOr form (done value n) before = form value
+  valueOr form (refused number place) before = before
 
   pub record Told (a : Answer A) (r at : ℕ) : Type 0 where
     pub says : r ≡ numberOf a

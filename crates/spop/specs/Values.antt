@@ -2,39 +2,20 @@
 use mathlib.Core.List.{List, [], _∷_}
 use Prim.Native.Nat.{ℕ}
 use lib.ListN.{length, getD}
-use Rattle.answer.specs.Answer.{Answer, done, refused}
 use Rattle.types.specs.Value.{Record, value}
-use Rattle.frame.specs.declared.Pair.{Pair}
-use Rattle.frame.specs.Records.{pairNumbers}
 use Rattle.parser.specs.declared.Metadata.{Metadata}
-use Rattle.parser.specs.Payload.{Contents}
-use Rattle.parser.specs.Promise.{countsOf}
 use Rattle.agent.specs.Frame.{Sent}
 
--- the record that the numbers are
+-- the record that the numbers are, and its numbers
 abbrev pub recordIn : List ℕ → Record
 recordIn l = value (getD l 0 0) (getD l 1 0) (getD l 2 0) (getD l 3 0)
 
--- the numbers of what was read, in the place of what was there before
-abbrev pub numbersOf : Answer Record → List ℕ → List ℕ
-numbersOf (done (value kind a b flags) n) before = kind ∷ a ∷ b ∷ flags ∷ []
-numbersOf (refused number place) before = before
+abbrev pub recordNumbers : Record → List ℕ
+recordNumbers (value kind a b flags) = kind ∷ a ∷ b ∷ flags ∷ []
 
-abbrev pub pairNumbersOf : Answer Pair → List ℕ → List ℕ
-pairNumbersOf (done p n) before = pairNumbers p
-pairNumbersOf (refused number place) before = before
-
--- type, flags, stream id, frame id, and how many records it holds of two sorts
-abbrev pub headsBy : {A : Type 0} → (A → ℕ × ℕ) → Answer (Metadata × A) → List ℕ → List ℕ
-headsBy counts (done x n) before = x .0 .kind ∷ x .0 .flags ∷ x .0 .stream ∷ x .0 .frame ∷ counts (x .1) .0 ∷ counts (x .1) .1 ∷ []
-headsBy counts (refused number place) before = before
-
--- messages and pairs; pairs and actions
-abbrev pub headNumbersOf : Answer (Metadata × Contents) → List ℕ → List ℕ
-headNumbersOf a before = headsBy countsOf a before
+-- type, flags, stream id, frame id, and how many records a frame holds of two sorts: messages and pairs, or pairs and actions
+abbrev pub headNumbers : {A : Type 0} → (A → ℕ × ℕ) → Metadata × A → List ℕ
+headNumbers counts x = x .0 .kind ∷ x .0 .flags ∷ x .0 .stream ∷ x .0 .frame ∷ counts (x .1) .0 ∷ counts (x .1) .1 ∷ []
 
 abbrev pub sentCounts : Sent → ℕ × ℕ
 sentCounts x = (length (x .pairs), length (x .actions))
-
-abbrev pub agentNumbersOf : Answer (Metadata × Sent) → List ℕ → List ℕ
-agentNumbersOf a before = headsBy sentCounts a before

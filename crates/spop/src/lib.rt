@@ -24,11 +24,11 @@ ghost use Rattle.types.specs.Promise.{recordOf};
 ghost use Rattle.parser.specs.declared.Metadata.{Metadata as MetadataRecord};
 ghost use Rattle.parser.specs.Payload.{Contents};
 ghost use Rattle.parser.specs.Frame.{Reading, answerOf};
-ghost use Rattle.parser.specs.Promise.{frameSaid, frameTells};
+ghost use Rattle.parser.specs.Promise.{countsOf, frameSaid, frameTells};
 ghost use Rattle.agent.specs.Frame.{Sent};
 ghost use Rattle.agent.specs.Promise.{agentSaid, agentTells};
-ghost use Rattle.spop.specs.Told.{Told};
-ghost use Rattle.spop.specs.Values.{recordIn, headNumbersOf, agentNumbersOf};
+ghost use Rattle.spop.specs.Told.{Told, valueOr};
+ghost use Rattle.spop.specs.Values.{recordIn, headNumbers, sentCounts};
 ghost use Rattle.spop.specs.Promise.{SpopVarintLen, SpopEncodeVarint, SpopDecodeVarint, SpopIsUtf8, SpopSameText, SpopSameTextPlain, SpopLossyText, SpopTypedData, SpopValueLen, SpopCheckValue, SpopWriteValue, SpopReadPair, SpopReadFrame, SpopReadFrameRecords, SpopReadAgentFrame, SpopWriteKv, SpopWriteActions, SpopWriteNotify, SpopNegotiateMaxFrameSize, SpopNegotiateVersion};
 
 const DONE: u64 = 0;
@@ -360,7 +360,7 @@ fn tell(answer: Written, at: &mut u64) -> u64
 
 // What the frame reader answers.
 fn tell_frame(answer: FrameRead, head: &mut [u64; 6], at: &mut u64) -> u64
-    ensures { λ r. ⌜ ((x : Reading (MetadataRecord × Contents)) → frameSaid answer ≡ frameTells x → Told (answerOf x) r (now (at .exit)) × (now (head .exit) ≡ headNumbersOf (answerOf x) (now (head .entry)))) ⌝ }
+    ensures { λ r. ⌜ ((x : Reading (MetadataRecord × Contents)) → frameSaid answer ≡ frameTells x → Told (answerOf x) r (now (at .exit)) × (now (head .exit) ≡ valueOr (headNumbers countsOf) (answerOf x) (now (head .entry)))) ⌝ }
 {
     match answer {
         FrameRead::Done {
@@ -390,7 +390,7 @@ fn tell_frame(answer: FrameRead, head: &mut [u64; 6], at: &mut u64) -> u64
 
 // What the reader of agents' frames answers.
 fn tell_agent(answer: AgentRead, head: &mut [u64; 6], at: &mut u64) -> u64
-    ensures { λ r. ⌜ ((x : Reading (MetadataRecord × Sent)) → agentSaid answer ≡ agentTells x → Told (answerOf x) r (now (at .exit)) × (now (head .exit) ≡ agentNumbersOf (answerOf x) (now (head .entry)))) ⌝ }
+    ensures { λ r. ⌜ ((x : Reading (MetadataRecord × Sent)) → agentSaid answer ≡ agentTells x → Told (answerOf x) r (now (at .exit)) × (now (head .exit) ≡ valueOr (headNumbers sentCounts) (answerOf x) (now (head .entry)))) ⌝ }
 {
     match answer {
         AgentRead::Done {

@@ -20,12 +20,12 @@ refuse-requires : tie.Need-refuse-requires
 refuse-requires c κs = search needs
 
 returns : tie.Need-returns
-returns c = told-done _ (sym (c .before .before .before .decode-varint .ensures) ∙ ap numberSaid (c .before .n .given .1))
+returns c = told-done (λ n. n) _ (sym (c .before .before .before .decode-varint .ensures) ∙ ap numberSaid (c .before .n .given .1))
 
 returns-2 : tie.Need-returns-2
 returns-2 c =
     let k = c .before .before .before in
-    told-refused _ (sym (k .before .before .decode-varint .ensures) ∙ ap numberSaid (k .r .given .1)) (c .refuse .ensures)
+    told-refused (λ n. n) _ (sym (k .before .before .decode-varint .ensures) ∙ ap numberSaid (k .r .given .1)) (c .refuse .ensures)
 
 pub spop-decode-varint-spec : {M : Type 1} → statement M
 spop-decode-varint-spec =

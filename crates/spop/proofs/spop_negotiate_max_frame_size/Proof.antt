@@ -23,12 +23,12 @@ refuse-requires : tie.Need-refuse-requires
 refuse-requires c κs = search needs
 
 returns : tie.Need-returns
-returns c = told-done _ (sym (c .before .before .before .negotiate-max-frame-size .ensures) ∙ ap sizeOf (c .before .n .given .1)) .0
+returns c = told-done (λ n. n) tt (sym (c .before .before .before .negotiate-max-frame-size .ensures) ∙ ap sizeOf (c .before .n .given .1)) .0
 
 returns-2 : tie.Need-returns-2
 returns-2 c =
     let k = c .before .before .before in
-    told-refused _ (sym (k .before .before .negotiate-max-frame-size .ensures) ∙ ap sizeOf (k .r .given .1)) (c .refuse .ensures) .0
+    told-refused (λ n. n) tt (sym (k .before .before .negotiate-max-frame-size .ensures) ∙ ap sizeOf (k .r .given .1)) (c .refuse .ensures) .0
 
 pub spop-negotiate-max-frame-size-spec : {M : Type 1} → statement M
 spop-negotiate-max-frame-size-spec =

@@ -46,7 +46,7 @@ use Rattle.parser.specs.declared.Metadata.{Metadata}
 use Rattle.parser.specs.declared.FrameRead.{FrameRead}
 use Rattle.parser.specs.Payload.{Contents}
 use Rattle.parser.specs.Frame.{Reading, answerOf, frameRead}
-use Rattle.parser.specs.Promise.{frameSaid, frameTells}
+use Rattle.parser.specs.Promise.{countsOf, frameSaid, frameTells}
 use Rattle.parser.proofs.FrameRead as F
 use Rattle.parser.proofs.FrameRead.Laws as F′
 use Rattle.records.specs.Promise.{roomsFor, ReadFrameRecords}
@@ -54,8 +54,8 @@ use Rattle.records.proofs.read_frame_records as read
 use Rattle.records.proofs.read_frame_records.Symbol as read-def
 use Rattle.records.proofs.read_frame_records.Symbol.{name as #read}
 use Rattle.records.proofs.read_frame_records.Met as read-thm
-use Rattle.spop.specs.Told.{Told}
-use Rattle.spop.specs.Values.{headNumbersOf}
+use Rattle.spop.specs.Told.{Told, valueOr}
+use Rattle.spop.specs.Values.{headNumbers}
 use Rattle.spop.specs.Promise.{SpopReadFrameRecords}
 use Rattle.spop.proofs.tell_frame as tell
 use Rattle.spop.proofs.tell_frame.Symbol as tell-def
@@ -189,7 +189,7 @@ module _ {M : Type 1} (𝓤 : URA M) (H : Heap 𝓤) (A : Atoms 𝓤) (W : Given
   Reads f ms ws = ReadFrameRecords (now s) n f (now m) ms (now r) ws
 
   abbrev Tells : FrameRead → ℕ → List ℕ → ℕ → Type 0
-  Tells f k hs at = (x : Reading (Metadata × Contents)) → frameSaid f ≡ frameTells x → Told (answerOf x) k at × (hs ≡ headNumbersOf (answerOf x) (now h))
+  Tells f k hs at = (x : Reading (Metadata × Contents)) → frameSaid f ≡ frameTells x → Told (answerOf x) k at × (hs ≡ valueOr (headNumbers countsOf) (answerOf x) (now h))
 
   kept : (f : FrameRead) (ms : List ℕ) (ws : List Pair) (k : ℕ) (hs : List ℕ) (at : ℕ) → Reads f ms ws → Tells f k hs at → SpopReadFrameRecords (now s) n k at (now h) hs (now m) ms (now r) ws
   kept f ms ws k hs at e e′ = let o = e′ (frameRead n (roomsFor (now m) (now r)) (now s)) (e .says) in record { told = o .0; numbers = o .1; fills = e .fills }

@@ -2,12 +2,9 @@
 -- Assumes nothing.
 use borrow.Author.Needs.{needs}
 use mathlib.Core.Path.{sym, ap, _∙_}
-use Rattle.answer.specs.Answer.{Answer}
-use Rattle.frame.specs.declared.Pair.{Pair}
+use Rattle.frame.specs.Records.{pairNumbers}
 use Rattle.parser.specs.Promise.{pairSaid}
-use Rattle.spop.specs.Values.{pairNumbersOf}
-use Rattle.spop.specs.Told.{numberOf, atOf}
-use Rattle.spop.proofs.Telling.{told-done}
+use Rattle.spop.proofs.Telling.{told-done, told-refused}
 use Rattle.spop.proofs.spop_read_pair.Statement.{statement}
 use Rattle.spop.proofs.spop_read_pair.Tie as tie
 
@@ -24,20 +21,12 @@ refuse-requires : tie.Need-refuse-requires
 refuse-requires c κs = search needs
 
 returns : tie.Need-returns
-returns c =
-    let k = c .before .before .before .before in
-    let a = k .before .before .args in
-    let p = c .before .before .p .given .0 .0 in
-    let e = sym (k .read-pair .ensures) ∙ ap pairSaid (c .before .before .p .given .1) in
-    (told-done p e .0, sym (ap (λ (x : Answer Pair). pairNumbersOf x (a .pair .now)) e))
+returns c = told-done pairNumbers _ (sym (c .before .before .before .before .read-pair .ensures) ∙ ap pairSaid (c .before .before .p .given .1))
 
 returns-2 : tie.Need-returns-2
 returns-2 c =
     let k = c .before .before .before in
-    let t = k .before .before in
-    let a = t .before .before .args in
-    let e = sym (t .read-pair .ensures) ∙ ap pairSaid (k .r .given .1) in
-    (record { says = c .refuse .ensures .0 ∙ sym (ap numberOf e); where-at = c .refuse .ensures .1 ∙ sym (ap atOf e) }, sym (ap (λ (x : Answer Pair). pairNumbersOf x (a .pair .now)) e))
+    told-refused pairNumbers _ (sym (k .before .before .read-pair .ensures) ∙ ap pairSaid (k .r .given .1)) (c .refuse .ensures)
 
 pub spop-read-pair-spec : {M : Type 1} → statement M
 spop-read-pair-spec =

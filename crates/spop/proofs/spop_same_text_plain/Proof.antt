@@ -28,7 +28,7 @@ same-length-2 c = search needs
 returns : tie.Need-returns
 returns c =
     let e = c .before .before .before .before .before .before .before .same-text-plain .ensures in
-    let t = told-done _ (sym (e .says) ∙ ap compared (c .before .are .given .1)) in
+    let t = told-done (λ x. x) _ (sym (e .says) ∙ ap compared (c .before .are .given .1)) in
     record { told = t .0; value = t .1; texts = e .texts }
 
 same-length-3 : tie.Need-same-length-3
@@ -41,7 +41,7 @@ returns-2 : tie.Need-returns-2
 returns-2 c =
     let k = c .before .before .before in
     let e = k .before .before .before .before .before .before .same-text-plain .ensures in
-    let t = told-refused _ (sym (e .says) ∙ ap compared (k .r .given .1)) (c .refuse .ensures) in
+    let t = told-refused (λ x. x) _ (sym (e .says) ∙ ap compared (k .r .given .1)) (c .refuse .ensures) in
     record { told = t .0; value = t .1; texts = e .texts }
 
 pub spop-same-text-plain-spec : {M : Type 1} → statement M
