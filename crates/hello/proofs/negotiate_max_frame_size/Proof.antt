@@ -21,5 +21,4 @@ returns-4 : tie.Need-returns-4
 returns-4 c = sym (size-both _ _ (c .before .before .if1 .left) (c .before .if2 .left) ∙ ap (done tt) (min-eq-right (c .if3 .left)))
 
 pub negotiate-max-frame-size-spec : {M : Type 1} → statement M
-negotiate-max-frame-size-spec =
-    tie.close (tie.spec returns returns-2 returns-3 returns-4)
+negotiate-max-frame-size-spec = tie.close (tie.spec returns returns-2 returns-3 returns-4)

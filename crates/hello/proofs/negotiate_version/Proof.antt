@@ -19,9 +19,6 @@ abbrev μ-loop : tie.MeasureT-loop
 loop-holds : tie.Need-loop-holds Inv-loop μ-loop
 loop-holds c = seeking-none _ _ _
 
-version-at-requires : tie.Need-version-at-requires Inv-loop μ-loop
-version-at-requires c κs = omega arith
-
 covers-supported-requires : tie.Need-covers-supported-requires Inv-loop μ-loop
 covers-supported-requires c κs = tt
 
@@ -37,12 +34,6 @@ returns c =
     let t = c .before .before .before in
     sym (choice-some _ (seeking-here (t .before .loop .inv) (t .loop-test .taken) (sym (asked (c .before)) ∙ c .if1 .taken)))
 
-add-i : tie.Need-add-i Inv-loop μ-loop
-add-i c = omega arith
-
-loop-less : tie.Need-loop-less Inv-loop μ-loop
-loop-less c = omega arith
-
 loop-again : tie.Need-loop-again Inv-loop μ-loop
 loop-again c =
     let t = c .before .before .before in
@@ -54,15 +45,5 @@ returns-2 c = sym (choice-none _ (seeking-all (c .before .loop .inv) (c .loop-te
 
 pub negotiate-version-spec : {M : Type 1} → statement M
 negotiate-version-spec =
-    tie.close
-    (tie.spec
-    Inv-loop
-    μ-loop
-    loop-holds
-    version-at-requires
-    covers-supported-requires
-    returns
-    add-i
-    loop-less
-    loop-again
-    returns-2)
+    tie.close (tie.spec Inv-loop μ-loop loop-holds (λ c κs. omega arith) covers-supported-requires returns (λ c. omega arith) (λ c. omega arith)
+    loop-again returns-2)

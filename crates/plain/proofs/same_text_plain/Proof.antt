@@ -32,54 +32,18 @@ second-stands : (k : tie.After-known-told2 Inv-loop μ-loop) →
     Stands (z .args .b .now) (z .args .b-text .now) (w .lossy-text .last .1 .0) (k .before .before .before .before .before .before .before .before .b-len .given .0 .0)
 second-stands k = stands _ (k .before .before .before .before .before .before .before .before .before .before .before .before .lossy-text .ensures) (k .before .before .before .before .before .before .before .before .b-len .given .1)
 
-has-room-requires : tie.Need-has-room-requires Inv-loop μ-loop
-has-room-requires c κs = search needs
-
 returns : tie.Need-returns Inv-loop μ-loop
 returns c = no-room _ _ _ _ (inl (leb-false _ _ (sym (c .before .has-room .ensures) ∙ not-true _ (c .if1 .taken))))
-
-lossy-text-requires : tie.Need-lossy-text-requires Inv-loop μ-loop
-lossy-text-requires c κs = search needs
-
-enum-known-b-len : tie.Need-enum-known-b-len Inv-loop μ-loop
-enum-known-b-len c = search needs
-
-enum-told : tie.Need-enum-told Inv-loop μ-loop
-enum-told c = search needs
-
-same-length : tie.Need-same-length Inv-loop μ-loop
-same-length c = search needs
 
 returns-2 : tie.Need-returns-2 Inv-loop μ-loop
 returns-2 c = let p = c .before .before .before .before .lossy-text .ensures in
     let refused = c .enum-told .given in
     rw (kept _ p (refused .0 .0) (refused .1)) (no-room _ _ _ _ (inr (short _ p (refused .0 .0) (refused .1))))
 
-lossy-text-requires-2 : tie.Need-lossy-text-requires-2 Inv-loop μ-loop
-lossy-text-requires-2 c κs = search needs
-
-enum-known-a-len : tie.Need-enum-known-a-len Inv-loop μ-loop
-enum-known-a-len c = search needs
-
-enum-told-2 : tie.Need-enum-told-2 Inv-loop μ-loop
-enum-told-2 c = search needs
-
-same-length-2 : tie.Need-same-length-2 Inv-loop μ-loop
-same-length-2 c = search needs
-
-same-length-3 : tie.Need-same-length-3 Inv-loop μ-loop
-same-length-3 c = search needs
-
 returns-3 : tie.Need-returns-3 Inv-loop μ-loop
 returns-3 c = let e = c .before .before .before .before .before .before .before .before .before .before .before .before .before in
     let room = leb-true _ _ (sym (e .before .has-room .ensures) ∙ not-false _ (e .if1 .left)) in
     room-refused (lossy (e .before .before .before .before .before .before .args .a .now)) (c .before .before .before .before .lossy-text2 .ensures) room (c .enum-told2 .given .0 .0) (c .enum-told2 .given .1)
-
-same-length-4 : tie.Need-same-length-4 Inv-loop μ-loop
-same-length-4 c = search needs
-
-same-length-5 : tie.Need-same-length-5 Inv-loop μ-loop
-same-length-5 c = search needs
 
 returns-4 : tie.Need-returns-4 Inv-loop μ-loop
 returns-4 c = lengths-apart (first-stands (c .before)) (second-stands (c .before)) (c .if2 .taken)
@@ -95,31 +59,13 @@ slice-read-if3-2 : tie.Need-slice-read-if3-2 Inv-loop μ-loop
 slice-read-if3-2 c = let k = c .before .before .before in
     omega (arith, c .before .before .loop-test .taken, k .before .if2 .left, text-inside (second-stands (k .before .before)))
 
-same-length-6 : tie.Need-same-length-6 Inv-loop μ-loop
-same-length-6 c = search needs
-
-same-length-7 : tie.Need-same-length-7 Inv-loop μ-loop
-same-length-7 c = search needs
-
 returns-5 : tie.Need-returns-5 Inv-loop μ-loop
 returns-5 c = let k = c .before .before .before .before in
     byte-apart (first-stands (k .before .before)) (second-stands (k .before .before)) (k .before .if2 .left) (k .loop .i) (k .loop .inv) (c .before .before .before .loop-test .taken) (c .if3 .taken)
 
-add-i : tie.Need-add-i Inv-loop μ-loop
-add-i c = search needs
-
-loop-less : tie.Need-loop-less Inv-loop μ-loop
-loop-less c = search needs
-
 loop-again : tie.Need-loop-again Inv-loop μ-loop
 loop-again c = let k = c .before .before .before .before in
     byte-alike (first-stands (k .before .before)) (second-stands (k .before .before)) (k .before .if2 .left) (k .loop .i) (k .loop .inv) (c .before .before .before .loop-test .taken) (c .if3 .left)
-
-same-length-8 : tie.Need-same-length-8 Inv-loop μ-loop
-same-length-8 c = search needs
-
-same-length-9 : tie.Need-same-length-9 Inv-loop μ-loop
-same-length-9 c = search needs
 
 returns-6 : tie.Need-returns-6 Inv-loop μ-loop
 returns-6 c = let k = c .before in
@@ -127,35 +73,7 @@ returns-6 c = let k = c .before in
 
 pub same-text-plain-spec : {M : Type 1} → statement M
 same-text-plain-spec =
-    tie.close
-    (tie.spec
-    Inv-loop
-    μ-loop
-    has-room-requires
-    returns
-    lossy-text-requires
-    enum-known-b-len
-    enum-told
-    same-length
-    returns-2
-    lossy-text-requires-2
-    enum-known-a-len
-    enum-told-2
-    same-length-2
-    same-length-3
-    returns-3
-    same-length-4
-    same-length-5
-    returns-4
-    loop-holds
-    slice-read-if3
-    slice-read-if3-2
-    same-length-6
-    same-length-7
-    returns-5
-    add-i
-    loop-less
-    loop-again
-    same-length-8
-    same-length-9
-    returns-6)
+    tie.close (tie.spec Inv-loop μ-loop (λ c κs. search needs) returns (λ c κs. search needs) (λ c. search needs) (λ c. search needs)
+    (λ c. search needs) returns-2 (λ c κs. search needs) (λ c. search needs) (λ c. search needs) (λ c. search needs) (λ c. search needs) returns-3
+    (λ c. search needs) (λ c. search needs) returns-4 loop-holds slice-read-if3 slice-read-if3-2 (λ c. search needs) (λ c. search needs) returns-5
+    (λ c. search needs) (λ c. search needs) loop-again (λ c. search needs) (λ c. search needs) returns-6)

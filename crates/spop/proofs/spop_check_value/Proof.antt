@@ -8,14 +8,8 @@ use Rattle.types.specs.Check.{valueChecks}
 use Rattle.spop.proofs.spop_check_value.Statement.{statement}
 use Rattle.spop.proofs.spop_check_value.Tie as tie
 
-value-of-requires : tie.Need-value-of-requires
-value-of-requires c κs = search needs
-
-check-value-requires : tie.Need-check-value-requires
-check-value-requires c κs = search needs
-
 returns : tie.Need-returns
 returns c = c .check-value .ensures ∙ ap (λ (v : Record). first (valueChecks (c .before .before .before .args .buffer .now) v)) (c .before .value-of .ensures)
 
 pub spop-check-value-spec : {M : Type 1} → statement M
-spop-check-value-spec = tie.close (tie.spec value-of-requires check-value-requires returns)
+spop-check-value-spec = tie.close (tie.spec (λ c κs. search needs) (λ c κs. search needs) returns)

@@ -7,18 +7,6 @@ use Rattle.spop.proofs.Telling.{told-done, told-refused}
 use Rattle.spop.proofs.spop_decode_varint.Statement.{statement}
 use Rattle.spop.proofs.spop_decode_varint.Tie as tie
 
-decode-varint-requires : tie.Need-decode-varint-requires
-decode-varint-requires c κs = search needs
-
-enum-known-n : tie.Need-enum-known-n
-enum-known-n c = search needs
-
-enum-known-r : tie.Need-enum-known-r
-enum-known-r c = search needs
-
-refuse-requires : tie.Need-refuse-requires
-refuse-requires c κs = search needs
-
 returns : tie.Need-returns
 returns c = told-done (λ n. n) _ (sym (c .before .before .before .decode-varint .ensures) ∙ ap numberSaid (c .before .n .given .1))
 
@@ -29,5 +17,4 @@ returns-2 c =
 
 pub spop-decode-varint-spec : {M : Type 1} → statement M
 spop-decode-varint-spec =
-    tie.close
-    (tie.spec decode-varint-requires enum-known-n enum-known-r refuse-requires returns returns-2)
+    tie.close (tie.spec (λ c κs. search needs) (λ c. search needs) (λ c. search needs) (λ c κs. search needs) returns returns-2)

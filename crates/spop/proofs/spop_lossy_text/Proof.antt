@@ -5,17 +5,8 @@ use Rattle.spop.proofs.Telling.{told-writes}
 use Rattle.spop.proofs.spop_lossy_text.Statement.{statement}
 use Rattle.spop.proofs.spop_lossy_text.Tie as tie
 
-lossy-text-requires : tie.Need-lossy-text-requires
-lossy-text-requires c κs = search needs
-
-tell-requires : tie.Need-tell-requires
-tell-requires c κs = search needs
-
-same-length : tie.Need-same-length
-same-length c = search needs
-
 returns : tie.Need-returns
 returns c = let e = c .before .before .before .before .lossy-text .ensures in (told-writes e (c .tell .ensures), e .holds)
 
 pub spop-lossy-text-spec : {M : Type 1} → statement M
-spop-lossy-text-spec = tie.close (tie.spec lossy-text-requires tell-requires same-length returns)
+spop-lossy-text-spec = tie.close (tie.spec (λ c κs. search needs) (λ c κs. search needs) (λ c. search needs) returns)

@@ -7,21 +7,6 @@ use Rattle.spop.proofs.Telling.{told-done, told-refused}
 use Rattle.spop.proofs.spop_negotiate_max_frame_size.Statement.{statement}
 use Rattle.spop.proofs.spop_negotiate_max_frame_size.Tie as tie
 
-negotiate-max-frame-size-requires : tie.Need-negotiate-max-frame-size-requires
-negotiate-max-frame-size-requires c κs = search needs
-
-enum-known-n : tie.Need-enum-known-n
-enum-known-n c = search needs
-
-cast-at : tie.Need-cast-at
-cast-at c = search needs
-
-enum-known-r : tie.Need-enum-known-r
-enum-known-r c = search needs
-
-refuse-requires : tie.Need-refuse-requires
-refuse-requires c κs = search needs
-
 returns : tie.Need-returns
 returns c = told-done (λ n. n) tt (sym (c .before .before .before .negotiate-max-frame-size .ensures) ∙ ap sizeOf (c .before .n .given .1)) .0
 
@@ -32,12 +17,4 @@ returns-2 c =
 
 pub spop-negotiate-max-frame-size-spec : {M : Type 1} → statement M
 spop-negotiate-max-frame-size-spec =
-    tie.close
-    (tie.spec
-    negotiate-max-frame-size-requires
-    enum-known-n
-    cast-at
-    enum-known-r
-    refuse-requires
-    returns
-    returns-2)
+    tie.close (tie.spec (λ c κs. search needs) (λ c. search needs) (λ c. search needs) (λ c. search needs) (λ c κs. search needs) returns returns-2)

@@ -9,15 +9,6 @@ use Rattle.spop.specs.Told.{chosenOf}
 use Rattle.spop.proofs.spop_negotiate_version.Statement.{statement}
 use Rattle.spop.proofs.spop_negotiate_version.Tie as tie
 
-negotiate-version-requires : tie.Need-negotiate-version-requires
-negotiate-version-requires c κs = search needs
-
-enum-known-v : tie.Need-enum-known-v
-enum-known-v c = search needs
-
-enum-told : tie.Need-enum-told
-enum-told c = search needs
-
 returns : tie.Need-returns
 returns c =
     let a = c .before .before .before .before .before .before .args in
@@ -31,5 +22,4 @@ returns-2 c =
     (sym (none-announced _ e), sym (ap (λ (x : Choice). chosenOf x (a .version .now)) e))
 
 pub spop-negotiate-version-spec : {M : Type 1} → statement M
-spop-negotiate-version-spec =
-    tie.close (tie.spec negotiate-version-requires enum-known-v enum-told returns returns-2)
+spop-negotiate-version-spec = tie.close (tie.spec (λ c κs. search needs) (λ c. search needs) (λ c. search needs) returns returns-2)

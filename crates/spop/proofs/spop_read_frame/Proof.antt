@@ -6,18 +6,6 @@ use Rattle.parser.specs.Promise.{roomsOf}
 use Rattle.spop.proofs.spop_read_frame.Statement.{statement}
 use Rattle.spop.proofs.spop_read_frame.Tie as tie
 
-read-frame-requires : tie.Need-read-frame-requires
-read-frame-requires c κs = search needs
-
-tell-frame-requires : tie.Need-tell-frame-requires
-tell-frame-requires c κs = search needs
-
-same-length : tie.Need-same-length
-same-length c = search needs
-
-same-length-2 : tie.Need-same-length-2
-same-length-2 c = search needs
-
 returns : tie.Need-returns
 returns c =
     let t = c .before .before .before .before .before .before .before in
@@ -26,4 +14,4 @@ returns c =
     record { told = o .0; numbers = o .1; fills = t .read-frame .ensures .fills }
 
 pub spop-read-frame-spec : {M : Type 1} → statement M
-spop-read-frame-spec = tie.close (tie.spec read-frame-requires tell-frame-requires same-length same-length-2 returns)
+spop-read-frame-spec = tie.close (tie.spec (λ c κs. search needs) (λ c κs. search needs) (λ c. search needs) (λ c. search needs) returns)

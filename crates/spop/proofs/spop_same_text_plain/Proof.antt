@@ -7,35 +7,11 @@ use Rattle.spop.proofs.Telling.{told-done, told-refused}
 use Rattle.spop.proofs.spop_same_text_plain.Statement.{statement}
 use Rattle.spop.proofs.spop_same_text_plain.Tie as tie
 
-same-text-plain-requires : tie.Need-same-text-plain-requires
-same-text-plain-requires c κs = search needs
-
-enum-known-are : tie.Need-enum-known-are
-enum-known-are c = search needs
-
-enum-known-r : tie.Need-enum-known-r
-enum-known-r c = search needs
-
-refuse-requires : tie.Need-refuse-requires
-refuse-requires c κs = search needs
-
-same-length : tie.Need-same-length
-same-length c = search needs
-
-same-length-2 : tie.Need-same-length-2
-same-length-2 c = search needs
-
 returns : tie.Need-returns
 returns c =
     let e = c .before .before .before .before .before .before .before .same-text-plain .ensures in
     let t = told-done (λ x. x) _ (sym (e .says) ∙ ap compared (c .before .are .given .1)) in
     record { told = t .0; value = t .1; texts = e .texts }
-
-same-length-3 : tie.Need-same-length-3
-same-length-3 c = search needs
-
-same-length-4 : tie.Need-same-length-4
-same-length-4 c = search needs
 
 returns-2 : tie.Need-returns-2
 returns-2 c =
@@ -46,15 +22,5 @@ returns-2 c =
 
 pub spop-same-text-plain-spec : {M : Type 1} → statement M
 spop-same-text-plain-spec =
-    tie.close
-    (tie.spec
-    same-text-plain-requires
-    enum-known-are
-    enum-known-r
-    refuse-requires
-    same-length
-    same-length-2
-    returns
-    same-length-3
-    same-length-4
-    returns-2)
+    tie.close (tie.spec (λ c κs. search needs) (λ c. search needs) (λ c. search needs) (λ c κs. search needs) (λ c. search needs) (λ c. search needs)
+    returns (λ c. search needs) (λ c. search needs) returns-2)

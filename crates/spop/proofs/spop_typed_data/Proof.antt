@@ -8,18 +8,6 @@ use Rattle.spop.specs.Values.{recordNumbers}
 use Rattle.spop.proofs.spop_typed_data.Statement.{statement}
 use Rattle.spop.proofs.spop_typed_data.Tie as tie
 
-typed-data-requires : tie.Need-typed-data-requires
-typed-data-requires c κs = search needs
-
-enum-known-v : tie.Need-enum-known-v
-enum-known-v c = search needs
-
-enum-known-r : tie.Need-enum-known-r
-enum-known-r c = search needs
-
-refuse-requires : tie.Need-refuse-requires
-refuse-requires c κs = search needs
-
 returns : tie.Need-returns
 returns c = told-done recordNumbers _ (sym (c .before .before .before .before .typed-data .ensures) ∙ ap valueSaid (c .before .before .v .given .1))
 
@@ -29,6 +17,4 @@ returns-2 c =
     told-refused recordNumbers _ (sym (k .before .before .typed-data .ensures) ∙ ap valueSaid (k .r .given .1)) (c .refuse .ensures)
 
 pub spop-typed-data-spec : {M : Type 1} → statement M
-spop-typed-data-spec =
-    tie.close
-    (tie.spec typed-data-requires enum-known-v enum-known-r refuse-requires returns returns-2)
+spop-typed-data-spec = tie.close (tie.spec (λ c κs. search needs) (λ c. search needs) (λ c. search needs) (λ c κs. search needs) returns returns-2)

@@ -7,14 +7,8 @@ use Rattle.types.specs.Form.{valueAnswer, lengthOf}
 use Rattle.spop.proofs.spop_value_len.Statement.{statement}
 use Rattle.spop.proofs.spop_value_len.Tie as tie
 
-value-of-requires : tie.Need-value-of-requires
-value-of-requires c κs = search needs
-
-value-len-requires : tie.Need-value-len-requires
-value-len-requires c κs = search needs
-
 returns : tie.Need-returns
 returns c = c .value-len .ensures ∙ ap (λ (v : Record). lengthOf (valueAnswer (c .before .before .before .args .buffer .now) v)) (c .before .value-of .ensures)
 
 pub spop-value-len-spec : {M : Type 1} → statement M
-spop-value-len-spec = tie.close (tie.spec value-of-requires value-len-requires returns)
+spop-value-len-spec = tie.close (tie.spec (λ c κs. search needs) (λ c κs. search needs) returns)

@@ -5,17 +5,8 @@ use Rattle.spop.proofs.Telling.{told-writes}
 use Rattle.spop.proofs.spop_write_kv.Statement.{statement}
 use Rattle.spop.proofs.spop_write_kv.Tie as tie
 
-write-kv-requires : tie.Need-write-kv-requires
-write-kv-requires c κs = search needs
-
-tell-requires : tie.Need-tell-requires
-tell-requires c κs = search needs
-
-same-length : tie.Need-same-length
-same-length c = search needs
-
 returns : tie.Need-returns
 returns c = let e = c .before .before .before .before .write-kv .ensures in (told-writes e (c .tell .ensures), e .holds)
 
 pub spop-write-kv-spec : {M : Type 1} → statement M
-spop-write-kv-spec = tie.close (tie.spec write-kv-requires tell-requires same-length returns)
+spop-write-kv-spec = tie.close (tie.spec (λ c κs. search needs) (λ c κs. search needs) (λ c. search needs) returns)

@@ -5,18 +5,8 @@ use Rattle.spop.proofs.Telling.{told-writes}
 use Rattle.spop.proofs.spop_write_notify.Statement.{statement}
 use Rattle.spop.proofs.spop_write_notify.Tie as tie
 
-write-notify-requires : tie.Need-write-notify-requires
-write-notify-requires c κs = search needs
-
-tell-requires : tie.Need-tell-requires
-tell-requires c κs = search needs
-
-same-length : tie.Need-same-length
-same-length c = search needs
-
 returns : tie.Need-returns
 returns c = let e = c .before .before .before .before .write-notify .ensures in (told-writes e (c .tell .ensures), e .holds)
 
 pub spop-write-notify-spec : {M : Type 1} → statement M
-spop-write-notify-spec =
-    tie.close (tie.spec write-notify-requires tell-requires same-length returns)
+spop-write-notify-spec = tie.close (tie.spec (λ c κs. search needs) (λ c κs. search needs) (λ c. search needs) returns)

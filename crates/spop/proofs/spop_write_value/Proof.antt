@@ -13,18 +13,6 @@ use Rattle.spop.proofs.Telling.{told-writes}
 use Rattle.spop.proofs.spop_write_value.Statement.{statement}
 use Rattle.spop.proofs.spop_write_value.Tie as tie
 
-value-of-requires : tie.Need-value-of-requires
-value-of-requires c κs = search needs
-
-write-value-requires : tie.Need-write-value-requires
-write-value-requires c κs = search needs
-
-tell-requires : tie.Need-tell-requires
-tell-requires c κs = search needs
-
-same-length : tie.Need-same-length
-same-length c = search needs
-
 returns : tie.Need-returns
 returns c =
     let k = c .before .before .before .before in
@@ -36,5 +24,4 @@ returns c =
     (told-writes w (c .tell .ensures), w .holds)
 
 pub spop-write-value-spec : {M : Type 1} → statement M
-spop-write-value-spec =
-    tie.close (tie.spec value-of-requires write-value-requires tell-requires same-length returns)
+spop-write-value-spec = tie.close (tie.spec (λ c κs. search needs) (λ c κs. search needs) (λ c κs. search needs) (λ c. search needs) returns)

@@ -8,18 +8,6 @@ use Rattle.spop.proofs.Telling.{agent-tells, head-done, head-wait, head
 use Rattle.spop.proofs.tell_agent.Statement.{statement}
 use Rattle.spop.proofs.tell_agent.Tie as tie
 
-enum-known-answer : tie.Need-enum-known-answer
-enum-known-answer c = search needs
-
-enum-known-answer-2 : tie.Need-enum-known-answer-2
-enum-known-answer-2 c = search needs
-
-enum-known-answer-3 : tie.Need-enum-known-answer-3
-enum-known-answer-3 c = search needs
-
-refuse-requires : tie.Need-refuse-requires
-refuse-requires c κs = search needs
-
 returns : tie.Need-returns
 returns c x e =
     let k = c .before .before in
@@ -36,13 +24,4 @@ returns-3 c x e =
     head-refused sentCounts (k .before .before .args .head .now) x _ _ (ap agentSaid (sym (k .answer3 .given .1)) ∙ e ∙ agent-tells x) (c .refuse .ensures)
 
 pub tell-agent-spec : {M : Type 1} → statement M
-tell-agent-spec =
-    tie.close
-    (tie.spec
-    enum-known-answer
-    enum-known-answer-2
-    enum-known-answer-3
-    refuse-requires
-    returns
-    returns-2
-    returns-3)
+tell-agent-spec = tie.close (tie.spec (λ c. search needs) (λ c. search needs) (λ c. search needs) (λ c κs. search needs) returns returns-2 returns-3)

@@ -7,18 +7,6 @@ use Rattle.spop.proofs.Telling.{frame-tells, head-done, head-wait, head
 use Rattle.spop.proofs.tell_frame.Statement.{statement}
 use Rattle.spop.proofs.tell_frame.Tie as tie
 
-enum-known-answer : tie.Need-enum-known-answer
-enum-known-answer c = search needs
-
-enum-known-answer-2 : tie.Need-enum-known-answer-2
-enum-known-answer-2 c = search needs
-
-enum-known-answer-3 : tie.Need-enum-known-answer-3
-enum-known-answer-3 c = search needs
-
-refuse-requires : tie.Need-refuse-requires
-refuse-requires c κs = search needs
-
 returns : tie.Need-returns
 returns c x e =
     let k = c .before .before in
@@ -35,13 +23,4 @@ returns-3 c x e =
     head-refused countsOf (k .before .before .args .head .now) x _ _ (ap frameSaid (sym (k .answer3 .given .1)) ∙ e ∙ frame-tells x) (c .refuse .ensures)
 
 pub tell-frame-spec : {M : Type 1} → statement M
-tell-frame-spec =
-    tie.close
-    (tie.spec
-    enum-known-answer
-    enum-known-answer-2
-    enum-known-answer-3
-    refuse-requires
-    returns
-    returns-2
-    returns-3)
+tell-frame-spec = tie.close (tie.spec (λ c. search needs) (λ c. search needs) (λ c. search needs) (λ c κs. search needs) returns returns-2 returns-3)

@@ -9,19 +9,10 @@ use borrow.Author.Needs.{needs}
 use Rattle.spoplist.proofs.end.Statement.{statement}
 use Rattle.spoplist.proofs.end.Tie as tie
 
-write-end-line-requires : tie.Need-write-end-line-requires
-write-end-line-requires c κs = search needs
-
 print-requires : tie.Need-print-requires
 print-requires c κs = let a = c .before .before .before .before .before .before .args in
     let w = c .before .before .before .write-end-line in
     omega (arith, told-fits (written (endLine (a .used) (a .r .number) (a .r .place))) (length (a .out .now)) (w .result) (w .ensures .says), w .kept .1 .1 .1 .0)
 
-same-length : tie.Need-same-length
-same-length c = search needs
-
-returns : tie.Need-returns
-returns c = search needs
-
 pub end-spec : {M : Type 1} → statement M
-end-spec = tie.close (tie.spec write-end-line-requires print-requires same-length returns)
+end-spec = tie.close (tie.spec (λ c κs. search needs) print-requires (λ c. search needs) (λ c. search needs))

@@ -20,12 +20,6 @@ kept-length : (c : tie.After-write-action-at Inv-loop μ-loop)
     → length (c .write-action-at .last .1 .1 .1 .0) ≡ length (c .before .before .before .before .before .before .before .args .out .now)
 kept-length c = c .write-action-at .kept .1 .1 .1 .0 ∙ c .before .before .before .loop .inv
 
-loop-holds : tie.Need-loop-holds Inv-loop μ-loop
-loop-holds c = search needs
-
-write-action-at-requires : tie.Need-write-action-at-requires Inv-loop μ-loop
-write-action-at-requires c κs = search needs
-
 print-requires : tie.Need-print-requires Inv-loop μ-loop
 print-requires c κs =
     let a = c .before .before .before .before .before .before .before .before .before .before .args in
@@ -36,37 +30,10 @@ print-requires c κs =
 same-length : tie.Need-same-length Inv-loop μ-loop
 same-length c = kept-length (c .before .before .before .before .before)
 
-returns : tie.Need-returns Inv-loop μ-loop
-returns c = search needs
-
-add-k : tie.Need-add-k Inv-loop μ-loop
-add-k c = search needs
-
-loop-less : tie.Need-loop-less Inv-loop μ-loop
-loop-less c = search needs
-
 loop-again : tie.Need-loop-again Inv-loop μ-loop
 loop-again c = kept-length (c .before .before .before .before .before)
 
-same-length-2 : tie.Need-same-length-2 Inv-loop μ-loop
-same-length-2 c = search needs
-
-returns-2 : tie.Need-returns-2 Inv-loop μ-loop
-returns-2 c = search needs
-
 pub list-actions-spec : {M : Type 1} → statement M
 list-actions-spec =
-    tie.close
-    (tie.spec
-    Inv-loop
-    μ-loop
-    loop-holds
-    write-action-at-requires
-    print-requires
-    same-length
-    returns
-    add-k
-    loop-less
-    loop-again
-    same-length-2
-    returns-2)
+    tie.close (tie.spec Inv-loop μ-loop (λ c. search needs) (λ c κs. search needs) print-requires same-length (λ c. search needs) (λ c. search needs)
+    (λ c. search needs) loop-again (λ c. search needs) (λ c. search needs))

@@ -63,20 +63,8 @@ loop-holds c =
     let a = c .before .before .before .before .before .args in
     (omega arith, omega arith, refl, refl, refl, refl, stopping-none (sideIn (a .agents) (a .messages .now) (a .pairs .now) (a .actions .now)) (a .input .now))
 
-sub-list-one : tie.Need-sub-list-one Inv-loop μ-loop
-sub-list-one c = omega arith
-
 part-list-one-start : tie.Need-part-list-one-start Inv-loop μ-loop
 part-list-one-start c = c .before .loop .inv .0
-
-part-list-one-end : tie.Need-part-list-one-end Inv-loop μ-loop
-part-list-one-end c = search needs
-
-list-one-requires : tie.Need-list-one-requires Inv-loop μ-loop
-list-one-requires c κs = search needs
-
-enum-known-used : tie.Need-enum-known-used Inv-loop μ-loop
-enum-known-used c = search needs
 
 -- a frame that was taken ends within the input
 ends : (c : tie.After-used Inv-loop μ-loop) → let l = c .before .before .before .before .before .before .before .before .before .before .before .before .before .before .before .before .before .loop in (l .at + c .used .given .0 .0 ≤ length (c .before .before .before .before .before .before .before .before .before .before .before .before .before .before .before .before .before .before .before .before .before .before .before .args .input .now)) × (1 ≤ c .used .given .0 .0)
@@ -101,9 +89,6 @@ loop-again c =
     let i = c .before .before .before .before .before .before .before .before .before .before .before .before .before .before .before .before .before .before .loop .inv in
     (e .0, omega (arith, e .1, i .1), k .0, k .1, k .2, k .3, stopping-on (i .6) (c .before .before .before .before .before .before .before .before .before .before .before .before .before .before .before .before .before .loop-test .taken) _ (takes (c .before)))
 
-enum-known-why : tie.Need-enum-known-why Inv-loop μ-loop
-enum-known-why c = search needs
-
 same-length : tie.Need-same-length Inv-loop μ-loop
 same-length c = kept (c .before .before .before .before .before .before .before .before .before .before .before) .0
 
@@ -120,9 +105,6 @@ returns : tie.Need-returns Inv-loop μ-loop
 returns c =
     stopping-stop (c .before .before .before .before .before .before .before .before .before .before .before .before .before .before .before .before .before .before .loop .inv .6) (c .before .before .before .before .before .before .before .before .before .before .before .before .before .before .before .before .before .loop-test .taken) _ _ (rw (c .before .why .given .1) at (left (c .before .before .before .before .before .before .before .before .before .before .before)))
 
-enum-told : tie.Need-enum-told Inv-loop μ-loop
-enum-told c = search needs
-
 same-length-5 : tie.Need-same-length-5 Inv-loop μ-loop
 same-length-5 c = kept (c .before .before .before .before .before .before .before .before .before .before) .0
 
@@ -134,9 +116,6 @@ same-length-7 c = kept (c .before .before .before .before .before .before .befor
 
 same-length-8 : tie.Need-same-length-8 Inv-loop μ-loop
 same-length-8 c = kept (c .before .before .before .before .before .before .before .before .before .before) .3
-
-returns-2 : tie.Need-returns-2 Inv-loop μ-loop
-returns-2 c = search needs
 
 same-length-9 : tie.Need-same-length-9 Inv-loop μ-loop
 same-length-9 c = c .before .loop .inv .2
@@ -155,34 +134,7 @@ returns-3 c = stopping-over (c .before .loop .inv .6) (c .loop-test .left)
 
 pub list-all-spec : {M : Type 1} → statement M
 list-all-spec =
-    tie.close
-    (tie.spec
-    Inv-loop
-    μ-loop
-    loop-holds
-    sub-list-one
-    part-list-one-start
-    part-list-one-end
-    list-one-requires
-    enum-known-used
-    add-at
-    add-index
-    loop-less
-    loop-again
-    enum-known-why
-    same-length
-    same-length-2
-    same-length-3
-    same-length-4
-    returns
-    enum-told
-    same-length-5
-    same-length-6
-    same-length-7
-    same-length-8
-    returns-2
-    same-length-9
-    same-length-10
-    same-length-11
-    same-length-12
-    returns-3)
+    tie.close (tie.spec Inv-loop μ-loop loop-holds (λ c. omega arith) part-list-one-start (λ c. search needs) (λ c κs. search needs)
+    (λ c. search needs) add-at add-index loop-less loop-again (λ c. search needs) same-length same-length-2 same-length-3 same-length-4 returns
+    (λ c. search needs) same-length-5 same-length-6 same-length-7 same-length-8 (λ c. search needs) same-length-9 same-length-10 same-length-11
+    same-length-12 returns-3)

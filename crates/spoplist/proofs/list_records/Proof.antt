@@ -33,32 +33,11 @@ fits c =
     let a = c .before .before .before .before .before .before .before .before .before .before .before .args in
     omega (arith, line-fits (length (c .before .before .before .before .before .before .loop .out)) (c .len .given .0 .0) (c .len .given .0 .1 .0) (coming (a .frame .now) (a .messages .now) (a .count) (a .pairs .now) (a .total) (c .before .before .before .before .before .before .loop .place)) (came c), c .before .before .before .before .write-next-line .kept .1 .1 .1 .1 .1 .1 .0)
 
-loop-holds : tie.Need-loop-holds Inv-loop μ-loop
-loop-holds c = search needs
-
-write-next-line-requires : tie.Need-write-next-line-requires Inv-loop μ-loop
-write-next-line-requires c κs = search needs
-
-enum-known-len : tie.Need-enum-known-len Inv-loop μ-loop
-enum-known-len c = search needs
-
-sub-write-all : tie.Need-sub-write-all Inv-loop μ-loop
-sub-write-all c = search needs
-
-part-write-all-start : tie.Need-part-write-all-start Inv-loop μ-loop
-part-write-all-start c = search needs
-
 part-write-all-end : tie.Need-part-write-all-end Inv-loop μ-loop
 part-write-all-end c = fits (c .before .before)
 
-write-all-requires : tie.Need-write-all-requires Inv-loop μ-loop
-write-all-requires c κs = search needs
-
 same-length : tie.Need-same-length Inv-loop μ-loop
 same-length c = kept-length (c .before .before .before .before .before .before .before .before .before)
-
-returns : tie.Need-returns Inv-loop μ-loop
-returns c = search needs
 
 loop-less : tie.Need-loop-less Inv-loop μ-loop
 loop-less c = let l = c .before .before .before .before .before .before .before .before .before .before .before in
@@ -68,44 +47,14 @@ loop-less c = let l = c .before .before .before .before .before .before .before 
 loop-again : tie.Need-loop-again Inv-loop μ-loop
 loop-again c = kept-length (c .before .before .before .before .before .before .before .before .before)
 
-enum-told : tie.Need-enum-told Inv-loop μ-loop
-enum-told c = search needs
-
 same-length-2 : tie.Need-same-length-2 Inv-loop μ-loop
 same-length-2 c = kept-length (c .before .before .before .before)
-
-returns-2 : tie.Need-returns-2 Inv-loop μ-loop
-returns-2 c = search needs
-
-enum-told-2 : tie.Need-enum-told-2 Inv-loop μ-loop
-enum-told-2 c = search needs
 
 same-length-3 : tie.Need-same-length-3 Inv-loop μ-loop
 same-length-3 c = kept-length (c .before .before .before .before)
 
-returns-3 : tie.Need-returns-3 Inv-loop μ-loop
-returns-3 c = search needs
-
 pub list-records-spec : {M : Type 1} → statement M
 list-records-spec =
-    tie.close
-    (tie.spec
-    Inv-loop
-    μ-loop
-    loop-holds
-    write-next-line-requires
-    enum-known-len
-    sub-write-all
-    part-write-all-start
-    part-write-all-end
-    write-all-requires
-    same-length
-    returns
-    loop-less
-    loop-again
-    enum-told
-    same-length-2
-    returns-2
-    enum-told-2
-    same-length-3
-    returns-3)
+    tie.close (tie.spec Inv-loop μ-loop (λ c. search needs) (λ c κs. search needs) (λ c. search needs) (λ c. search needs) (λ c. search needs)
+    part-write-all-end (λ c κs. search needs) same-length (λ c. search needs) loop-less loop-again (λ c. search needs) same-length-2
+    (λ c. search needs) (λ c. search needs) same-length-3 (λ c. search needs))

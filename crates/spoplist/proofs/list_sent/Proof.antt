@@ -24,15 +24,6 @@ taken c =
     sent-taken limit (length (a .pairs .now) / pairWidth) (length (a .actions .now) / actionWidth) (a .rest .now) (g .0 .0) (g .0 .1 .0, g .0 .1 .1 .0) (g .0 .1 .1 .1 .0)
     (sym (ap agentSaid (g .1)) ∙ c .before .before .before .before .before .before .read-agent-frame .ensures .says)
 
-read-agent-frame-requires : tie.Need-read-agent-frame-requires
-read-agent-frame-requires c κs = search needs
-
-enum-known-metadata : tie.Need-enum-known-metadata
-enum-known-metadata c = search needs
-
-write-frame-line-requires : tie.Need-write-frame-line-requires
-write-frame-line-requires c κs = search needs
-
 print-requires : tie.Need-print-requires
 print-requires c κs =
     let a = c .before .before .before .before .before .before .before .before .before .before .before .before .before .before .before .before .before .before .before .args in
@@ -40,92 +31,14 @@ print-requires c κs =
     let w = c .before .before .before .write-frame-line in
     omega (arith, told-fits (written (frameLine (a .index) (m .0 .0) (m .0 .1 .1 .1 .0))) (length (a .out .now)) (w .result) (w .ensures .says), w .kept .1 .1 .1 .0)
 
-same-length : tie.Need-same-length
-same-length c = search needs
-
-same-length-2 : tie.Need-same-length-2
-same-length-2 c = search needs
-
-same-length-3 : tie.Need-same-length-3
-same-length-3 c = search needs
-
-returns : tie.Need-returns
-returns c = search needs
-
-sub-list-records : tie.Need-sub-list-records
-sub-list-records c = search needs
-
-part-list-records-start : tie.Need-part-list-records-start
-part-list-records-start c = search needs
-
 part-list-records-end : tie.Need-part-list-records-end
 part-list-records-end c = taken (c .before .before .before .before .before .before .before .before) .most
-
-slice-aggregate-list-records : tie.Need-slice-aggregate-list-records
-slice-aggregate-list-records c = search needs
-
-list-records-requires : tie.Need-list-records-requires
-list-records-requires c κs = search needs
-
-same-length-4 : tie.Need-same-length-4
-same-length-4 c = search needs
-
-same-length-5 : tie.Need-same-length-5
-same-length-5 c = search needs
-
-same-length-6 : tie.Need-same-length-6
-same-length-6 c = search needs
-
-returns-2 : tie.Need-returns-2
-returns-2 c = search needs
-
-sub-list-actions : tie.Need-sub-list-actions
-sub-list-actions c = search needs
-
-part-list-actions-start : tie.Need-part-list-actions-start
-part-list-actions-start c = search needs
 
 part-list-actions-end : tie.Need-part-list-actions-end
 part-list-actions-end c = taken (c .before .before .before .before .before .before .before .before .before .before .before .before .before .before .before .before) .most
 
-list-actions-requires : tie.Need-list-actions-requires
-list-actions-requires c κs = search needs
-
-same-length-7 : tie.Need-same-length-7
-same-length-7 c = search needs
-
-same-length-8 : tie.Need-same-length-8
-same-length-8 c = search needs
-
-same-length-9 : tie.Need-same-length-9
-same-length-9 c = search needs
-
-returns-3 : tie.Need-returns-3
-returns-3 c = search needs
-
-enum-known-missing : tie.Need-enum-known-missing
-enum-known-missing c = search needs
-
-enum-known-r : tie.Need-enum-known-r
-enum-known-r c = search needs
-
-same-length-10 : tie.Need-same-length-10
-same-length-10 c = search needs
-
-same-length-11 : tie.Need-same-length-11
-same-length-11 c = search needs
-
-same-length-12 : tie.Need-same-length-12
-same-length-12 c = search needs
-
 returns-4 : tie.Need-returns-4
 returns-4 c = taken (c .before .before .before .before .before .before .before .before .before .before .before .before .before .before .before .before .before .before .before .before .before .before .before)
-
-same-length-13 : tie.Need-same-length-13
-same-length-13 c = search needs
-
-same-length-14 : tie.Need-same-length-14
-same-length-14 c = search needs
 
 returns-5 : tie.Need-returns-5
 returns-5 c =
@@ -133,12 +46,6 @@ returns-5 c =
     let g = c .before .missing .given in
     sent-wait limit (length (a .pairs .now) / pairWidth) (length (a .actions .now) / actionWidth) (a .rest .now) (g .0 .0)
     (sym (ap agentSaid (g .1)) ∙ c .before .before .before .before .before .before .before .read-agent-frame .ensures .says)
-
-same-length-15 : tie.Need-same-length-15
-same-length-15 c = search needs
-
-same-length-16 : tie.Need-same-length-16
-same-length-16 c = search needs
 
 returns-6 : tie.Need-returns-6
 returns-6 c =
@@ -149,42 +56,9 @@ returns-6 c =
 
 pub list-sent-spec : {M : Type 1} → statement M
 list-sent-spec =
-    tie.close
-    (tie.spec
-    read-agent-frame-requires
-    enum-known-metadata
-    write-frame-line-requires
-    print-requires
-    same-length
-    same-length-2
-    same-length-3
-    returns
-    sub-list-records
-    part-list-records-start
-    part-list-records-end
-    slice-aggregate-list-records
-    list-records-requires
-    same-length-4
-    same-length-5
-    same-length-6
-    returns-2
-    sub-list-actions
-    part-list-actions-start
-    part-list-actions-end
-    list-actions-requires
-    same-length-7
-    same-length-8
-    same-length-9
-    returns-3
-    enum-known-missing
-    enum-known-r
-    same-length-10
-    same-length-11
-    same-length-12
-    returns-4
-    same-length-13
-    same-length-14
-    returns-5
-    same-length-15
-    same-length-16
-    returns-6)
+    tie.close (tie.spec (λ c κs. search needs) (λ c. search needs) (λ c κs. search needs) print-requires (λ c. search needs) (λ c. search needs)
+    (λ c. search needs) (λ c. search needs) (λ c. search needs) (λ c. search needs) part-list-records-end (λ c. search needs) (λ c κs. search needs)
+    (λ c. search needs) (λ c. search needs) (λ c. search needs) (λ c. search needs) (λ c. search needs) (λ c. search needs) part-list-actions-end
+    (λ c κs. search needs) (λ c. search needs) (λ c. search needs) (λ c. search needs) (λ c. search needs) (λ c. search needs) (λ c. search needs)
+    (λ c. search needs) (λ c. search needs) (λ c. search needs) returns-4 (λ c. search needs) (λ c. search needs) returns-5 (λ c. search needs)
+    (λ c. search needs) returns-6)

@@ -9,11 +9,8 @@ use Rattle.types.proofs.sign_extend.Tie as tie
 returns : tie.Need-returns
 returns c = sym (signed-plus _ (c .if1 .taken))
 
-add-result : tie.Need-add-result
-add-result c = search needs
-
 returns-2 : tie.Need-returns-2
 returns-2 c = sym (signed-minus _ (c .if1 .left))
 
 pub sign-extend-spec : {M : Type 1} → statement M
-sign-extend-spec = tie.close (tie.spec returns add-result returns-2)
+sign-extend-spec = tie.close (tie.spec returns (λ c. search needs) returns-2)

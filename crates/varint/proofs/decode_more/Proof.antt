@@ -27,17 +27,11 @@ small c = omega (arith, c .shared-slice-known2 .given (c .before .before .before
 loop-holds : tie.Need-loop-holds Inv-loop μ-loop
 loop-holds c = (refl, refl, omega (arith, c .before .pre), omega arith)
 
-decode-tenth-requires : tie.Need-decode-tenth-requires Inv-loop μ-loop
-decode-tenth-requires c κs = search needs
-
 returns : tie.Need-returns Inv-loop μ-loop
 returns c =
     let k = c .before .before in
     let nine : k .loop .used ≡ 9 = omega (arith, c .before .if1 .taken, k .loop .inv .3) in
     c .decode-tenth .ensures ∙ ap (λ (n : ℕ). more (k .loop .sum) n (drop n (k .before .before .args .input .now))) (sym nine) ∙ sym (k .loop .inv .0)
-
-refused-requires : tie.Need-refused-requires Inv-loop μ-loop
-refused-requires c κs = search needs
 
 returns-2 : tie.Need-returns-2 Inv-loop μ-loop
 returns-2 c =
@@ -45,28 +39,13 @@ returns-2 c =
     let s = k .before .before .args .input .now in
     ap numberSaid (c .refused .ensures) ∙ sym (k .loop .inv .0 ∙ rw (drop-of-length-le s (c .before .if2 .taken)) (more-none _ _))
 
-shared-slice-read-byte : tie.Need-shared-slice-read-byte Inv-loop μ-loop
-shared-slice-read-byte c = omega arith
-
 cast-sum : tie.Need-cast-sum Inv-loop μ-loop
 cast-sum c = omega (arith, small c)
-
-shl-sum : tie.Need-shl-sum Inv-loop μ-loop
-shl-sum c = omega arith
 
 add-sum : tie.Need-add-sum Inv-loop μ-loop
 add-sum c =
     let k = c .before .before .before in
     record { fits = fits (k .before .before .args .input .now) (k .loop .sum) (k .loop .used) (k .loop .shift) (c .before .if2 .left) (k .loop .inv .1) (c .before .before .if1 .left) (small c) (k .loop .inv .2) }
-
-add-used : tie.Need-add-used Inv-loop μ-loop
-add-used c = omega arith
-
-add-shift : tie.Need-add-shift Inv-loop μ-loop
-add-shift c = omega arith
-
-loop-less : tie.Need-loop-less Inv-loop μ-loop
-loop-less c = omega arith
 
 loop-again : tie.Need-loop-again Inv-loop μ-loop
 loop-again c =
@@ -88,21 +67,5 @@ returns-3 c =
 
 pub decode-more-spec : {M : Type 1} → statement M
 decode-more-spec =
-    tie.close
-    (tie.spec
-    Inv-loop
-    μ-loop
-    loop-holds
-    decode-tenth-requires
-    returns
-    refused-requires
-    returns-2
-    shared-slice-read-byte
-    cast-sum
-    shl-sum
-    add-sum
-    add-used
-    add-shift
-    loop-less
-    loop-again
-    returns-3)
+    tie.close (tie.spec Inv-loop μ-loop loop-holds (λ c κs. search needs) returns (λ c κs. search needs) returns-2 (λ c. omega arith) cast-sum
+    (λ c. omega arith) add-sum (λ c. omega arith) (λ c. omega arith) (λ c. omega arith) loop-again returns-3)

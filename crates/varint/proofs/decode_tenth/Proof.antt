@@ -43,31 +43,13 @@ module _ (s : List ℕ) (sum : ℕ) where
       last : sum + addend < 2 ^ 64 → more sum 9 (drop 9 s) ≡ done (sum + addend) 10
       last o = rw whole (ap (more sum 9) next ∙ more-last sum 9 byte (λ e. low) (rw whole at o) (omega arith) (drop 10 s))
 
-refused-requires : tie.Need-refused-requires
-refused-requires c κs = search needs
-
 returns : tie.Need-returns
 returns c = let s = c .before .before .before .args .input .now in ap numberSaid (c .refused .ensures) ∙ sym (none s _ (c .before .if1 .taken))
-
-shared-slice-read-byte : tie.Need-shared-slice-read-byte
-shared-slice-read-byte c = search needs
-
-refused-requires-2 : tie.Need-refused-requires-2
-refused-requires-2 c κs = search needs
 
 returns-2 : tie.Need-returns-2
 returns-2 c =
     let s = c .before .before .before .before .before .args .input .now in
     ap numberSaid (c .refused2 .ensures) ∙ sym (high s _ (c .before .before .before .if1 .left) (c .before .if2 .taken))
-
-cast-addend : tie.Need-cast-addend
-cast-addend c = search needs
-
-sub-if3 : tie.Need-sub-if3
-sub-if3 c = search needs
-
-refused-requires-3 : tie.Need-refused-requires-3
-refused-requires-3 c κs = search needs
 
 returns-3 : tie.Need-returns-3
 returns-3 c =
@@ -75,24 +57,10 @@ returns-3 c =
     ap numberSaid (c .refused3 .ensures)
     ∙ sym (over s (c .before .before .before .before .before .before .args .sum) (c .before .before .before .before .if1 .left) (c .before .before .if2 .left) (omega (arith, c .before .if3 .taken)))
 
-add-t9 : tie.Need-add-t9
-add-t9 c = search needs
-
 returns-4 : tie.Need-returns-4
 returns-4 c = let s = c .before .before .before .before .before .args .input .now in sym (last s (c .before .before .before .before .before .args .sum) (c .before .before .before .if1 .left) (c .before .if2 .left) (omega (arith, c .if3 .left)))
 
 pub decode-tenth-spec : {M : Type 1} → statement M
 decode-tenth-spec =
-    tie.close
-    (tie.spec
-    refused-requires
-    returns
-    shared-slice-read-byte
-    refused-requires-2
-    returns-2
-    cast-addend
-    sub-if3
-    refused-requires-3
-    returns-3
-    add-t9
-    returns-4)
+    tie.close (tie.spec (λ c κs. search needs) returns (λ c. search needs) (λ c κs. search needs) returns-2 (λ c. search needs) (λ c. search needs)
+    (λ c κs. search needs) returns-3 (λ c. search needs) returns-4)

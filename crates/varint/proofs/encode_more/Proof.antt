@@ -30,26 +30,14 @@ last c = rw (groups-last 8 (c .before .loop .rest) (c .loop-test .left)) at (c .
 loop-holds : tie.Need-loop-holds Inv-loop μ-loop
 loop-holds c = (partly-none _ _ (c .pre .1), c .pre .0)
 
-add-out : tie.Need-add-out Inv-loop μ-loop
-add-out c = omega arith
-
-cast-out : tie.Need-cast-out Inv-loop μ-loop
-cast-out c = omega arith
-
 slice-write-out : tie.Need-slice-write-out Inv-loop μ-loop
 slice-write-out c = partly-place (on c)
 
 add-at : tie.Need-add-at Inv-loop μ-loop
 add-at c = omega (arith, partly-place (on c), partly-length (on c))
 
-loop-less : tie.Need-loop-less Inv-loop μ-loop
-loop-less c = omega arith
-
 loop-again : tie.Need-loop-again Inv-loop μ-loop
 loop-again c = (partly-next (on c), omega arith)
-
-cast-out-2 : tie.Need-cast-out-2 Inv-loop μ-loop
-cast-out-2 c = omega arith
 
 slice-write-out-2 : tie.Need-slice-write-out-2 Inv-loop μ-loop
 slice-write-out-2 c = partly-place (last c)
@@ -65,19 +53,5 @@ returns c = (partly-count (partly-next (last c)), partly-all (partly-next (last 
 
 pub encode-more-spec : {M : Type 1} → statement M
 encode-more-spec =
-    tie.close
-    (tie.spec
-    Inv-loop
-    μ-loop
-    loop-holds
-    add-out
-    cast-out
-    slice-write-out
-    add-at
-    loop-less
-    loop-again
-    cast-out-2
-    slice-write-out-2
-    add-result
-    same-length
-    returns)
+    tie.close (tie.spec Inv-loop μ-loop loop-holds (λ c. omega arith) (λ c. omega arith) slice-write-out add-at (λ c. omega arith) loop-again
+    (λ c. omega arith) slice-write-out-2 add-result same-length returns)

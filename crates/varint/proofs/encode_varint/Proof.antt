@@ -43,33 +43,18 @@ both c =
     rw (bytes e)
     (leaves-tail ((240 + i % 16) ∷ []) (groups 9 ((i - 240) / 16)) old _ _ 1 refl (leaves-byte (240 + i % 16) old (room-one (e .before))) (c .before .before .encode-more .ensures .1))
 
-varint-len-requires : tie.Need-varint-len-requires
-varint-len-requires c κs = search needs
-
 returns : tie.Need-returns
 returns c = let a = c .before .before .before .before in
     writes-none (numberBytes (a .args .i)) _ (omega (arith, ltb-true, c .before .varint-len .ensures))
 
-cast-out : tie.Need-cast-out
-cast-out c = search needs
-
 slice-write-out : tie.Need-slice-write-out
 slice-write-out c = room-one (c .before)
-
-same-length : tie.Need-same-length
-same-length c = search needs
 
 returns-2 : tie.Need-returns-2
 returns-2 c = let i = c .before .before .before .args .i in
     let old = c .before .before .before .args .out .now in
     writes-all (numberBytes i) old _ _ (room (c .before)) (rw (bytes-one i (c .if3 .taken)))
     (rw (bytes-one i (c .if3 .taken)) (leaves-byte i old (room-one (c .before))))
-
-add-out : tie.Need-add-out
-add-out c = search needs
-
-cast-out-2 : tie.Need-cast-out-2
-cast-out-2 c = search needs
 
 slice-write-out-2 : tie.Need-slice-write-out-2
 slice-write-out-2 c = room-one (c .before)
@@ -79,9 +64,6 @@ sub-encode-more c = simp length-set (room-one (c .before))
 
 part-encode-more-start : tie.Need-part-encode-more-start
 part-encode-more-start c = simp length-set (room-one (c .before))
-
-part-encode-more-end : tie.Need-part-encode-more-end
-part-encode-more-end c = search needs
 
 encode-more-requires : tie.Need-encode-more-requires
 encode-more-requires c κs = let i = c .before .before .before .before .args .i in
@@ -103,21 +85,6 @@ returns-3 c = let e = c .before .before .before .before in
 
 pub encode-varint-spec : {M : Type 1} → statement M
 encode-varint-spec =
-    tie.close
-    (tie.spec
-    varint-len-requires
-    returns
-    cast-out
-    slice-write-out
-    same-length
-    returns-2
-    add-out
-    cast-out-2
-    slice-write-out-2
-    sub-encode-more
-    part-encode-more-start
-    part-encode-more-end
-    encode-more-requires
-    add-t5
-    same-length-2
+    tie.close (tie.spec (λ c κs. search needs) returns (λ c. search needs) slice-write-out (λ c. search needs) returns-2 (λ c. search needs)
+    (λ c. search needs) slice-write-out-2 sub-encode-more part-encode-more-start (λ c. search needs) encode-more-requires add-t5 same-length-2
     returns-3)

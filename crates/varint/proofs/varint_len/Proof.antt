@@ -74,39 +74,6 @@ returns c = rw (bytes-one _ (c .if1 .taken))
 sub-k : tie.Need-sub-k
 sub-k c = leading-le 64 _
 
-mul-k : tie.Need-mul-k
-mul-k c = search needs
-
-add-if2 : tie.Need-add-if2
-add-if2 c = search needs
-
-sub-if2 : tie.Need-sub-if2
-sub-if2 c = search needs
-
-add-if2-2 : tie.Need-add-if2-2
-add-if2-2 c = search needs
-
-mul-if2 : tie.Need-mul-if2
-mul-if2 c = search needs
-
-cast-if2 : tie.Need-cast-if2
-cast-if2 c = search needs
-
-shl-if2 : tie.Need-shl-if2
-shl-if2 c = search needs
-
-cast-result : tie.Need-cast-result
-cast-result c = search needs
-
-add-result : tie.Need-add-result
-add-result c = search needs
-
-cast-result-2 : tie.Need-cast-result-2
-cast-result-2 c = search needs
-
-add-result-2 : tie.Need-add-result-2
-add-result-2 c = search needs
-
 returns-2 : tie.Need-returns-2
 returns-2 c = shorter (c .before .before .args .i) (c .before .if1 .left) (c .before .before .fits .i .fits) (c .if2 .taken)
 
@@ -115,20 +82,5 @@ returns-3 c = longer (c .before .before .args .i) (c .before .if1 .left) (c .bef
 
 pub varint-len-spec : {M : Type 1} → statement M
 varint-len-spec =
-    tie.close
-    (tie.spec
-    returns
-    sub-k
-    mul-k
-    add-if2
-    sub-if2
-    add-if2-2
-    mul-if2
-    cast-if2
-    shl-if2
-    cast-result
-    add-result
-    cast-result-2
-    add-result-2
-    returns-2
-    returns-3)
+    tie.close (tie.spec returns sub-k (λ c. search needs) (λ c. search needs) (λ c. search needs) (λ c. search needs) (λ c. search needs)
+    (λ c. search needs) (λ c. search needs) (λ c. search needs) (λ c. search needs) (λ c. search needs) (λ c. search needs) returns-2 returns-3)

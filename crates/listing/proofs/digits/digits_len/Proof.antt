@@ -15,14 +15,8 @@ Inv-loop n len₀ rest₀ len rest = len + length (decimal rest) ≡ length (dec
 abbrev μ-loop : tie.MeasureT-loop
 μ-loop n len₀ rest₀ len rest = rest
 
-loop-holds : tie.Need-loop-holds Inv-loop μ-loop
-loop-holds c = omega arith
-
 add-len : tie.Need-add-len Inv-loop μ-loop
 add-len c = let a = c .before .before in omega (arith, decimal-most (a .args .n) (a .fits .n .fits), decimal-some (c .before .loop .rest))
-
-loop-less : tie.Need-loop-less Inv-loop μ-loop
-loop-less c = omega arith
 
 loop-again : tie.Need-loop-again Inv-loop μ-loop
 loop-again c = let l = c .before in omega (arith, length-on (l .loop .rest) (c .loop-test .taken))
@@ -31,5 +25,4 @@ returns : tie.Need-returns Inv-loop μ-loop
 returns c = let l = c .before in omega (arith, length-last (l .loop .rest) (c .loop-test .left))
 
 pub digits-len-spec : {M : Type 1} → statement M
-digits-len-spec =
-    tie.close (tie.spec Inv-loop μ-loop loop-holds add-len loop-less loop-again returns)
+digits-len-spec = tie.close (tie.spec Inv-loop μ-loop (λ c. omega arith) add-len (λ c. omega arith) loop-again returns)

@@ -21,37 +21,13 @@ abbrev μ-loop : tie.MeasureT-loop
 abbrev start : tie.At-loop Inv-loop μ-loop → tie.Start Inv-loop μ-loop
 start l = l .before .before .before
 
-loop-holds : tie.Need-loop-holds Inv-loop μ-loop
-loop-holds c = omega arith
-
-shared-slice-read-if1 : tie.Need-shared-slice-read-if1 Inv-loop μ-loop
-shared-slice-read-if1 c = omega arith
-
-add-len : tie.Need-add-len Inv-loop μ-loop
-add-len c = omega arith
-
 mul-digits-len : tie.Need-mul-digits-len Inv-loop μ-loop
 mul-digits-len c = let a = start (c .before .before .before .before) in omega (arith, a .good)
-
-shared-slice-read-digits-len : tie.Need-shared-slice-read-digits-len Inv-loop μ-loop
-shared-slice-read-digits-len c = omega arith
-
-digits-len-requires : tie.Need-digits-len-requires Inv-loop μ-loop
-digits-len-requires c κs = search needs
 
 add-len-2 : tie.Need-add-len-2 Inv-loop μ-loop
 add-len-2 c = let l = c .before .before .before .before .before .before in
     let numbers = start l .args .numbers .now in
     omega (arith, c .digits-len .ensures, decimal-most (getD numbers (l .loop .used) 0) (omega (arith, c .before .shared-slice-known4 .given (l .loop .used))), start l .pre)
-
-add-used : tie.Need-add-used Inv-loop μ-loop
-add-used c = omega arith
-
-add-i : tie.Need-add-i Inv-loop μ-loop
-add-i c = omega arith
-
-loop-less : tie.Need-loop-less Inv-loop μ-loop
-loop-less c = omega arith
 
 loop-again : tie.Need-loop-again Inv-loop μ-loop
 loop-again c = let l = c .before .before .before in
@@ -82,19 +58,5 @@ returns c = let l = c .before in
 
 pub filled-len-spec : {M : Type 1} → statement M
 filled-len-spec =
-    tie.close
-    (tie.spec
-    Inv-loop
-    μ-loop
-    loop-holds
-    shared-slice-read-if1
-    add-len
-    mul-digits-len
-    shared-slice-read-digits-len
-    digits-len-requires
-    add-len-2
-    add-used
-    add-i
-    loop-less
-    loop-again
-    returns)
+    tie.close (tie.spec Inv-loop μ-loop (λ c. omega arith) (λ c. omega arith) (λ c. omega arith) mul-digits-len (λ c. omega arith)
+    (λ c κs. search needs) add-len-2 (λ c. omega arith) (λ c. omega arith) (λ c. omega arith) loop-again returns)

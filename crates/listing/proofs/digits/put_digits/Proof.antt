@@ -19,35 +19,17 @@ Inv-loop n out₀ len at₀ rest₀ out at rest = (Backwards n out₀ at rest ou
 abbrev μ-loop : tie.MeasureT-loop
 μ-loop n out₀ len at₀ rest₀ out at rest = rest
 
-digits-len-requires : tie.Need-digits-len-requires Inv-loop μ-loop
-digits-len-requires c κs = search needs
-
 loop-holds : tie.Need-loop-holds Inv-loop μ-loop
 loop-holds c = let a = c .before .before in (backwards-none _ _ _ (a .pre) (c .digits-len .ensures), c .digits-len .ensures)
 
 sub-at : tie.Need-sub-at Inv-loop μ-loop
 sub-at c = backwards-place (c .before .loop .inv .0)
 
-cast-glyph : tie.Need-cast-glyph Inv-loop μ-loop
-cast-glyph c = omega arith
-
-glyph-requires : tie.Need-glyph-requires Inv-loop μ-loop
-glyph-requires c κs = omega arith
-
 slice-write-out : tie.Need-slice-write-out Inv-loop μ-loop
 slice-write-out c = let l = c .before .before in omega (arith, backwards-place (l .loop .inv .0), backwards-fits (l .loop .inv .0))
 
-loop-less : tie.Need-loop-less Inv-loop μ-loop
-loop-less c = omega arith
-
 loop-again : tie.Need-loop-again Inv-loop μ-loop
 loop-again c = let l = c .before .before in rw (c .glyph .ensures) (backwards-on (l .loop .inv .0) (c .before .loop-test .taken), l .loop .inv .1)
-
-cast-glyph-2 : tie.Need-cast-glyph-2 Inv-loop μ-loop
-cast-glyph-2 c = omega arith
-
-glyph-requires-2 : tie.Need-glyph-requires-2 Inv-loop μ-loop
-glyph-requires-2 c κs = omega arith
 
 slice-write-out-2 : tie.Need-slice-write-out-2 Inv-loop μ-loop
 slice-write-out-2 c = let l = c .before .before in omega (arith, backwards-place (l .loop .inv .0), backwards-fits (l .loop .inv .0))
@@ -60,20 +42,5 @@ returns c = let l = c .before .before in rw (c .glyph2 .ensures) (backwards-all 
 
 pub put-digits-spec : {M : Type 1} → statement M
 put-digits-spec =
-    tie.close
-    (tie.spec
-    Inv-loop
-    μ-loop
-    digits-len-requires
-    loop-holds
-    sub-at
-    cast-glyph
-    glyph-requires
-    slice-write-out
-    loop-less
-    loop-again
-    cast-glyph-2
-    glyph-requires-2
-    slice-write-out-2
-    same-length
-    returns)
+    tie.close (tie.spec Inv-loop μ-loop (λ c κs. search needs) loop-holds sub-at (λ c. omega arith) (λ c κs. omega arith) slice-write-out
+    (λ c. omega arith) loop-again (λ c. omega arith) (λ c κs. omega arith) slice-write-out-2 same-length returns)

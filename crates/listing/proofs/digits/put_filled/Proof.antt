@@ -46,9 +46,6 @@ marked c =
 loop-holds : tie.Need-loop-holds Inv-loop μ-loop
 loop-holds c = (partly-none _ _ (c .before .before .before .pre), omega arith, omega arith)
 
-shared-slice-read-byte : tie.Need-shared-slice-read-byte Inv-loop μ-loop
-shared-slice-read-byte c = omega arith
-
 slice-write-out : tie.Need-slice-write-out Inv-loop μ-loop
 slice-write-out c = partly-place (plain c)
 
@@ -58,17 +55,11 @@ add-at c = omega (arith, partly-place (plain c), partly-length (plain c))
 mul-put-digits : tie.Need-mul-put-digits Inv-loop μ-loop
 mul-put-digits c = omega (arith, start (c .before .before .before .before) .good)
 
-shared-slice-read-put-digits : tie.Need-shared-slice-read-put-digits Inv-loop μ-loop
-shared-slice-read-put-digits c = omega arith
-
 sub-put-digits : tie.Need-sub-put-digits Inv-loop μ-loop
 sub-put-digits c = next-start (marked (c .before))
 
 part-put-digits-start : tie.Need-part-put-digits-start Inv-loop μ-loop
 part-put-digits-start c = next-start (marked (c .before))
-
-part-put-digits-end : tie.Need-part-put-digits-end Inv-loop μ-loop
-part-put-digits-end c = search needs
 
 put-digits-requires : tie.Need-put-digits-requires Inv-loop μ-loop
 put-digits-requires c κs = next-room (marked (c .before .before))
@@ -77,15 +68,6 @@ add-at-2 : tie.Need-add-at-2 Inv-loop μ-loop
 add-at-2 c = let m = c .before .before .before .before .before in
     let l = m .before .before .before .before in
     omega (arith, next-most (marked m) (c .before .before .put-digits .ensures), start l .good)
-
-add-used : tie.Need-add-used Inv-loop μ-loop
-add-used c = omega arith
-
-add-i : tie.Need-add-i Inv-loop μ-loop
-add-i c = omega arith
-
-loop-less : tie.Need-loop-less Inv-loop μ-loop
-loop-less c = omega arith
 
 loop-again : tie.Need-loop-again Inv-loop μ-loop
 loop-again c = let l = c .before .before .before in
@@ -112,24 +94,6 @@ returns c = all-put (rw (from-end _ _ _ _ (c .loop-test .left)) at (c .before .l
 
 pub put-filled-spec : {M : Type 1} → statement M
 put-filled-spec =
-    tie.close
-    (tie.spec
-    Inv-loop
-    μ-loop
-    loop-holds
-    shared-slice-read-byte
-    slice-write-out
-    add-at
-    mul-put-digits
-    shared-slice-read-put-digits
-    sub-put-digits
-    part-put-digits-start
-    part-put-digits-end
-    put-digits-requires
-    add-at-2
-    add-used
-    add-i
-    loop-less
-    loop-again
-    same-length
-    returns)
+    tie.close (tie.spec Inv-loop μ-loop loop-holds (λ c. omega arith) slice-write-out add-at mul-put-digits (λ c. omega arith) sub-put-digits
+    part-put-digits-start (λ c. search needs) put-digits-requires add-at-2 (λ c. omega arith) (λ c. omega arith) (λ c. omega arith) loop-again
+    same-length returns)

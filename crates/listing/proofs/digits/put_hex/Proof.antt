@@ -37,17 +37,11 @@ one c = partly-next (two c)
 loop-holds : tie.Need-loop-holds Inv-loop μ-loop
 loop-holds c = partly-none _ _ (c .before .before .pre)
 
-shared-slice-read-byte : tie.Need-shared-slice-read-byte Inv-loop μ-loop
-shared-slice-read-byte c = omega arith
-
 glyph-requires : tie.Need-glyph-requires Inv-loop μ-loop
 glyph-requires c κs = omega (arith, c .shared-slice-known2 .given (c .before .before .loop .i))
 
 slice-write-out : tie.Need-slice-write-out Inv-loop μ-loop
 slice-write-out c = partly-place (two (c .before .before))
-
-glyph-requires-2 : tie.Need-glyph-requires-2 Inv-loop μ-loop
-glyph-requires-2 c κs = omega arith
 
 add-out : tie.Need-add-out Inv-loop μ-loop
 add-out c = omega (arith, partly-place (one (c .before .before .before)), partly-length (two (c .before .before .before)))
@@ -57,12 +51,6 @@ slice-write-out-2 c = rw (c .before .glyph .ensures) (partly-place (one (c .befo
 
 add-at : tie.Need-add-at Inv-loop μ-loop
 add-at c = omega (arith, partly-place (one (c .before .before .before)))
-
-add-i : tie.Need-add-i Inv-loop μ-loop
-add-i c = omega arith
-
-loop-less : tie.Need-loop-less Inv-loop μ-loop
-loop-less c = omega arith
 
 loop-again : tie.Need-loop-again Inv-loop μ-loop
 loop-again c = let l = c .before .before .before in
@@ -77,20 +65,5 @@ returns c = all-put (rw (hex-end _ _ (c .loop-test .left)) at (c .before .loop .
 
 pub put-hex-spec : {M : Type 1} → statement M
 put-hex-spec =
-    tie.close
-    (tie.spec
-    Inv-loop
-    μ-loop
-    loop-holds
-    shared-slice-read-byte
-    glyph-requires
-    slice-write-out
-    glyph-requires-2
-    add-out
-    slice-write-out-2
-    add-at
-    add-i
-    loop-less
-    loop-again
-    same-length
-    returns)
+    tie.close (tie.spec Inv-loop μ-loop loop-holds (λ c. omega arith) glyph-requires slice-write-out (λ c κs. omega arith) add-out slice-write-out-2
+    add-at (λ c. omega arith) (λ c. omega arith) loop-again same-length returns)

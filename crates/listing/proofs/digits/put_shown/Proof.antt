@@ -13,9 +13,6 @@ use Rattle.listing.proofs.digits.put_shown.Tie as tie
 slice-write-out : tie.Need-slice-write-out
 slice-write-out c = let a = c .before .before .before in omega (arith, a .pre, ap length (shown-none (a .args .bytes .now) (c .if1 .taken)))
 
-same-length : tie.Need-same-length
-same-length c = search needs
-
 returns : tie.Need-returns
 returns c = let a = c .before .before .before in
     rw (shown-none (a .args .bytes .now) (c .if1 .taken))
@@ -24,13 +21,8 @@ returns c = let a = c .before .before .before in
 put-hex-requires : tie.Need-put-hex-requires
 put-hex-requires c κs = let a = c .before .before .before .before in rw (shown-some (a .args .bytes .now) (c .before .if1 .left)) at (a .pre)
 
-same-length-2 : tie.Need-same-length-2
-same-length-2 c = search needs
-
 returns-2 : tie.Need-returns-2
 returns-2 c = rw (shown-some _ (c .before .before .before .before .if1 .left)) (c .before .before .put-hex .ensures)
 
 pub put-shown-spec : {M : Type 1} → statement M
-put-shown-spec =
-    tie.close
-    (tie.spec slice-write-out same-length returns put-hex-requires same-length-2 returns-2)
+put-shown-spec = tie.close (tie.spec slice-write-out (λ c. search needs) returns put-hex-requires (λ c. search needs) returns-2)

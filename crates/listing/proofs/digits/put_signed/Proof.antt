@@ -24,29 +24,17 @@ begun c = begun-byte _ _ _ (rw (form c) at (c .before .before .pre))
 put-digits-requires : tie.Need-put-digits-requires
 put-digits-requires c κs = let a = c .before .before .before in rw (signed-plus (a .args .n) (c .before .if1 .taken)) at (a .pre)
 
-same-length : tie.Need-same-length
-same-length c = search needs
-
 returns : tie.Need-returns
 returns c = rw (signed-plus _ (c .before .before .before .before .if1 .taken)) (c .before .before .put-digits .ensures)
 
 slice-write-out : tie.Need-slice-write-out
 slice-write-out c = omega (arith, begun c .room)
 
-sub-put-digits : tie.Need-sub-put-digits
-sub-put-digits c = search needs
-
-add-put-digits : tie.Need-add-put-digits
-add-put-digits c = search needs
-
 sub-put-digits-2 : tie.Need-sub-put-digits-2
 sub-put-digits-2 c = begun-start (begun c)
 
 part-put-digits-start : tie.Need-part-put-digits-start
 part-put-digits-start c = begun-start (begun c)
-
-part-put-digits-end : tie.Need-part-put-digits-end
-part-put-digits-end c = search needs
 
 put-digits-requires-2 : tie.Need-put-digits-requires-2
 put-digits-requires-2 c κs = begun-room (begun (c .before))
@@ -62,18 +50,5 @@ returns-2 c = let e = c .before .before .before .before in rw (form e) (begun-bo
 
 pub put-signed-spec : {M : Type 1} → statement M
 put-signed-spec =
-    tie.close
-    (tie.spec
-    put-digits-requires
-    same-length
-    returns
-    slice-write-out
-    sub-put-digits
-    add-put-digits
-    sub-put-digits-2
-    part-put-digits-start
-    part-put-digits-end
-    put-digits-requires-2
-    add-result
-    same-length-2
-    returns-2)
+    tie.close (tie.spec put-digits-requires (λ c. search needs) returns slice-write-out (λ c. search needs) (λ c. search needs) sub-put-digits-2
+    part-put-digits-start (λ c. search needs) put-digits-requires-2 add-result same-length-2 returns-2)

@@ -11,11 +11,8 @@ use Rattle.listing.proofs.digits.shown_len.Tie as tie
 returns : tie.Need-returns
 returns c = λ bytes e. sym (ap length (shown-none bytes (e ∙ c .if1 .taken)))
 
-mul-result : tie.Need-mul-result
-mul-result c = search needs
-
 returns-2 : tie.Need-returns-2
 returns-2 c = λ bytes e. omega (arith, e, ap length (shown-some bytes (λ z. c .if1 .left (sym e ∙ z))), hex-length bytes)
 
 pub shown-len-spec : {M : Type 1} → statement M
-shown-len-spec = tie.close (tie.spec returns mul-result returns-2)
+shown-len-spec = tie.close (tie.spec returns (λ c. search needs) returns-2)

@@ -10,20 +10,8 @@ use borrow.Author.Needs.{needs}
 use Rattle.listing.proofs.digits.signed_len.Statement.{statement}
 use Rattle.listing.proofs.digits.signed_len.Tie as tie
 
-digits-len-requires : tie.Need-digits-len-requires
-digits-len-requires c κs = search needs
-
 returns : tie.Need-returns
 returns c = c .digits-len .ensures ∙ sym (ap length (signed-plus _ (c .before .if1 .taken)))
-
-sub-digits-len : tie.Need-sub-digits-len
-sub-digits-len c = search needs
-
-add-digits-len : tie.Need-add-digits-len
-add-digits-len c = search needs
-
-digits-len-requires-2 : tie.Need-digits-len-requires-2
-digits-len-requires-2 c κs = search needs
 
 add-result : tie.Need-add-result
 add-result c = let n = c .before .before .args .n in omega (arith, c .digits-len2 .ensures, decimal-most (18446744073709551615 - n + 1) (omega (arith, c .before .if1 .left)))
@@ -33,12 +21,4 @@ returns-2 c = let n = c .before .before .args .n in omega (arith, c .digits-len2
 
 pub signed-len-spec : {M : Type 1} → statement M
 signed-len-spec =
-    tie.close
-    (tie.spec
-    digits-len-requires
-    returns
-    sub-digits-len
-    add-digits-len
-    digits-len-requires-2
-    add-result
-    returns-2)
+    tie.close (tie.spec (λ c κs. search needs) returns (λ c. search needs) (λ c. search needs) (λ c κs. search needs) add-result returns-2)

@@ -7,15 +7,9 @@ use borrow.Author.Needs.{needs}
 use Rattle.listing.proofs.line.check_action.Statement.{statement}
 use Rattle.listing.proofs.line.check_action.Tie as tie
 
-is-action-requires : tie.Need-is-action-requires
-is-action-requires c κs = search needs
-
 returns : tie.Need-returns
 returns c = let a = c .before .before .before .args in
     sym (action-unknown (a .frame .now) (a .action) (sym (c .before .is-action .ensures) ∙ not-true _ (c .if1 .taken)))
-
-check-pair-requires : tie.Need-check-pair-requires
-check-pair-requires c κs = search needs
 
 returns-2 : tie.Need-returns-2
 returns-2 c = let a = c .before .before .before .before .args in
@@ -23,4 +17,4 @@ returns-2 c = let a = c .before .before .before .before .args in
     ∙ sym (action-known (a .frame .now) (a .action) (sym (c .before .before .is-action .ensures) ∙ not-false _ (c .before .if1 .left)))
 
 pub check-action-spec : {M : Type 1} → statement M
-check-action-spec = tie.close (tie.spec is-action-requires returns check-pair-requires returns-2)
+check-action-spec = tie.close (tie.spec (λ c κs. search needs) returns (λ c κs. search needs) returns-2)

@@ -17,14 +17,8 @@ fields c = sym (c .before .writable .ensures) ∙ not-false _ (c .if1 .left)
 key : (c : tie.Else2) → let a = c .before .before .before .before .before .args in inside (a .frame .now) (a .pair .start) (a .pair .len) ≡ true
 key c = sym (c .before .is-inside .ensures) ∙ not-false _ (c .if2 .left)
 
-writable-requires : tie.Need-writable-requires
-writable-requires c κs = search needs
-
 returns : tie.Need-returns
 returns c = let a = c .before .before .before .args in sym (pair-fields (a .frame .now) (a .pair) (sym (c .before .writable .ensures) ∙ not-true _ (c .if1 .taken)))
-
-is-inside-requires : tie.Need-is-inside-requires
-is-inside-requires c κs = search needs
 
 returns-2 : tie.Need-returns-2
 returns-2 c = let a = c .before .before .before .before .before .args in sym (pair-key (a .frame .now) (a .pair) (fields (c .before .before)) (sym (c .before .is-inside .ensures) ∙ not-true _ (c .if2 .taken)))
@@ -32,9 +26,6 @@ returns-2 c = let a = c .before .before .before .before .before .args in sym (pa
 returns-3 : tie.Need-returns-3
 returns-3 c = let a = c .before .before .before .before .before .before .before .before .args in
     sym (pair-rest (a .frame .now) (a .pair) (fields (c .before .before .before .before .before)) (key (c .before .before .before)) ∙ first-holds 16 _ _ (pair-plain (a .frame .now) (a .pair) (c .if3 .taken)) ∙ first-none)
-
-is-inside-requires-2 : tie.Need-is-inside-requires-2
-is-inside-requires-2 c κs = search needs
 
 returns-4 : tie.Need-returns-4
 returns-4 c = let a = c .before .before .before .before .before .before .before .before .before .before .args in
@@ -49,13 +40,4 @@ returns-5 c = let a = c .before .before .before .before .before .before .before 
 
 pub check-pair-spec : {M : Type 1} → statement M
 check-pair-spec =
-    tie.close
-    (tie.spec
-    writable-requires
-    returns
-    is-inside-requires
-    returns-2
-    returns-3
-    is-inside-requires-2
-    returns-4
-    returns-5)
+    tie.close (tie.spec (λ c κs. search needs) returns (λ c κs. search needs) returns-2 returns-3 (λ c κs. search needs) returns-4 returns-5)

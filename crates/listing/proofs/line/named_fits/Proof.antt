@@ -22,32 +22,12 @@ whole c =
     let a = c .before .before .before .before .before .before .before .args in
     omega (arith, named-length (filled (a .front .now) (map decimal (a .numbers .now))) (shown (a .name .now)) (filled (a .back .now) (map decimal (a .others .now))), c .before .filled-len .ensures .0, c .filled-len2 .ensures .0)
 
-filled-len-requires : tie.Need-filled-len-requires
-filled-len-requires c κs = search needs
-
-filled-len-requires-2 : tie.Need-filled-len-requires-2
-filled-len-requires-2 c κs = search needs
-
-add-words : tie.Need-add-words
-add-words c = search needs
-
 returns : tie.Need-returns
 returns c = let a = c .before .before .before .before .before .before .before .before .args in sym (lt-leb (length (namedText (a .front .now) (a .numbers .now) (a .name .now) (a .back .now) (a .others .now))) (a .room) (omega (arith, whole (c .before), c .if1 .taken)))
-
-shown-len-requires : tie.Need-shown-len-requires
-shown-len-requires c κs = search needs
 
 returns-2 : tie.Need-returns-2
 returns-2 c = let a = c .before .before .before .before .before .before .before .before .before .args in
     rest-fits (c .shown-len .result) _ (length (namedText (a .front .now) (a .numbers .now) (a .name .now) (a .back .now) (a .others .now))) (a .room) (omega (arith, whole (c .before .before), c .shown-len .ensures (a .name .now) refl)) (c .before .if1 .left)
 
 pub named-fits-spec : {M : Type 1} → statement M
-named-fits-spec =
-    tie.close
-    (tie.spec
-    filled-len-requires
-    filled-len-requires-2
-    add-words
-    returns
-    shown-len-requires
-    returns-2)
+named-fits-spec = tie.close (tie.spec (λ c κs. search needs) (λ c κs. search needs) (λ c. search needs) returns (λ c κs. search needs) returns-2)

@@ -41,9 +41,6 @@ sub-put-shown c = next-start (named c)
 part-put-shown-start : tie.Need-part-put-shown-start
 part-put-shown-start c = next-start (named c)
 
-part-put-shown-end : tie.Need-part-put-shown-end
-part-put-shown-end c = search needs
-
 put-shown-requires : tie.Need-put-shown-requires
 put-shown-requires c κs = next-room (named (c .before))
 
@@ -56,35 +53,16 @@ sub-put-filled c = next-start (counted c)
 part-put-filled-start : tie.Need-part-put-filled-start
 part-put-filled-start c = next-start (counted c)
 
-part-put-filled-end : tie.Need-part-put-filled-end
-part-put-filled-end c = search needs
-
 put-filled-requires-2 : tie.Need-put-filled-requires-2
 put-filled-requires-2 c κs = next-room (counted (c .before))
 
 add-at-2 : tie.Need-add-at-2
 add-at-2 c = omega (arith, next-most (counted (c .before .before .before .before)) (c .before .before .put-filled2 .ensures), c .before .before .before .before .before .before .before .before .before .before .before .before .before .before .before .before .before .before .good)
 
-same-length : tie.Need-same-length
-same-length c = search needs
-
 returns : tie.Need-returns
 returns c = all-put (next-on (counted (c .before .before .before .before)) (c .before .before .put-filled2 .ensures))
 
 pub put-named-spec : {M : Type 1} → statement M
 put-named-spec =
-    tie.close
-    (tie.spec
-    put-filled-requires
-    sub-put-shown
-    part-put-shown-start
-    part-put-shown-end
-    put-shown-requires
-    add-at
-    sub-put-filled
-    part-put-filled-start
-    part-put-filled-end
-    put-filled-requires-2
-    add-at-2
-    same-length
-    returns)
+    tie.close (tie.spec put-filled-requires sub-put-shown part-put-shown-start (λ c. search needs) put-shown-requires add-at sub-put-filled
+    part-put-filled-start (λ c. search needs) put-filled-requires-2 add-at-2 (λ c. search needs) returns)

@@ -34,9 +34,6 @@ bytes c =
 slice-write-out : tie.Need-slice-write-out
 slice-write-out c = let a = c .before .before .before in let v = a .args .value in omega (arith, a .pre .1, ap length (text-null (a .args .frame .now) (v .kind) (v .a) (v .b) (v .flags) (c .if1 .taken)))
 
-same-length : tie.Need-same-length
-same-length c = search needs
-
 returns : tie.Need-returns
 returns c = let a = c .before .before .before in
     let v = a .args .value in
@@ -46,17 +43,11 @@ returns c = let a = c .before .before .before in
 put-signed-requires : tie.Need-put-signed-requires
 put-signed-requires c κs = let a = c .before .before .before .before .before in let v = a .args .value in rw (text-signed32 (a .args .frame .now) (v .kind) (v .a) (v .b) (v .flags) (c .before .if2 .taken)) at (a .pre .1)
 
-same-length-2 : tie.Need-same-length-2
-same-length-2 c = search needs
-
 returns-2 : tie.Need-returns-2
 returns-2 c = let a = c .before .before .before .before .before .before .before .before in let v = a .args .value in rw (text-signed32 (a .args .frame .now) (v .kind) (v .a) (v .b) (v .flags) (c .before .before .before .before .if2 .taken)) (c .before .before .put-signed .ensures)
 
 put-signed-requires-2 : tie.Need-put-signed-requires-2
 put-signed-requires-2 c κs = let a = c .before .before .before .before .before .before in let v = a .args .value in rw (text-signed64 (a .args .frame .now) (v .kind) (v .a) (v .b) (v .flags) (c .before .if3 .taken)) at (a .pre .1)
-
-same-length-3 : tie.Need-same-length-3
-same-length-3 c = search needs
 
 returns-3 : tie.Need-returns-3
 returns-3 c = let a = c .before .before .before .before .before .before .before .before .before in let v = a .args .value in rw (text-signed64 (a .args .frame .now) (v .kind) (v .a) (v .b) (v .flags) (c .before .before .before .before .if3 .taken)) (c .before .before .put-signed2 .ensures)
@@ -64,20 +55,11 @@ returns-3 c = let a = c .before .before .before .before .before .before .before 
 put-digits-requires : tie.Need-put-digits-requires
 put-digits-requires c κs = let a = c .before .before .before .before .before .before .before in let v = a .args .value in rw (text-number (a .args .frame .now) (v .kind) (v .a) (v .b) (v .flags) (c .before .before .before .before .if1 .left) (c .before .before .before .if2 .left) (c .before .before .if3 .left) (c .before .if4 .taken)) at (a .pre .1)
 
-same-length-4 : tie.Need-same-length-4
-same-length-4 c = search needs
-
 returns-4 : tie.Need-returns-4
 returns-4 c = let a = c .before .before .before .before .before .before .before .before .before .before in let v = a .args .value in rw (text-number (a .args .frame .now) (v .kind) (v .a) (v .b) (v .flags) (c .before .before .before .before .before .before .before .if1 .left) (c .before .before .before .before .before .before .if2 .left) (c .before .before .before .before .before .if3 .left) (c .before .before .before .before .if4 .taken)) (c .before .before .put-digits .ensures)
 
 add-to : tie.Need-add-to
 add-to c = omega (arith, inside-frame c, c .before .before .before .before .before .before .good)
-
-sub-put-shown : tie.Need-sub-put-shown
-sub-put-shown c = search needs
-
-part-put-shown-start : tie.Need-part-put-shown-start
-part-put-shown-start c = search needs
 
 part-put-shown-end : tie.Need-part-put-shown-end
 part-put-shown-end c = inside-frame c
@@ -85,32 +67,11 @@ part-put-shown-end c = inside-frame c
 put-shown-requires : tie.Need-put-shown-requires
 put-shown-requires c κs = let a = c .before .before .before .before .before .before .before .before in let v = a .args .value in rw part-lent (rw (bytes (c .before .before)) at (a .pre .1))
 
-same-length-5 : tie.Need-same-length-5
-same-length-5 c = search needs
-
 returns-5 : tie.Need-returns-5
 returns-5 c = rw (bytes (c .before .before .before .before .before)) (rw part-lent at (c .before .before .put-shown .ensures))
 
 pub put-text-spec : {M : Type 1} → statement M
 put-text-spec =
-    tie.close
-    (tie.spec
-    slice-write-out
-    same-length
-    returns
-    put-signed-requires
-    same-length-2
-    returns-2
-    put-signed-requires-2
-    same-length-3
-    returns-3
-    put-digits-requires
-    same-length-4
-    returns-4
-    add-to
-    sub-put-shown
-    part-put-shown-start
-    part-put-shown-end
-    put-shown-requires
-    same-length-5
-    returns-5)
+    tie.close (tie.spec slice-write-out (λ c. search needs) returns put-signed-requires (λ c. search needs) returns-2 put-signed-requires-2
+    (λ c. search needs) returns-3 put-digits-requires (λ c. search needs) returns-4 add-to (λ c. search needs) (λ c. search needs) part-put-shown-end
+    put-shown-requires (λ c. search needs) returns-5)

@@ -61,29 +61,17 @@ sub-put-shown c = next-start (keyed c)
 part-put-shown-start : tie.Need-part-put-shown-start
 part-put-shown-start c = next-start (keyed c)
 
-part-put-shown-end : tie.Need-part-put-shown-end
-part-put-shown-end c = search needs
-
 put-shown-requires : tie.Need-put-shown-requires
 put-shown-requires c κs = next-room (keyed (c .before))
 
 add-at : tie.Need-add-at
 add-at c = omega (arith, next-most (keyed (c .before .before .before .before)) (c .before .before .put-shown .ensures), c .before .before .before .before .before .before .before .before .before .before .before .before .before .good)
 
-slice-aggregate-put-filled : tie.Need-slice-aggregate-put-filled
-slice-aggregate-put-filled c = search needs
-
-slice-aggregate-put-filled-2 : tie.Need-slice-aggregate-put-filled-2
-slice-aggregate-put-filled-2 c = search needs
-
 sub-put-filled : tie.Need-sub-put-filled
 sub-put-filled c = next-start (kinded (c .before .before))
 
 part-put-filled-start : tie.Need-part-put-filled-start
 part-put-filled-start c = next-start (kinded (c .before .before))
-
-part-put-filled-end : tie.Need-part-put-filled-end
-part-put-filled-end c = search needs
 
 put-filled-requires-2 : tie.Need-put-filled-requires-2
 put-filled-requires-2 c κs = next-room (kinded (c .before .before .before))
@@ -96,9 +84,6 @@ sub-put-text c = next-start (valued c)
 
 part-put-text-start : tie.Need-part-put-text-start
 part-put-text-start c = next-start (valued c)
-
-part-put-text-end : tie.Need-part-put-text-end
-part-put-text-end c = search needs
 
 put-text-requires : tie.Need-put-text-requires
 put-text-requires c κs = (c .before .before .before .before .before .before .before .before .before .before .before .before .before .before .before .before .before .before .before .before .pre .0, next-room (valued (c .before)))
@@ -120,27 +105,6 @@ returns c = all-put (partly-next (ended c))
 
 pub put-valued-spec : {M : Type 1} → statement M
 put-valued-spec =
-    tie.close
-    (tie.spec
-    put-filled-requires
-    sub-put-shown
-    part-put-shown-start
-    part-put-shown-end
-    put-shown-requires
-    add-at
-    slice-aggregate-put-filled
-    slice-aggregate-put-filled-2
-    sub-put-filled
-    part-put-filled-start
-    part-put-filled-end
-    put-filled-requires-2
-    add-at-2
-    sub-put-text
-    part-put-text-start
-    part-put-text-end
-    put-text-requires
-    add-at-3
-    slice-write-out
-    add-result
-    same-length
-    returns)
+    tie.close (tie.spec put-filled-requires sub-put-shown part-put-shown-start (λ c. search needs) put-shown-requires add-at (λ c. search needs)
+    (λ c. search needs) sub-put-filled part-put-filled-start (λ c. search needs) put-filled-requires-2 add-at-2 sub-put-text part-put-text-start
+    (λ c. search needs) put-text-requires add-at-3 slice-write-out add-result same-length returns)

@@ -23,20 +23,11 @@ inside-frame c =
 returns : tie.Need-returns
 returns c = let v = c .before .before .args .value in sym (ap length (text-null (c .before .before .args .frame .now) (v .kind) (v .a) (v .b) (v .flags) (c .if1 .taken)))
 
-signed-len-requires : tie.Need-signed-len-requires
-signed-len-requires c κs = search needs
-
 returns-2 : tie.Need-returns-2
 returns-2 c = let v = c .before .before .before .before .args .value in c .signed-len .ensures ∙ sym (ap length (text-signed32 (c .before .before .before .before .args .frame .now) (v .kind) (v .a) (v .b) (v .flags) (c .before .if2 .taken)))
 
-signed-len-requires-2 : tie.Need-signed-len-requires-2
-signed-len-requires-2 c κs = search needs
-
 returns-3 : tie.Need-returns-3
 returns-3 c = let v = c .before .before .before .before .before .args .value in c .signed-len2 .ensures ∙ sym (ap length (text-signed64 (c .before .before .before .before .before .args .frame .now) (v .kind) (v .a) (v .b) (v .flags) (c .before .if3 .taken)))
-
-digits-len-requires : tie.Need-digits-len-requires
-digits-len-requires c κs = search needs
 
 returns-4 : tie.Need-returns-4
 returns-4 c = let v = c .before .before .before .before .before .before .args .value in
@@ -55,14 +46,5 @@ returns-5 c = let e = c .before in
 
 pub text-len-spec : {M : Type 1} → statement M
 text-len-spec =
-    tie.close
-    (tie.spec
-    returns
-    signed-len-requires
-    returns-2
-    signed-len-requires-2
-    returns-3
-    digits-len-requires
-    returns-4
-    shown-len-requires
+    tie.close (tie.spec returns (λ c κs. search needs) returns-2 (λ c κs. search needs) returns-3 (λ c κs. search needs) returns-4 shown-len-requires
     returns-5)

@@ -25,37 +25,13 @@ whole c =
     let a = c .before .before .before .before .before .before .before .before .args in
     omega (arith, valued-length (filled (a .front .now) (map decimal (a .numbers .now))) (shown (a .key .now)) (filled kindForm (decimal (a .value .kind) ∷ [])) (valueText (a .frame .now) (recordOf (a .value))), c .before .before .before .filled-len .ensures .0, c .filled-len2 .ensures .0)
 
-filled-len-requires : tie.Need-filled-len-requires
-filled-len-requires c κs = search needs
-
-slice-aggregate-filled-len : tie.Need-slice-aggregate-filled-len
-slice-aggregate-filled-len c = search needs
-
-slice-aggregate-filled-len-2 : tie.Need-slice-aggregate-filled-len-2
-slice-aggregate-filled-len-2 c = search needs
-
-filled-len-requires-2 : tie.Need-filled-len-requires-2
-filled-len-requires-2 c κs = search needs
-
-add-words : tie.Need-add-words
-add-words c = search needs
-
-add-words-2 : tie.Need-add-words-2
-add-words-2 c = search needs
-
 returns : tie.Need-returns
 returns c = let a = c .before .before .before .before .before .before .before .before .before .args in
     sym (lt-leb (length (valuedText (a .front .now) (a .numbers .now) (a .key .now) (a .frame .now) (a .value))) (a .room) (omega (arith, whole (c .before), c .if1 .taken)))
 
-shown-len-requires : tie.Need-shown-len-requires
-shown-len-requires c κs = search needs
-
 returns-2 : tie.Need-returns-2
 returns-2 c = let a = c .before .before .before .before .before .before .before .before .before .before .before .args in
     sym (lt-leb (length (valuedText (a .front .now) (a .numbers .now) (a .key .now) (a .frame .now) (a .value))) (a .room) (omega (arith, whole (c .before .before .before), c .before .shown-len .ensures (a .key .now) refl, c .before .before .if1 .left, c .if2 .taken)))
-
-text-len-requires : tie.Need-text-len-requires
-text-len-requires c κs = search needs
 
 returns-3 : tie.Need-returns-3
 returns-3 c = let a = c .before .before .before .before .before .before .before .before .before .before .before .before .args in
@@ -69,16 +45,5 @@ returns-3 c = let a = c .before .before .before .before .before .before .before 
 
 pub valued-fits-spec : {M : Type 1} → statement M
 valued-fits-spec =
-    tie.close
-    (tie.spec
-    filled-len-requires
-    slice-aggregate-filled-len
-    slice-aggregate-filled-len-2
-    filled-len-requires-2
-    add-words
-    add-words-2
-    returns
-    shown-len-requires
-    returns-2
-    text-len-requires
-    returns-3)
+    tie.close (tie.spec (λ c κs. search needs) (λ c. search needs) (λ c. search needs) (λ c κs. search needs) (λ c. search needs) (λ c. search needs)
+    returns (λ c κs. search needs) returns-2 (λ c κs. search needs) returns-3)

@@ -24,12 +24,6 @@ ends : (c : tie.Else1) → let a = c .before .before .before .before .args in a 
 ends c = let a = c .before .before .before .before .args in
     leb-true _ _ (pair-passed (a .frame .now) (a .action .pair) (action-pair (a .frame .now) (a .action) (none c)) .1)
 
-check-action-requires : tie.Need-check-action-requires
-check-action-requires c κs = search needs
-
-refused-requires : tie.Need-refused-requires
-refused-requires c κs = search needs
-
 returns : tie.Need-returns
 returns c = let a = c .before .before .before .before .before .args in
     let f = a .frame .now in
@@ -40,18 +34,6 @@ returns c = let a = c .before .before .before .before .before .args in
 add-to : tie.Need-add-to
 add-to c = omega (arith, ends c, c .before .before .before .before .good)
 
-slice-aggregate-write-valued : tie.Need-slice-aggregate-write-valued
-slice-aggregate-write-valued c = search needs
-
-slice-aggregate-write-valued-2 : tie.Need-slice-aggregate-write-valued-2
-slice-aggregate-write-valued-2 c = search needs
-
-sub-write-valued : tie.Need-sub-write-valued
-sub-write-valued c = search needs
-
-part-write-valued-start : tie.Need-part-write-valued-start
-part-write-valued-start c = search needs
-
 part-write-valued-end : tie.Need-part-write-valued-end
 part-write-valued-end c = ends (c .before .before .before .before)
 
@@ -60,9 +42,6 @@ write-valued-requires c κs = let a = c .before .before .before .before .before 
     let p = pair-passed (a .frame .now) (a .action .pair) (action-pair (a .frame .now) (a .action) (none (c .before .before .before .before .before .before))) in
     (omega arith, record { fields = p .0; range = p .2 })
 
-same-length : tie.Need-same-length
-same-length c = search needs
-
 returns-2 : tie.Need-returns-2
 returns-2 c = let a = c .before .before .before .before .before .before .before .before .before .before .before .before .before .args in
     let f = a .frame .now in
@@ -70,32 +49,8 @@ returns-2 c = let a = c .before .before .before .before .before .before .before 
     rw (after-none (actionChecks f x) (written (actionLine (a .index) f x)) (none (c .before .before .before .before .before .before .before .before .before)), action-set f x (a .index) (c .before .before .before .before .before .before .before .if2 .taken))
     (rw part-lent at (c .before .before .write-valued .ensures))
 
-slice-aggregate-write-named : tie.Need-slice-aggregate-write-named
-slice-aggregate-write-named c = search needs
-
-slice-aggregate-write-named-2 : tie.Need-slice-aggregate-write-named-2
-slice-aggregate-write-named-2 c = search needs
-
-sub-write-named : tie.Need-sub-write-named
-sub-write-named c = search needs
-
-part-write-named-start : tie.Need-part-write-named-start
-part-write-named-start c = search needs
-
 part-write-named-end : tie.Need-part-write-named-end
 part-write-named-end c = ends (c .before .before .before .before)
-
-slice-aggregate-write-named-3 : tie.Need-slice-aggregate-write-named-3
-slice-aggregate-write-named-3 c = search needs
-
-slice-aggregate-write-named-4 : tie.Need-slice-aggregate-write-named-4
-slice-aggregate-write-named-4 c = search needs
-
-write-named-requires : tie.Need-write-named-requires
-write-named-requires c κs = search needs
-
-same-length-2 : tie.Need-same-length-2
-same-length-2 c = search needs
 
 returns-3 : tie.Need-returns-3
 returns-3 c = let a = c .before .before .before .before .before .before .before .before .before .before .before .before .before .before .before .args in
@@ -106,27 +61,7 @@ returns-3 c = let a = c .before .before .before .before .before .before .before 
 
 pub write-action-line-spec : {M : Type 1} → statement M
 write-action-line-spec =
-    tie.close
-    (tie.spec
-    check-action-requires
-    refused-requires
-    returns
-    add-to
-    slice-aggregate-write-valued
-    slice-aggregate-write-valued-2
-    sub-write-valued
-    part-write-valued-start
-    part-write-valued-end
-    write-valued-requires
-    same-length
-    returns-2
-    slice-aggregate-write-named
-    slice-aggregate-write-named-2
-    sub-write-named
-    part-write-named-start
-    part-write-named-end
-    slice-aggregate-write-named-3
-    slice-aggregate-write-named-4
-    write-named-requires
-    same-length-2
+    tie.close (tie.spec (λ c κs. search needs) (λ c κs. search needs) returns add-to (λ c. search needs) (λ c. search needs) (λ c. search needs)
+    (λ c. search needs) part-write-valued-end write-valued-requires (λ c. search needs) returns-2 (λ c. search needs) (λ c. search needs)
+    (λ c. search needs) (λ c. search needs) part-write-named-end (λ c. search needs) (λ c. search needs) (λ c κs. search needs) (λ c. search needs)
     returns-3)

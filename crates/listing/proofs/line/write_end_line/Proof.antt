@@ -7,28 +7,13 @@ use borrow.Author.Needs.{needs}
 use Rattle.listing.proofs.line.write_end_line.Statement.{statement}
 use Rattle.listing.proofs.line.write_end_line.Tie as tie
 
-slice-aggregate-filled-len : tie.Need-slice-aggregate-filled-len
-slice-aggregate-filled-len c = search needs
-
-filled-len-requires : tie.Need-filled-len-requires
-filled-len-requires c κs = search needs
-
-refused-requires : tie.Need-refused-requires
-refused-requires c κs = search needs
-
 returns : tie.Need-returns
 unfolding endLine
 returns c = let a = c .before .before .before .before .before .before .before in
     rw (c .refused .ensures) (writes-none (endLine (a .args .used) (a .args .number) (a .args .at)) (a .args .out .now) (omega (arith, c .before .before .filled-len .ensures .0, c .before .if1 .taken)))
 
-slice-aggregate-put-filled : tie.Need-slice-aggregate-put-filled
-slice-aggregate-put-filled c = search needs
-
 put-filled-requires : tie.Need-put-filled-requires
 put-filled-requires c κs = omega (arith, c .before .before .before .before .filled-len .ensures .0, c .before .before .before .if1 .left)
-
-same-length : tie.Need-same-length
-same-length c = search needs
 
 returns-2 : tie.Need-returns-2
 unfolding endLine
@@ -38,13 +23,5 @@ returns-2 c = let a = c .before .before .before .before .before .before .before 
 
 pub write-end-line-spec : {M : Type 1} → statement M
 write-end-line-spec =
-    tie.close
-    (tie.spec
-    slice-aggregate-filled-len
-    filled-len-requires
-    refused-requires
-    returns
-    slice-aggregate-put-filled
-    put-filled-requires
-    same-length
-    returns-2)
+    tie.close (tie.spec (λ c. search needs) (λ c κs. search needs) (λ c κs. search needs) returns (λ c. search needs) put-filled-requires
+    (λ c. search needs) returns-2)

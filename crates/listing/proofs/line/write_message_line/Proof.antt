@@ -24,12 +24,6 @@ named c = sym (c .before .is-inside .ensures) ∙ not-false _ (c .if1 .left)
 ends : (c : tie.Else1) → let a = c .before .before .before .before .args in a .message .start + a .message .len ≤ length (a .frame .now)
 ends c = leb-true _ _ (named c)
 
-is-inside-requires : tie.Need-is-inside-requires
-is-inside-requires c κs = search needs
-
-refused-requires : tie.Need-refused-requires
-refused-requires c κs = search needs
-
 returns : tie.Need-returns
 returns c = let a = c .before .before .before .before .before .args in
     let f = a .frame .now in
@@ -41,32 +35,8 @@ returns c = let a = c .before .before .before .before .before .args in
 add-to : tie.Need-add-to
 add-to c = omega (arith, ends c, c .before .before .before .before .good)
 
-slice-aggregate-write-named : tie.Need-slice-aggregate-write-named
-slice-aggregate-write-named c = search needs
-
-slice-aggregate-write-named-2 : tie.Need-slice-aggregate-write-named-2
-slice-aggregate-write-named-2 c = search needs
-
-sub-write-named : tie.Need-sub-write-named
-sub-write-named c = search needs
-
-part-write-named-start : tie.Need-part-write-named-start
-part-write-named-start c = search needs
-
 part-write-named-end : tie.Need-part-write-named-end
 part-write-named-end c = ends (c .before .before)
-
-slice-aggregate-write-named-3 : tie.Need-slice-aggregate-write-named-3
-slice-aggregate-write-named-3 c = search needs
-
-slice-aggregate-write-named-4 : tie.Need-slice-aggregate-write-named-4
-slice-aggregate-write-named-4 c = search needs
-
-write-named-requires : tie.Need-write-named-requires
-write-named-requires c κs = search needs
-
-same-length : tie.Need-same-length
-same-length c = search needs
 
 returns-2 : tie.Need-returns-2
 unfolding messageLine
@@ -78,19 +48,5 @@ returns-2 c = let a = c .before .before .before .before .before .before .before 
 
 pub write-message-line-spec : {M : Type 1} → statement M
 write-message-line-spec =
-    tie.close
-    (tie.spec
-    is-inside-requires
-    refused-requires
-    returns
-    add-to
-    slice-aggregate-write-named
-    slice-aggregate-write-named-2
-    sub-write-named
-    part-write-named-start
-    part-write-named-end
-    slice-aggregate-write-named-3
-    slice-aggregate-write-named-4
-    write-named-requires
-    same-length
-    returns-2)
+    tie.close (tie.spec (λ c κs. search needs) (λ c κs. search needs) returns add-to (λ c. search needs) (λ c. search needs) (λ c. search needs)
+    (λ c. search needs) part-write-named-end (λ c. search needs) (λ c. search needs) (λ c κs. search needs) (λ c. search needs) returns-2)

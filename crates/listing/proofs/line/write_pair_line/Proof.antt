@@ -25,12 +25,6 @@ none c = sym (c .before .check-pair .ensures) ∙ c .if1 .left
 ends : (c : tie.Else1) → let a = c .before .before .before .before .args in a .pair .start + a .pair .len ≤ length (a .frame .now)
 ends c = let a = c .before .before .before .before .args in leb-true _ _ (pair-passed (a .frame .now) (a .pair) (none c) .1)
 
-check-pair-requires : tie.Need-check-pair-requires
-check-pair-requires c κs = search needs
-
-refused-requires : tie.Need-refused-requires
-refused-requires c κs = search needs
-
 returns : tie.Need-returns
 returns c = let a = c .before .before .before .before .before .args in
     let f = a .frame .now in
@@ -41,18 +35,6 @@ returns c = let a = c .before .before .before .before .before .args in
 add-to : tie.Need-add-to
 add-to c = omega (arith, ends c, c .before .before .before .before .good)
 
-slice-aggregate-write-valued : tie.Need-slice-aggregate-write-valued
-slice-aggregate-write-valued c = search needs
-
-slice-aggregate-write-valued-2 : tie.Need-slice-aggregate-write-valued-2
-slice-aggregate-write-valued-2 c = search needs
-
-sub-write-valued : tie.Need-sub-write-valued
-sub-write-valued c = search needs
-
-part-write-valued-start : tie.Need-part-write-valued-start
-part-write-valued-start c = search needs
-
 part-write-valued-end : tie.Need-part-write-valued-end
 part-write-valued-end c = ends (c .before .before)
 
@@ -60,9 +42,6 @@ write-valued-requires : tie.Need-write-valued-requires
 write-valued-requires c κs = let a = c .before .before .before .before .before .before .before .before .args in
     let p = pair-passed (a .frame .now) (a .pair) (none (c .before .before .before .before)) in
     (omega arith, record { fields = p .0; range = p .2 })
-
-same-length : tie.Need-same-length
-same-length c = search needs
 
 returns-2 : tie.Need-returns-2
 unfolding pairLine
@@ -74,17 +53,5 @@ returns-2 c = let a = c .before .before .before .before .before .before .before 
 
 pub write-pair-line-spec : {M : Type 1} → statement M
 write-pair-line-spec =
-    tie.close
-    (tie.spec
-    check-pair-requires
-    refused-requires
-    returns
-    add-to
-    slice-aggregate-write-valued
-    slice-aggregate-write-valued-2
-    sub-write-valued
-    part-write-valued-start
-    part-write-valued-end
-    write-valued-requires
-    same-length
-    returns-2)
+    tie.close (tie.spec (λ c κs. search needs) (λ c κs. search needs) returns add-to (λ c. search needs) (λ c. search needs) (λ c. search needs)
+    (λ c. search needs) part-write-valued-end write-valued-requires (λ c. search needs) returns-2)

@@ -21,15 +21,6 @@ returns c = let a = c .before .before .before .before .args in
     (after-fails 16 _ (actionChecks (a .frame .now) x) (written (actionLine (a .k) (a .frame .now) x))
     (lt-leb ((a .k + 1) * actionWidth) (length (a .actions .now)) (omega (arith, c .if1 .taken))) (λ z. omega arith))
 
-action-at-requires : tie.Need-action-at-requires
-action-at-requires c κs = search needs
-
-write-action-line-requires : tie.Need-write-action-line-requires
-write-action-line-requires c κs = search needs
-
-same-length : tie.Need-same-length
-same-length c = search needs
-
 returns-2 : tie.Need-returns-2
 returns-2 c = let a = c .before .before .before .before .before .before .before .before .before .args in
     let x = actionAt (a .actions .now) (a .k) in
@@ -37,11 +28,4 @@ returns-2 c = let a = c .before .before .before .before .before .before .before 
     (rw (c .before .before .before .before .action-at .ensures) at (c .before .before .write-action-line .ensures))
 
 pub write-action-at-spec : {M : Type 1} → statement M
-write-action-at-spec =
-    tie.close
-    (tie.spec
-    returns
-    action-at-requires
-    write-action-line-requires
-    same-length
-    returns-2)
+write-action-at-spec = tie.close (tie.spec returns (λ c κs. search needs) (λ c κs. search needs) (λ c. search needs) returns-2)

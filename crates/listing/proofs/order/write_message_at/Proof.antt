@@ -22,21 +22,6 @@ returns c = let a = c .before .before .before .before .args in
     (after-fails 16 _ (messageChecks (a .frame .now) x) (written (messageLine k (a .frame .now) x))
     (lt-leb ((k + 1) * messageWidth) (length (a .messages .now)) (omega (arith, c .if1 .taken))) (λ z. omega arith))
 
-message-at-requires : tie.Need-message-at-requires
-message-at-requires c κs = search needs
-
-write-message-line-requires : tie.Need-write-message-line-requires
-write-message-line-requires c κs = search needs
-
-add-step : tie.Need-add-step
-add-step c = search needs
-
-step-requires : tie.Need-step-requires
-step-requires c κs = search needs
-
-same-length : tie.Need-same-length
-same-length c = search needs
-
 returns-2 : tie.Need-returns-2
 returns-2 c = let a = c .before .before .before .before .before .before .before .before .before .before .args in
     let k = a .place .messages in
@@ -48,12 +33,4 @@ returns-2 c = let a = c .before .before .before .before .before .before .before 
 
 pub write-message-at-spec : {M : Type 1} → statement M
 write-message-at-spec =
-    tie.close
-    (tie.spec
-    returns
-    message-at-requires
-    write-message-line-requires
-    add-step
-    step-requires
-    same-length
-    returns-2)
+    tie.close (tie.spec returns (λ c κs. search needs) (λ c κs. search needs) (λ c. search needs) (λ c κs. search needs) (λ c. search needs) returns-2)

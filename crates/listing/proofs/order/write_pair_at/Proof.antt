@@ -22,24 +22,6 @@ returns c = let a = c .before .before .before .before .args in
     (after-fails 16 _ (pairChecks (a .frame .now) x) (written (pairLine k (a .frame .now) x))
     (lt-leb ((k + 1) * pairWidth) (length (a .pairs .now)) (omega (arith, c .if1 .taken))) (λ z. omega arith))
 
-pair-at-requires : tie.Need-pair-at-requires
-pair-at-requires c κs = search needs
-
-write-pair-line-requires : tie.Need-write-pair-line-requires
-write-pair-line-requires c κs = search needs
-
-add-step : tie.Need-add-step
-add-step c = search needs
-
-less-requires : tie.Need-less-requires
-less-requires c κs = search needs
-
-step-requires : tie.Need-step-requires
-step-requires c κs = search needs
-
-same-length : tie.Need-same-length
-same-length c = search needs
-
 returns-2 : tie.Need-returns-2
 returns-2 c = let a = c .before .before .before .before .before .before .before .before .before .before .before .args in
     let k = a .place .pairs in
@@ -51,13 +33,5 @@ returns-2 c = let a = c .before .before .before .before .before .before .before 
 
 pub write-pair-at-spec : {M : Type 1} → statement M
 write-pair-at-spec =
-    tie.close
-    (tie.spec
-    returns
-    pair-at-requires
-    write-pair-line-requires
-    add-step
-    less-requires
-    step-requires
-    same-length
-    returns-2)
+    tie.close (tie.spec returns (λ c κs. search needs) (λ c κs. search needs) (λ c. search needs) (λ c κs. search needs) (λ c κs. search needs)
+    (λ c. search needs) returns-2)

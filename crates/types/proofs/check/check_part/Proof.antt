@@ -7,16 +7,10 @@ use Rattle.types.proofs.Checking.{part-string, part-outside, part-withi
 use Rattle.types.proofs.check.check_part.Statement.{statement}
 use Rattle.types.proofs.check.check_part.Tie as tie
 
-check-string-requires : tie.Need-check-string-requires
-check-string-requires c κs = search needs
-
 returns : tie.Need-returns
 returns c = let a = c .before .before .before .before .args in
     let v = a .value in
     c .check-string .ensures ∙ sym (part-string (a .buffer .now) (v .kind) (v .a) (v .b) (v .flags) (c .before .if1 .taken))
-
-in-range-requires : tie.Need-in-range-requires
-in-range-requires c κs = search needs
 
 returns-2 : tie.Need-returns-2
 returns-2 c = let a = c .before .before .before .before .before .args in
@@ -29,5 +23,4 @@ returns-3 c = let a = c .before .before .before .before .before .args in
     sym (part-within (a .buffer .now) (v .kind) (v .a) (v .b) (v .flags) (c .before .before .if1 .left) (sym (c .before .in-range .ensures) ∙ not-false _ (c .if2 .left)))
 
 pub check-part-spec : {M : Type 1} → statement M
-check-part-spec =
-    tie.close (tie.spec check-string-requires returns in-range-requires returns-2 returns-3)
+check-part-spec = tie.close (tie.spec (λ c κs. search needs) returns (λ c κs. search needs) returns-2 returns-3)

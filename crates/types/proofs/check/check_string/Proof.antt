@@ -26,9 +26,6 @@ tested : (c : tie.After-is-utf8) → let a = c .before .before .before .before .
 tested c = let a = c .before .before .before .before .before .args in
     c .is-utf8 .ensures ∙ ap isUtf8 (part-lent (a .buffer .now) (a .start) (a .len))
 
-part-inside-requires : tie.Need-part-inside-requires
-part-inside-requires c κs = search needs
-
 returns : tie.Need-returns
 returns c = let a = c .before .before .before .args in
     sym (string-outside (a .buffer .now) (a .start) (a .len) (sym (c .before .part-inside .ensures) ∙ not-true _ (c .if1 .taken)))
@@ -36,17 +33,8 @@ returns c = let a = c .before .before .before .args in
 add-to : tie.Need-add-to
 add-to c = omega (arith, range c, c .before .before .before .good)
 
-sub-is-utf8 : tie.Need-sub-is-utf8
-sub-is-utf8 c = search needs
-
-part-is-utf8-start : tie.Need-part-is-utf8-start
-part-is-utf8-start c = search needs
-
 part-is-utf8-end : tie.Need-part-is-utf8-end
 part-is-utf8-end c = range c
-
-is-utf8-requires : tie.Need-is-utf8-requires
-is-utf8-requires c κs = search needs
 
 returns-2 : tie.Need-returns-2
 returns-2 c = let a = c .before .before .before .before .before .before .args in
@@ -58,14 +46,5 @@ returns-3 c = let a = c .before .before .before .before .before .before .args in
 
 pub check-string-spec : {M : Type 1} → statement M
 check-string-spec =
-    tie.close
-    (tie.spec
-    part-inside-requires
-    returns
-    add-to
-    sub-is-utf8
-    part-is-utf8-start
-    part-is-utf8-end
-    is-utf8-requires
-    returns-2
-    returns-3)
+    tie.close (tie.spec (λ c κs. search needs) returns add-to (λ c. search needs) (λ c. search needs) part-is-utf8-end (λ c κs. search needs)
+    returns-2 returns-3)

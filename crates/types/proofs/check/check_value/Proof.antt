@@ -8,15 +8,9 @@ use Rattle.types.proofs.Checking.{value-fields, value-part}
 use Rattle.types.proofs.check.check_value.Statement.{statement}
 use Rattle.types.proofs.check.check_value.Tie as tie
 
-writable-requires : tie.Need-writable-requires
-writable-requires c κs = search needs
-
 returns : tie.Need-returns
 returns c = let a = c .before .before .before .args in
     sym (value-fields (a .buffer .now) (recordOf (a .value)) (sym (c .before .writable .ensures) ∙ not-true _ (c .if1 .taken)))
-
-check-part-requires : tie.Need-check-part-requires
-check-part-requires c κs = search needs
 
 returns-2 : tie.Need-returns-2
 returns-2 c = let a = c .before .before .before .before .args in
@@ -24,4 +18,4 @@ returns-2 c = let a = c .before .before .before .before .args in
     ∙ sym (value-part (a .buffer .now) (recordOf (a .value)) (sym (c .before .before .writable .ensures) ∙ not-false _ (c .before .if1 .left)))
 
 pub check-value-spec : {M : Type 1} → statement M
-check-value-spec = tie.close (tie.spec writable-requires returns check-part-requires returns-2)
+check-value-spec = tie.close (tie.spec (λ c κs. search needs) returns (λ c κs. search needs) returns-2)

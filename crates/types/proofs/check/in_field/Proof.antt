@@ -32,9 +32,6 @@ returns-2 c = let a = c .before .before .before .args in
 returns-3 : tie.Need-returns-3
 returns-3 c = let a = c .before .before .before .args in line 1 (a .kind) (a .a) (a .flags) flag _ (c .before .if2 .taken) (shape-is .1) (c .if3 .left) refl
 
-sign-extend-requires : tie.Need-sign-extend-requires
-sign-extend-requires c κs = search needs
-
 returns-4 : tie.Need-returns-4
 returns-4 c = let s = c .before .before .before .before in
     let a = s .args in
@@ -58,5 +55,4 @@ returns-6 c = let s = c .before .before .before .before in
     ∙ whole-field (a .kind) (a .a) 0 k (s .pre .0) refl (s .fits .a .fits))
 
 pub in-field-spec : {M : Type 1} → statement M
-in-field-spec =
-    tie.close (tie.spec returns returns-2 returns-3 sign-extend-requires returns-4 returns-5 returns-6)
+in-field-spec = tie.close (tie.spec returns returns-2 returns-3 (λ c κs. search needs) returns-4 returns-5 returns-6)

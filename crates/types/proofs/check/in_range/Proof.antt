@@ -9,9 +9,6 @@ use Rattle.types.proofs.check.in_range.Tie as tie
 returns : tie.Need-returns
 returns c = rw (points-no (c .before .before .args .value .kind) (c .if1 .taken))
 
-part-inside-requires : tie.Need-part-inside-requires
-part-inside-requires c κs = search needs
-
 returns-2 : tie.Need-returns-2
 returns-2 c = let a = c .before .before .before .before in
     c .part-inside .ensures ∙ rw (points-yes (a .args .value .kind) (c .before .before .if1 .left) (c .before .if2 .taken))
@@ -20,4 +17,4 @@ returns-3 : tie.Need-returns-3
 returns-3 c = rw (points-reserved (c .before .before .before .args .value .kind) (c .if2 .left))
 
 pub in-range-spec : {M : Type 1} → statement M
-in-range-spec = tie.close (tie.spec returns part-inside-requires returns-2 returns-3)
+in-range-spec = tie.close (tie.spec returns (λ c κs. search needs) returns-2 returns-3)

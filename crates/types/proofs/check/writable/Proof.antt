@@ -52,5 +52,4 @@ returns-6 c = let o = c .before .before in
     ∙ text-field (v .kind) (v .a) (v .b) (omega (arith, c .if5 .left, c .before .if4 .left)) (omega (arith, s .good)))
 
 pub writable-spec : {M : Type 1} → statement M
-writable-spec =
-    tie.close (tie.spec returns returns-2 in-field-requires returns-3 returns-4 returns-5 returns-6)
+writable-spec = tie.close (tie.spec returns returns-2 in-field-requires returns-3 returns-4 returns-5 returns-6)

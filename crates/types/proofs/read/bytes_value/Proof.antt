@@ -8,17 +8,11 @@ use borrow.Author.Tests.{le-leb, lt-leb}
 use Rattle.types.proofs.read.bytes_value.Statement.{statement}
 use Rattle.types.proofs.read.bytes_value.Tie as tie
 
-sub-if1 : tie.Need-sub-if1
-sub-if1 c = search needs
-
 returns : tie.Need-returns
 returns c = let a = c .before in simp (lt-leb (a .args .taken + a .args .n) (length (a .args .input .now)) (omega (arith, a .pre, c .if1 .taken)))
-
-add-t7 : tie.Need-add-t7
-add-t7 c = search needs
 
 returns-2 : tie.Need-returns-2
 returns-2 c = let a = c .before in simp (le-leb (a .args .taken + a .args .n) (length (a .args .input .now)) (omega (arith, a .pre, c .if1 .left)))
 
 pub bytes-value-spec : {M : Type 1} → statement M
-bytes-value-spec = tie.close (tie.spec sub-if1 returns add-t7 returns-2)
+bytes-value-spec = tie.close (tie.spec (λ c. search needs) returns (λ c. search needs) returns-2)

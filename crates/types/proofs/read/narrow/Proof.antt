@@ -28,9 +28,6 @@ rest kind n low high no2 no3 w e =
     four : 4 ≤ kind
     four = ⊎-elim (λ h. ⊎-elim (λ l. absurd (no2 (omega arith))) (λ l. absurd (no3 (omega arith))) (lt-or-le kind 3)) (λ h. h) (lt-or-le kind 4)
 
-sign-extend-requires : tie.Need-sign-extend-requires
-sign-extend-requires c κs = search needs
-
 returns : tie.Need-returns
 returns c = λ w e. c .sign-extend .ensures ∙ bits 2 _ signed32 _ (c .before .if1 .taken) (shape-is .2) w e
 
@@ -41,4 +38,4 @@ returns-3 : tie.Need-returns-3
 returns-3 c = λ w e. rest _ _ (c .before .before .pre .0) (c .before .before .pre .1) (c .before .if1 .left) (c .if2 .left) w e
 
 pub narrow-spec : {M : Type 1} → statement M
-narrow-spec = tie.close (tie.spec sign-extend-requires returns returns-2 returns-3)
+narrow-spec = tie.close (tie.spec (λ c κs. search needs) returns returns-2 returns-3)

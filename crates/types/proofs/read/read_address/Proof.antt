@@ -5,23 +5,11 @@ use Rattle.types.proofs.Behind.{address-none, address-some}
 use Rattle.types.proofs.read.read_address.Statement.{statement}
 use Rattle.types.proofs.read.read_address.Tie as tie
 
-sub-if1 : tie.Need-sub-if1
-sub-if1 c = search needs
-
 returns : tie.Need-returns
 returns c = let a = c .before in address-none (a .args .kind) (a .args .flags) (a .args .input .now) (a .args .len) (a .pre .1) (c .if1 .taken)
-
-add-taken : tie.Need-add-taken
-add-taken c = search needs
 
 returns-2 : tie.Need-returns-2
 returns-2 c = let a = c .before in address-some (a .args .kind) (a .args .flags) (a .args .input .now) (a .args .len) (a .pre .1) (c .if1 .left)
 
 pub read-address-spec : {M : Type 1} → statement M
-read-address-spec =
-    tie.close
-    (tie.spec
-    sub-if1
-    returns
-    add-taken
-    returns-2)
+read-address-spec = tie.close (tie.spec (λ c. search needs) returns (λ c. search needs) returns-2)

@@ -9,21 +9,6 @@ use Rattle.types.proofs.Shapes.{shape-integer, numbered-integer, number
 use Rattle.types.proofs.read.read_number.Statement.{statement}
 use Rattle.types.proofs.read.read_number.Tie as tie
 
-sub-decode-varint : tie.Need-sub-decode-varint
-sub-decode-varint c = search needs
-
-part-decode-varint-start : tie.Need-part-decode-varint-start
-part-decode-varint-start c = search needs
-
-part-decode-varint-end : tie.Need-part-decode-varint-end
-part-decode-varint-end c = search needs
-
-decode-varint-requires : tie.Need-decode-varint-requires
-decode-varint-requires c κs = search needs
-
-enum-known-r : tie.Need-enum-known-r
-enum-known-r c = search needs
-
 add-place : tie.Need-add-place
 add-place c = let k = c .before .before .before .before in
     let a = k .before .before .before in
@@ -33,9 +18,6 @@ returns : tie.Need-returns
 returns c = let k = c .before .before .before .before in
     let a = k .before .before .before in
     number-none (a .args .input .now) (a .pre .0) (k .decode-varint .ensures) (a .args .kind) (a .args .flags) (a .pre .1) _ _ (ap numberSaid (c .before .before .r .given .1))
-
-enum-known-value : tie.Need-enum-known-value
-enum-known-value c = search needs
 
 add-taken : tie.Need-add-taken
 add-taken c = let k = c .before .before .before in
@@ -69,18 +51,5 @@ returns-3 c = let t = c .before in
 
 pub read-number-spec : {M : Type 1} → statement M
 read-number-spec =
-    tie.close
-    (tie.spec
-    sub-decode-varint
-    part-decode-varint-start
-    part-decode-varint-end
-    decode-varint-requires
-    enum-known-r
-    add-place
-    returns
-    enum-known-value
-    add-taken
-    integer-value-requires
-    returns-2
-    bytes-value-requires
-    returns-3)
+    tie.close (tie.spec (λ c. search needs) (λ c. search needs) (λ c. search needs) (λ c κs. search needs) (λ c. search needs) add-place returns
+    (λ c. search needs) add-taken integer-value-requires returns-2 bytes-value-requires returns-3)

@@ -11,18 +11,9 @@ use Rattle.types.proofs.Reading.{string-refused, string-whole, string-s
 use Rattle.types.proofs.read.read_string.Statement.{statement}
 use Rattle.types.proofs.read.read_string.Tie as tie
 
-decode-varint-requires : tie.Need-decode-varint-requires
-decode-varint-requires c κs = search needs
-
-enum-known-r : tie.Need-enum-known-r
-enum-known-r c = search needs
-
 returns : tie.Need-returns
 returns c = let s = c .before .before .before .before .before .args .input .now in
     sym (string-refused s _ _ (sym (ap numberSaid (sym (c .before .r .given .1)) ∙ c .before .before .before .decode-varint .ensures)))
-
-enum-known-value : tie.Need-enum-known-value
-enum-known-value c = search needs
 
 -- what the number is, where one was read
 read : (c : tie.After-known-told2) → number (c .before .before .before .before .before .args .input .now) ≡ done (c .before .value .given .0 .0) (c .before .value .given .0 .1 .0)
@@ -35,22 +26,10 @@ returns-2 : tie.Need-returns-2
 returns-2 c = let s = c .before .before .before .before .before .before .args .input .now in
     sym (string-short s _ _ (read (c .before)) (omega (arith, accepted s _ _ (read (c .before)))))
 
-add-t7 : tie.Need-add-t7
-add-t7 c = search needs
-
 returns-3 : tie.Need-returns-3
 returns-3 c = let s = c .before .before .before .before .before .before .args .input .now in
     sym (string-whole s _ _ (read (c .before)) (omega (arith, accepted s _ _ (read (c .before)))))
 
 pub read-string-spec : {M : Type 1} → statement M
 read-string-spec =
-    tie.close
-    (tie.spec
-    decode-varint-requires
-    enum-known-r
-    returns
-    enum-known-value
-    sub-if1
-    returns-2
-    add-t7
-    returns-3)
+    tie.close (tie.spec (λ c κs. search needs) (λ c. search needs) returns (λ c. search needs) sub-if1 returns-2 (λ c. search needs) returns-3)

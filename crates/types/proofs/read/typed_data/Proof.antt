@@ -18,18 +18,6 @@ here c = omega (arith, c .if1 .left)
 returns : tie.Need-returns
 returns c = sym (typed-empty _ (c .if1 .taken))
 
-shared-slice-read-first : tie.Need-shared-slice-read-first
-shared-slice-read-first c = search needs
-
-cast-kind : tie.Need-cast-kind
-cast-kind c = search needs
-
-cast-flags : tie.Need-cast-flags
-cast-flags c = search needs
-
-shr-if2 : tie.Need-shr-if2
-shr-if2 c = search needs
-
 read-number-requires : tie.Need-read-number-requires
 read-number-requires c κs = let e = c .before .before in
     let s = e .before .before .args .input .now in
@@ -50,14 +38,5 @@ returns-3 c = let e = c .before .before .before in let s = e .before .before .ar
 
 pub typed-data-spec : {M : Type 1} → statement M
 typed-data-spec =
-    tie.close
-    (tie.spec
-    returns
-    shared-slice-read-first
-    cast-kind
-    cast-flags
-    shr-if2
-    read-number-requires
-    returns-2
-    read-other-requires
-    returns-3)
+    tie.close (tie.spec returns (λ c. search needs) (λ c. search needs) (λ c. search needs) (λ c. search needs) read-number-requires returns-2
+    read-other-requires returns-3)

@@ -20,9 +20,6 @@ counted b bytes r e l = rw (l, e)
 returns : tie.Need-returns
 returns c = λ bytes e. let a = c .before .args .value in length-plain (a .kind) _ (a .a) bytes (c .if1 .taken)
 
-varint-len-requires : tie.Need-varint-len-requires
-varint-len-requires c κs = search needs
-
 add-result : tie.Need-add-result
 add-result c = let v = c .before .before .before .args .value in omega (arith, c .varint-len .ensures, length-bounds (v .a) (omega (arith, c .before .before .before .good)))
 
@@ -30,15 +27,9 @@ returns-2 : tie.Need-returns-2
 returns-2 c = λ bytes e. let a = c .before .before .before .args .value in
     ap (λ (n : ℕ). 1 + n) (c .varint-len .ensures) ∙ length-integer (a .kind) _ (a .a) bytes (c .before .before .if1 .left) (c .before .if2 .taken)
 
-add-result-2 : tie.Need-add-result-2
-add-result-2 c = search needs
-
 returns-3 : tie.Need-returns-3
 returns-3 c = λ bytes e. let a = c .before .before .before .args .value in
     ap (λ (n : ℕ). 1 + n) (sym e) ∙ length-address (a .kind) _ (a .a) bytes (c .before .if2 .left) (c .if3 .taken)
-
-varint-len-requires-2 : tie.Need-varint-len-requires-2
-varint-len-requires-2 c κs = search needs
 
 add-result-3 : tie.Need-add-result-3
 add-result-3 c = let v = c .before .before .before .before .args .value in omega (arith, c .varint-len2 .ensures, length-bounds (v .b) (omega arith))
@@ -54,15 +45,5 @@ returns-4 c = λ bytes e. let a = c .before .before .before .before in
 
 pub form-len-spec : {M : Type 1} → statement M
 form-len-spec =
-    tie.close
-    (tie.spec
-    returns
-    varint-len-requires
-    add-result
-    returns-2
-    add-result-2
-    returns-3
-    varint-len-requires-2
-    add-result-3
-    add-result-4
-    returns-4)
+    tie.close (tie.spec returns (λ c κs. search needs) add-result returns-2 (λ c. search needs) returns-3 (λ c κs. search needs) add-result-3
+    add-result-4 returns-4)

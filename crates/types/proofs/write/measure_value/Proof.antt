@@ -16,9 +16,6 @@ use Rattle.types.proofs.Writing.{value-bytes, part-whole, part-small}
 use Rattle.types.proofs.write.measure_value.Statement.{statement}
 use Rattle.types.proofs.write.measure_value.Tie as tie
 
-check-value-requires : tie.Need-check-value-requires
-check-value-requires c κs = search needs
-
 returns : tie.Need-returns
 returns c =
     let a = c .before .before .before .args in
@@ -56,4 +53,4 @@ returns-2 c =
     )
 
 pub measure-value-spec : {M : Type 1} → statement M
-measure-value-spec = tie.close (tie.spec check-value-requires returns form-len-requires returns-2)
+measure-value-spec = tie.close (tie.spec (λ c κs. search needs) returns form-len-requires returns-2)

@@ -15,9 +15,6 @@ use Rattle.types.proofs.write.number_fits.Tie as tie
 returns : tie.Need-returns
 returns c = let a = c .before .args in sym (le-leb (1 + length (numberBytes (a .n))) (a .room) (omega (arith, c .if1 .taken, length-most (a .n))))
 
-varint-len-requires : tie.Need-varint-len-requires
-varint-len-requires c κs = search needs
-
 add-result : tie.Need-add-result
 add-result c = omega (arith, c .varint-len .ensures, length-most (c .before .before .args .n))
 
@@ -25,10 +22,4 @@ returns-2 : tie.Need-returns-2
 returns-2 c = ap (λ (m : ℕ). leb (1 + m) (c .before .before .args .room)) (c .varint-len .ensures)
 
 pub number-fits-spec : {M : Type 1} → statement M
-number-fits-spec =
-    tie.close
-    (tie.spec
-    returns
-    varint-len-requires
-    add-result
-    returns-2)
+number-fits-spec = tie.close (tie.spec returns (λ c κs. search needs) add-result returns-2)

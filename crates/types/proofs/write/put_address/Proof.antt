@@ -39,9 +39,6 @@ returns c = let a = c .before .before .before .before in
     let v = a .args .value in
     puts-refusal (length (a .args .out .now)) 14 (a .args .out .now) (form-length (a .args .buffer .now) (v .kind) (v .a) (v .b) (v .flags) (a .args .len) (a .pre .0) (c .if1 .taken))
 
-part-inside-requires : tie.Need-part-inside-requires
-part-inside-requires c κs = search needs
-
 returns-2 : tie.Need-returns-2
 returns-2 c = let p = c .before in
     let a = p .before .before .before .before .before in
@@ -60,17 +57,8 @@ returns-3 c = let e = c .before in
 type-byte-requires : tie.Need-type-byte-requires
 type-byte-requires c κs = let a = c .before .before .before .before .before .before .before in (omega (arith, a .pre .1 .0), a .pre .1 .2)
 
-slice-write-out : tie.Need-slice-write-out
-slice-write-out c = search needs
-
 add-to : tie.Need-add-to
 add-to c = let e = c .before .before in omega (arith, ends e, e .before .before .before .before .before .before .good)
-
-sub-put-few : tie.Need-sub-put-few
-sub-put-few c = search needs
-
-part-put-few-start : tie.Need-part-put-few-start
-part-put-few-start c = search needs
 
 part-put-few-end : tie.Need-part-put-few-end
 part-put-few-end c = ends (c .before .before)
@@ -80,9 +68,6 @@ sub-put-few-2 c = begun-start (begun (c .before))
 
 part-put-few-start-2 : tie.Need-part-put-few-start-2
 part-put-few-start-2 c = begun-start (begun (c .before))
-
-part-put-few-end-2 : tie.Need-part-put-few-end-2
-part-put-few-end-2 c = search needs
 
 put-few-requires : tie.Need-put-few-requires
 put-few-requires c κs = begun-room (begun (c .before .before))
@@ -104,22 +89,5 @@ returns-4 c = let r = c .before .before .before .before .before in
 
 pub put-address-spec : {M : Type 1} → statement M
 put-address-spec =
-    tie.close
-    (tie.spec
-    returns
-    part-inside-requires
-    returns-2
-    returns-3
-    type-byte-requires
-    slice-write-out
-    add-to
-    sub-put-few
-    part-put-few-start
-    part-put-few-end
-    sub-put-few-2
-    part-put-few-start-2
-    part-put-few-end-2
-    put-few-requires
-    add-result
-    same-length
-    returns-4)
+    tie.close (tie.spec returns (λ c κs. search needs) returns-2 returns-3 type-byte-requires (λ c. search needs) add-to (λ c. search needs)
+    (λ c. search needs) part-put-few-end sub-put-few-2 part-put-few-start-2 (λ c. search needs) put-few-requires add-result same-length returns-4)

@@ -10,27 +10,6 @@ use Rattle.types.proofs.Blocks.{part-long, own-part, block-put}
 use Rattle.types.proofs.write.put_block.Statement.{statement}
 use Rattle.types.proofs.write.put_block.Tie as tie
 
-add-end : tie.Need-add-end
-add-end c = search needs
-
-sub-put-each : tie.Need-sub-put-each
-sub-put-each c = search needs
-
-part-put-each-start : tie.Need-part-put-each-start
-part-put-each-start c = search needs
-
-part-put-each-end : tie.Need-part-put-each-end
-part-put-each-end c = search needs
-
-slice-aggregate-put-each : tie.Need-slice-aggregate-put-each
-slice-aggregate-put-each c = search needs
-
-put-each-requires : tie.Need-put-each-requires
-put-each-requires c κs = search needs
-
-array-share-prefix-own : tie.Need-array-share-prefix-own
-array-share-prefix-own c = search needs
-
 -- what was read is the block
 read : (c : tie.After-put-each) → let a = c .before .before .before .before .before in
     take (a .args .n) (c .put-each .last .1 .0) ≡ take (a .args .n) (drop (a .args .at) (a .args .bytes .now))
@@ -44,21 +23,9 @@ long c = let a = c .before .before .before .before .before in
 slice-aggregate-put-each-2 : tie.Need-slice-aggregate-put-each-2
 slice-aggregate-put-each-2 c = sym (long (c .before .before))
 
-sub-put-each-2 : tie.Need-sub-put-each-2
-sub-put-each-2 c = search needs
-
-part-put-each-start-2 : tie.Need-part-put-each-start-2
-part-put-each-start-2 c = search needs
-
-part-put-each-end-2 : tie.Need-part-put-each-end-2
-part-put-each-end-2 c = search needs
-
 put-each-requires-2 : tie.Need-put-each-requires-2
 put-each-requires-2 c κs = let a = c .before .before .before .before .before .before .before .before in
     rw (lent-tail (a .args .at) (a .args .out .now)) (simp length-drop (omega (arith, long (c .before .before .before), a .pre)))
-
-same-length : tie.Need-same-length
-same-length c = search needs
 
 returns : tie.Need-returns
 returns c = let k = c .before .before .before .before .before .before in
@@ -67,19 +34,6 @@ returns c = let k = c .before .before .before .before .before .before in
 
 pub put-block-spec : {M : Type 1} → statement M
 put-block-spec =
-    tie.close
-    (tie.spec
-    add-end
-    sub-put-each
-    part-put-each-start
-    part-put-each-end
-    slice-aggregate-put-each
-    put-each-requires
-    array-share-prefix-own
-    slice-aggregate-put-each-2
-    sub-put-each-2
-    part-put-each-start-2
-    part-put-each-end-2
-    put-each-requires-2
-    same-length
+    tie.close (tie.spec (λ c. search needs) (λ c. search needs) (λ c. search needs) (λ c. search needs) (λ c. search needs) (λ c κs. search needs)
+    (λ c. search needs) slice-aggregate-put-each-2 (λ c. search needs) (λ c. search needs) (λ c. search needs) put-each-requires-2 (λ c. search needs)
     returns)

@@ -18,17 +18,8 @@ abbrev μ-loop : tie.MeasureT-loop
 loop-holds : tie.Need-loop-holds Inv-loop μ-loop
 loop-holds c = partly-none _ _ (c .pre)
 
-shared-slice-read-out : tie.Need-shared-slice-read-out Inv-loop μ-loop
-shared-slice-read-out c = omega arith
-
 slice-write-out : tie.Need-slice-write-out Inv-loop μ-loop
 slice-write-out c = copy-place (c .before .before .loop .inv) (c .before .loop-test .taken)
-
-add-at : tie.Need-add-at Inv-loop μ-loop
-add-at c = omega arith
-
-loop-less : tie.Need-loop-less Inv-loop μ-loop
-loop-less c = omega arith
 
 loop-again : tie.Need-loop-again Inv-loop μ-loop
 loop-again c = copy-next (c .before .before .loop .inv) (c .before .loop-test .taken)
@@ -41,15 +32,5 @@ returns c = partly-all (copy-all (c .before .loop .inv) (c .loop-test .left))
 
 pub put-each-spec : {M : Type 1} → statement M
 put-each-spec =
-    tie.close
-    (tie.spec
-    Inv-loop
-    μ-loop
-    loop-holds
-    shared-slice-read-out
-    slice-write-out
-    add-at
-    loop-less
-    loop-again
-    same-length
+    tie.close (tie.spec Inv-loop μ-loop loop-holds (λ c. omega arith) slice-write-out (λ c. omega arith) (λ c. omega arith) loop-again same-length
     returns)

@@ -11,18 +11,6 @@ use Rattle.types.proofs.Blocks.{block-next, block-last}
 use Rattle.types.proofs.write.put_ends.Statement.{statement}
 use Rattle.types.proofs.write.put_ends.Tie as tie
 
-put-block-requires : tie.Need-put-block-requires
-put-block-requires c κs = search needs
-
-sub-put-block : tie.Need-sub-put-block
-sub-put-block c = search needs
-
-put-block-requires-2 : tie.Need-put-block-requires-2
-put-block-requires-2 c κs = search needs
-
-same-length : tie.Need-same-length
-same-length c = search needs
-
 returns : tie.Need-returns
 returns c = let k = c .before .before .before .before .before .before in
     let a = k .before .before .before .before in
@@ -34,4 +22,4 @@ returns c = let k = c .before .before .before .before .before .before in
     ∙ block-last s (length s - n) n (omega (arith, a .pre)) _ _ (0 + n) first (omega (arith, a .pre)) (omega (arith, a .pre))
 
 pub put-ends-spec : {M : Type 1} → statement M
-put-ends-spec = tie.close (tie.spec put-block-requires sub-put-block put-block-requires-2 same-length returns)
+put-ends-spec = tie.close (tie.spec (λ c κs. search needs) (λ c. search needs) (λ c κs. search needs) (λ c. search needs) returns)

@@ -8,21 +8,6 @@ use Rattle.types.proofs.Blocks.{block-last}
 use Rattle.types.proofs.write.put_few.Statement.{statement}
 use Rattle.types.proofs.write.put_few.Tie as tie
 
-put-bytes-requires : tie.Need-put-bytes-requires
-put-bytes-requires c κs = search needs
-
-same-length : tie.Need-same-length
-same-length c = search needs
-
-returns : tie.Need-returns
-returns c = search needs
-
-put-block-requires : tie.Need-put-block-requires
-put-block-requires c κs = search needs
-
-same-length-2 : tie.Need-same-length-2
-same-length-2 c = search needs
-
 returns-2 : tie.Need-returns-2
 returns-2 c = let e = c .before .before .before .before in
     let a = e .before .before .before in
@@ -32,4 +17,5 @@ returns-2 c = let e = c .before .before .before .before in
     }
 
 pub put-few-spec : {M : Type 1} → statement M
-put-few-spec = tie.close (tie.spec put-bytes-requires same-length returns put-block-requires same-length-2 returns-2)
+put-few-spec =
+    tie.close (tie.spec (λ c κs. search needs) (λ c. search needs) (λ c. search needs) (λ c κs. search needs) (λ c. search needs) returns-2)

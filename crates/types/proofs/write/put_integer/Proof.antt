@@ -43,17 +43,11 @@ number : (c : tie.After-wrote)
 number c = let k = c .before .before .before in
     puts-wrote _ (k .encode-varint .ensures) (begun-room (begun (k .before .before))) (c .wrote .ensures)
 
-writable-requires : tie.Need-writable-requires
-writable-requires c κs = search needs
-
 returns : tie.Need-returns
 returns c = λ buffer. let w = c .before in
     let a = w .before .before .args in
     puts-refusal (length (a .out .now)) 14 (a .out .now)
     (form-unwritable buffer (recordOf (a .value)) (sym (w .writable .ensures) ∙ not-true _ (c .if1 .taken)))
-
-number-fits-requires : tie.Need-number-fits-requires
-number-fits-requires c κs = search needs
 
 returns-2 : tie.Need-returns-2
 returns-2 c = λ buffer. let n = c .before in
@@ -77,15 +71,6 @@ sub-encode-varint c = begun-start (begun c)
 part-encode-varint-start : tie.Need-part-encode-varint-start
 part-encode-varint-start c = begun-start (begun c)
 
-part-encode-varint-end : tie.Need-part-encode-varint-end
-part-encode-varint-end c = search needs
-
-encode-varint-requires : tie.Need-encode-varint-requires
-encode-varint-requires c κs = search needs
-
-wrote-requires : tie.Need-wrote-requires
-wrote-requires c κs = search needs
-
 add-result : tie.Need-add-result
 add-result c = omega (arith, begun-most (begun (c .before .before .before .before .before)) (number c))
 
@@ -98,19 +83,5 @@ returns-3 c = λ buffer. let e = c .before .before .before .before .before in
 
 pub put-integer-spec : {M : Type 1} → statement M
 put-integer-spec =
-    tie.close
-    (tie.spec
-    writable-requires
-    returns
-    number-fits-requires
-    returns-2
-    type-byte-requires
-    slice-write-out
-    sub-encode-varint
-    part-encode-varint-start
-    part-encode-varint-end
-    encode-varint-requires
-    wrote-requires
-    add-result
-    same-length
-    returns-3)
+    tie.close (tie.spec (λ c κs. search needs) returns (λ c κs. search needs) returns-2 type-byte-requires slice-write-out sub-encode-varint
+    part-encode-varint-start (λ c. search needs) (λ c κs. search needs) (λ c κs. search needs) add-result same-length returns-3)

@@ -26,9 +26,6 @@ sub-loop c = c .loop .inv .at-most
 put-block-requires : tie.Need-put-block-requires Inv-loop μ-loop
 put-block-requires c κs = let p = c .before .before .loop .inv in (omega (arith, p .at-most, c .before .loop-test .taken), omega arith, omega (arith, p .room, partly-length p))
 
-add-at : tie.Need-add-at Inv-loop μ-loop
-add-at c = omega arith
-
 loop-less : tie.Need-loop-less Inv-loop μ-loop
 loop-less c = let p = c .before .before .before .before .before .loop .inv in omega (arith, p .at-most, c .before .before .before .before .loop-test .taken)
 
@@ -56,17 +53,5 @@ same-length c = let a = c .before .before .before .before .before .before .befor
 
 pub put-many-spec : {M : Type 1} → statement M
 put-many-spec =
-    tie.close
-    (tie.spec
-    Inv-loop
-    μ-loop
-    loop-holds
-    sub-loop
-    put-block-requires
-    add-at
-    loop-less
-    loop-again
-    sub-put-block
-    put-block-requires-2
-    same-length
-    returns)
+    tie.close (tie.spec Inv-loop μ-loop loop-holds sub-loop put-block-requires (λ c. omega arith) loop-less loop-again sub-put-block
+    put-block-requires-2 same-length returns)

@@ -25,9 +25,6 @@ small c = let a = c .before .before .before in
     let p = plain-bytes [] (v .kind) (v .a) (v .b) (v .flags) (a .pre) (fields c) in
     (p .0, p .1, p .2)
 
-writable-requires : tie.Need-writable-requires
-writable-requires c κs = search needs
-
 returns : tie.Need-returns
 returns c = λ buffer. let w = c .before in
     let a = w .before .before .args in
@@ -58,9 +55,6 @@ cast-out c = omega (arith, small (c .before .before .before .before) .2)
 slice-write-out : tie.Need-slice-write-out
 slice-write-out c = search needs
 
-same-length : tie.Need-same-length
-same-length c = search needs
-
 returns-3 : tie.Need-returns-3
 returns-3 c = λ buffer. let e = c .before .before .before .before in
     let a = e .before .before .before in
@@ -70,16 +64,5 @@ returns-3 c = λ buffer. let e = c .before .before .before .before in
 
 pub put-plain-spec : {M : Type 1} → statement M
 put-plain-spec =
-    tie.close
-    (tie.spec
-    writable-requires
-    returns
-    returns-2
-    mul-out
-    add-out
-    mul-out-2
-    add-out-2
-    cast-out
-    slice-write-out
-    same-length
+    tie.close (tie.spec (λ c κs. search needs) returns returns-2 mul-out add-out mul-out-2 add-out-2 cast-out slice-write-out (λ c. search needs)
     returns-3)

@@ -21,20 +21,11 @@ begun c = let k = c .before .before .before in
       room = rw (string-bytes (a .args .text .now)) at (a .pre);
     }
 
-encode-varint-requires : tie.Need-encode-varint-requires
-encode-varint-requires c κs = search needs
-
-wrote-requires : tie.Need-wrote-requires
-wrote-requires c κs = search needs
-
 sub-put-bytes : tie.Need-sub-put-bytes
 sub-put-bytes c = begun-start (begun c)
 
 part-put-bytes-start : tie.Need-part-put-bytes-start
 part-put-bytes-start c = begun-start (begun c)
-
-part-put-bytes-end : tie.Need-part-put-bytes-end
-part-put-bytes-end c = search needs
 
 put-bytes-requires : tie.Need-put-bytes-requires
 put-bytes-requires c κs = begun-room (begun (c .before))
@@ -42,22 +33,10 @@ put-bytes-requires c κs = begun-room (begun (c .before))
 add-result : tie.Need-add-result
 add-result c = omega (arith, begun-most (begun (c .before .before .before .before)) (c .before .before .put-bytes .ensures))
 
-same-length : tie.Need-same-length
-same-length c = search needs
-
 returns : tie.Need-returns
 returns c = rw string-bytes (begun-both (begun (c .before .before .before .before)) (c .before .before .put-bytes .ensures))
 
 pub put-string-spec : {M : Type 1} → statement M
 put-string-spec =
-    tie.close
-    (tie.spec
-    encode-varint-requires
-    wrote-requires
-    sub-put-bytes
-    part-put-bytes-start
-    part-put-bytes-end
-    put-bytes-requires
-    add-result
-    same-length
-    returns)
+    tie.close (tie.spec (λ c κs. search needs) (λ c κs. search needs) sub-put-bytes part-put-bytes-start (λ c. search needs) put-bytes-requires
+    add-result (λ c. search needs) returns)

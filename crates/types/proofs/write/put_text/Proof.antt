@@ -50,9 +50,6 @@ begun c = let e = c .before in
     let h = leb-true (1 + length (numberBytes (a .value .b))) (length (a .out .now) - a .value .b) (sym (e .before .number-fits .ensures) ∙ not-false _ (e .if3 .left)) in
     begun-known _ _ (c .type-byte .ensures) (omega (arith, h, e .before .before .if2 .left, long (e .before .before .before)))
 
-part-inside-requires : tie.Need-part-inside-requires
-part-inside-requires c κs = search needs
-
 returns : tie.Need-returns
 returns c = let p = c .before in
     let a = p .before .before .before in
@@ -62,12 +59,6 @@ returns c = let p = c .before in
 
 returns-2 : tie.Need-returns-2
 returns-2 c = puts-short _ _ (bytes (c .before)) (omega (arith, c .if2 .taken, long (c .before)))
-
-sub-number-fits : tie.Need-sub-number-fits
-sub-number-fits c = search needs
-
-number-fits-requires : tie.Need-number-fits-requires
-number-fits-requires c κs = search needs
 
 returns-3 : tie.Need-returns-3
 returns-3 c = let n = c .before in
@@ -85,12 +76,6 @@ slice-write-out c = omega (arith, begun c .room)
 add-to : tie.Need-add-to
 add-to c = let e = c .before .before .before .before in omega (arith, ends e, e .before .before .before .before .good)
 
-sub-put-string : tie.Need-sub-put-string
-sub-put-string c = search needs
-
-part-put-string-start : tie.Need-part-put-string-start
-part-put-string-start c = search needs
-
 part-put-string-end : tie.Need-part-put-string-end
 part-put-string-end c = ends (c .before .before .before .before)
 
@@ -99,9 +84,6 @@ sub-put-string-2 c = begun-start (begun (c .before))
 
 part-put-string-start-2 : tie.Need-part-put-string-start-2
 part-put-string-start-2 c = begun-start (begun (c .before))
-
-part-put-string-end-2 : tie.Need-part-put-string-end-2
-part-put-string-end-2 c = search needs
 
 put-string-requires : tie.Need-put-string-requires
 put-string-requires c κs = begun-room (begun (c .before .before))
@@ -118,24 +100,6 @@ returns-4 c = let e = c .before .before .before .before .before in
 
 pub put-text-spec : {M : Type 1} → statement M
 put-text-spec =
-    tie.close
-    (tie.spec
-    part-inside-requires
-    returns
-    returns-2
-    sub-number-fits
-    number-fits-requires
-    returns-3
-    type-byte-requires
-    slice-write-out
-    add-to
-    sub-put-string
-    part-put-string-start
-    part-put-string-end
-    sub-put-string-2
-    part-put-string-start-2
-    part-put-string-end-2
-    put-string-requires
-    add-result
-    same-length
-    returns-4)
+    tie.close (tie.spec (λ c κs. search needs) returns returns-2 (λ c. search needs) (λ c κs. search needs) returns-3 type-byte-requires
+    slice-write-out add-to (λ c. search needs) (λ c. search needs) part-put-string-end sub-put-string-2 part-put-string-start-2 (λ c. search needs)
+    put-string-requires add-result same-length returns-4)

@@ -9,20 +9,8 @@ use Rattle.types.proofs.Output.{puts-refusal}
 use Rattle.types.proofs.write.put_value.Statement.{statement}
 use Rattle.types.proofs.write.put_value.Tie as tie
 
-put-plain-requires : tie.Need-put-plain-requires
-put-plain-requires c κs = search needs
-
-same-length : tie.Need-same-length
-same-length c = search needs
-
 returns : tie.Need-returns
 returns c = c .before .before .put-plain .ensures (c .before .before .before .before .before .before .before .before .args .buffer .now)
-
-put-integer-requires : tie.Need-put-integer-requires
-put-integer-requires c κs = search needs
-
-same-length-2 : tie.Need-same-length-2
-same-length-2 c = search needs
 
 returns-2 : tie.Need-returns-2
 returns-2 c = c .before .before .put-integer .ensures (c .before .before .before .before .before .before .before .before .args .buffer .now)
@@ -35,29 +23,8 @@ returns-3 c = let a = c .before .before .before .before .before .args in
 put-address-requires : tie.Need-put-address-requires
 put-address-requires c κs = let e = c .before .if4 .taken in (row 6 e (shape-is .6), (omega arith, omega arith, c .before .before .if3 .left))
 
-same-length-3 : tie.Need-same-length-3
-same-length-3 c = search needs
-
-returns-4 : tie.Need-returns-4
-returns-4 c = search needs
-
 put-address-requires-2 : tie.Need-put-address-requires-2
 put-address-requires-2 c κs = let e = c .before .if5 .taken in (row 7 e (shape-is .7), (omega arith, omega arith, c .before .before .before .if3 .left))
-
-same-length-4 : tie.Need-same-length-4
-same-length-4 c = search needs
-
-returns-5 : tie.Need-returns-5
-returns-5 c = search needs
-
-put-text-requires : tie.Need-put-text-requires
-put-text-requires c κs = search needs
-
-same-length-5 : tie.Need-same-length-5
-same-length-5 c = search needs
-
-returns-6 : tie.Need-returns-6
-returns-6 c = search needs
 
 returns-7 : tie.Need-returns-7
 returns-7 c = let a = c .before .before .before .before .before .before .before .before .args in
@@ -66,22 +33,6 @@ returns-7 c = let a = c .before .before .before .before .before .before .before 
 
 pub put-value-spec : {M : Type 1} → statement M
 put-value-spec =
-    tie.close
-    (tie.spec
-    put-plain-requires
-    same-length
-    returns
-    put-integer-requires
-    same-length-2
-    returns-2
-    returns-3
-    put-address-requires
-    same-length-3
-    returns-4
-    put-address-requires-2
-    same-length-4
-    returns-5
-    put-text-requires
-    same-length-5
-    returns-6
-    returns-7)
+    tie.close (tie.spec (λ c κs. search needs) (λ c. search needs) returns (λ c κs. search needs) (λ c. search needs) returns-2 returns-3
+    put-address-requires (λ c. search needs) (λ c. search needs) put-address-requires-2 (λ c. search needs) (λ c. search needs) (λ c κs. search needs)
+    (λ c. search needs) (λ c. search needs) returns-7)

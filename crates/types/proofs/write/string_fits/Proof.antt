@@ -24,9 +24,6 @@ returns-2 c =
     let text = a .text .now in
     sym (le-leb (length (stringBytes text)) (a .room) (omega (arith, c .if2 .taken, c .before .if1 .left, string-length text, length-most (length text))))
 
-varint-len-requires : tie.Need-varint-len-requires
-varint-len-requires c κs = search needs
-
 returns-3 : tie.Need-returns-3
 returns-3 c =
     let a = c .before .before .before .before .args in
@@ -34,4 +31,4 @@ returns-3 c =
     rest-fits (c .varint-len .result) (length text) (length (stringBytes text)) (a .room) (omega (arith, c .varint-len .ensures, string-length text)) (omega (arith, c .before .before .if1 .left))
 
 pub string-fits-spec : {M : Type 1} → statement M
-string-fits-spec = tie.close (tie.spec returns returns-2 varint-len-requires returns-3)
+string-fits-spec = tie.close (tie.spec returns returns-2 (λ c κs. search needs) returns-3)

@@ -19,15 +19,9 @@ fields c = sym (c .before .writable .ensures) ∙ not-false _ (c .if1 .left)
 range : (c : tie.Else2) → ranged (c .before .before .before .before .before .args .buffer .now) (recordOf (c .before .before .before .before .before .args .value)) ≡ true
 range c = sym (c .before .in-range .ensures) ∙ not-false _ (c .if2 .left)
 
-writable-requires : tie.Need-writable-requires
-writable-requires c κs = search needs
-
 returns : tie.Need-returns
 returns c = let a = c .before .before .before .args in
     sym (ap lengthOf (form-unwritable (a .buffer .now) (recordOf (a .value)) (sym (c .before .writable .ensures) ∙ not-true _ (c .if1 .taken))))
-
-in-range-requires : tie.Need-in-range-requires
-in-range-requires c κs = search needs
 
 returns-2 : tie.Need-returns-2
 returns-2 c = let a = c .before .before .before .before .before .args in
@@ -46,6 +40,4 @@ returns-3 c = let a = c .before .before .before .before .before .before .args in
     ∙ sym (ap lengthOf (form-whole (a .buffer .now) (recordOf v) (fields (e .before .before)) (range e)) ∙ ap length (value-bytes (a .buffer .now) (v .kind) (v .a) (v .b) (v .flags)))
 
 pub value-len-spec : {M : Type 1} → statement M
-value-len-spec =
-    tie.close
-    (tie.spec writable-requires returns in-range-requires returns-2 form-len-requires returns-3)
+value-len-spec = tie.close (tie.spec (λ c κs. search needs) returns (λ c κs. search needs) returns-2 form-len-requires returns-3)

@@ -21,15 +21,9 @@ fields c = sym (c .before .writable .ensures) ∙ not-false _ (c .if1 .left)
 range : (c : tie.Else2) → let a = c .before .before .before .before .before .args in ranged (a .buffer .now) (recordOf (a .value)) ≡ true
 range c = sym (c .before .in-range .ensures) ∙ not-false _ (c .if2 .left)
 
-writable-requires : tie.Need-writable-requires
-writable-requires c κs = search needs
-
 returns : tie.Need-returns
 returns c = λ room none. let a = c .before .before .before .args in
     ap (λ (x : Answer (List ℕ)). tells (within room x)) (form-unwritable (a .buffer .now) (recordOf (a .value)) (sym (c .before .writable .ensures) ∙ not-true _ (c .if1 .taken)))
-
-in-range-requires : tie.Need-in-range-requires
-in-range-requires c κs = search needs
 
 returns-2 : tie.Need-returns-2
 returns-2 c = λ room none. let a = c .before .before .before .before .before .args in
@@ -43,4 +37,4 @@ returns-3 c = λ room none. let a = c .before .before .before .before .before .a
     (value-some (a .buffer .now) (v .kind) (v .a) (v .b) (v .flags) (fields (c .before .before))) none
 
 pub why-not-spec : {M : Type 1} → statement M
-why-not-spec = tie.close (tie.spec writable-requires returns in-range-requires returns-2 returns-3)
+why-not-spec = tie.close (tie.spec (λ c κs. search needs) returns (λ c κs. search needs) returns-2 returns-3)

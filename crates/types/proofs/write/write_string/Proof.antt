@@ -10,9 +10,6 @@ use Rattle.types.specs.Form.{stringBytes}
 use Rattle.types.proofs.write.write_string.Statement.{statement}
 use Rattle.types.proofs.write.write_string.Tie as tie
 
-string-fits-requires : tie.Need-string-fits-requires
-string-fits-requires c κs = search needs
-
 returns : tie.Need-returns
 returns c = let a = c .before .before .before .before .args in
     writes-none (stringBytes (a .text .now)) (a .out .now) (leb-false _ _ (sym (c .before .string-fits .ensures) ∙ not-true (c .before .string-fits .result) (c .if1 .taken)))
@@ -23,9 +20,6 @@ room e = leb-true _ _ (sym (e .before .string-fits .ensures) ∙ not-false (e .b
 put-string-requires : tie.Need-put-string-requires
 put-string-requires c κs = room (c .before)
 
-same-length : tie.Need-same-length
-same-length c = search needs
-
 returns-2 : tie.Need-returns-2
 returns-2 c = let e = c .before .before .before .before in
     let a = e .before .before .before .before .args in
@@ -33,5 +27,4 @@ returns-2 c = let e = c .before .before .before .before in
     writes-all (stringBytes (a .text .now)) (a .out .now) _ _ (room e) (p .counts) (p .holds)
 
 pub write-string-spec : {M : Type 1} → statement M
-write-string-spec =
-    tie.close (tie.spec string-fits-requires returns put-string-requires same-length returns-2)
+write-string-spec = tie.close (tie.spec (λ c κs. search needs) returns put-string-requires (λ c. search needs) returns-2)

@@ -10,22 +10,10 @@ use Rattle.types.proofs.Output.{told}
 use Rattle.types.proofs.write.write_value.Statement.{statement}
 use Rattle.types.proofs.write.write_value.Tie as tie
 
-put-value-requires : tie.Need-put-value-requires
-put-value-requires c κs = search needs
-
-why-not-requires : tie.Need-why-not-requires
-why-not-requires c κs = search needs
-
-same-length : tie.Need-same-length
-same-length c = search needs
-
 returns : tie.Need-returns
 returns c = let a = c .before .before .before .before .before .before .before .before .args in
     let p = c .before .before .before .before .put-value .ensures in
     record { says = sym (c .why-not .ensures (length (a .out .now)) (sym (p .counts) ∙ c .before .if1 .taken)); holds = p .holds }
-
-same-length-2 : tie.Need-same-length-2
-same-length-2 c = search needs
 
 returns-2 : tie.Need-returns-2
 returns-2 c = let a = c .before .before .before .before .before .before .before .args in
@@ -33,6 +21,4 @@ returns-2 c = let a = c .before .before .before .before .before .before .before 
     record { says = told (within (length (a .out .now)) (valueAnswer (a .buffer .now) (recordOf (a .value)))) _ (p .counts) (c .if1 .left); holds = p .holds }
 
 pub write-value-spec : {M : Type 1} → statement M
-write-value-spec =
-    tie.close
-    (tie.spec put-value-requires why-not-requires same-length returns same-length-2 returns-2)
+write-value-spec = tie.close (tie.spec (λ c κs. search needs) (λ c κs. search needs) (λ c. search needs) returns (λ c. search needs) returns-2)

@@ -15,23 +15,11 @@ tested : (c : tie.After-same-start)
     ≡ sameBytes (piece (c .before .before .before .before .before .args .a .now)) (piece (c .before .before .before .before .before .args .b .now))
 tested c = rw (c .before .front-step2 .ensures, c .before .before .front-step .ensures) at (c .same-start .ensures)
 
-front-step-requires : tie.Need-front-step-requires
-front-step-requires c κs = search needs
-
-front-step-requires-2 : tie.Need-front-step-requires-2
-front-step-requires-2 c κs = search needs
-
 same-start-requires : tie.Need-same-start-requires
 same-start-requires c κs = (rw (c .before .front-step .ensures) (step-advances _ .there), rw (c .front-step2 .ensures) (step-advances _ .there))
 
 returns : tie.Need-returns
 returns c = walks-apart _ _ (sym (tested (c .before)) ∙ not-true _ (c .if1 .taken))
-
-step-len-requires : tie.Need-step-len-requires
-step-len-requires c κs = search needs
-
-step-len-requires-2 : tie.Need-step-len-requires-2
-step-len-requires-2 c κs = search needs
 
 returns-2 : tie.Need-returns-2
 returns-2 c = let e = c .before .before .before in
@@ -40,12 +28,5 @@ returns-2 c = let e = c .before .before .before in
 
 pub both-step-spec : {M : Type 1} → statement M
 both-step-spec =
-    tie.close
-    (tie.spec
-    front-step-requires
-    front-step-requires-2
-    same-start-requires
-    returns
-    step-len-requires
-    step-len-requires-2
+    tie.close (tie.spec (λ c κs. search needs) (λ c κs. search needs) same-start-requires returns (λ c κs. search needs) (λ c κs. search needs)
     returns-2)

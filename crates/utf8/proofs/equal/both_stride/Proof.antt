@@ -6,18 +6,9 @@ use borrow.Author.Needs.{needs}
 use Rattle.utf8.proofs.equal.both_stride.Statement.{statement}
 use Rattle.utf8.proofs.equal.both_stride.Tie as tie
 
-eight-same-requires : tie.Need-eight-same-requires
-eight-same-requires c κs = search needs
-
 returns : tie.Need-returns
 returns c =
     walks-eight _ _ (c .before .before .before .if1 .taken) (c .before .before .if2 .taken) (sym (c .before .eight-same .ensures) ∙ c .if3 .taken)
 
-both-step-requires : tie.Need-both-step-requires
-both-step-requires c κs = search needs
-
-returns-2 : tie.Need-returns-2
-returns-2 c = search needs
-
 pub both-stride-spec : {M : Type 1} → statement M
-both-stride-spec = tie.close (tie.spec eight-same-requires returns both-step-requires returns-2)
+both-stride-spec = tie.close (tie.spec (λ c κs. search needs) returns (λ c κs. search needs) (λ c. search needs))

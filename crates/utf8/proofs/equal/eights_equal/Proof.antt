@@ -22,24 +22,6 @@ abbrev μ-loop : tie.MeasureT-loop
 loop-holds : tie.Need-loop-holds Inv-loop μ-loop
 loop-holds c = refl
 
-sub-eight-equal : tie.Need-sub-eight-equal Inv-loop μ-loop
-sub-eight-equal c = omega arith
-
-part-eight-equal-start : tie.Need-part-eight-equal-start Inv-loop μ-loop
-part-eight-equal-start c = omega arith
-
-part-eight-equal-end : tie.Need-part-eight-equal-end Inv-loop μ-loop
-part-eight-equal-end c = search needs
-
-sub-eight-equal-2 : tie.Need-sub-eight-equal-2 Inv-loop μ-loop
-sub-eight-equal-2 c = omega arith
-
-part-eight-equal-start-2 : tie.Need-part-eight-equal-start-2 Inv-loop μ-loop
-part-eight-equal-start-2 c = omega arith
-
-part-eight-equal-end-2 : tie.Need-part-eight-equal-end-2 Inv-loop μ-loop
-part-eight-equal-end-2 c = search needs
-
 eight-equal-requires : tie.Need-eight-equal-requires Inv-loop μ-loop
 eight-equal-requires c κs = let k = c .before .before .before in
     let at = k .loop .at in
@@ -49,12 +31,6 @@ eight-equal-requires c κs = let k = c .before .before .before in
 
 returns : tie.Need-returns Inv-loop μ-loop
 returns c = λ t. true-false t refl
-
-add-at : tie.Need-add-at Inv-loop μ-loop
-add-at c = omega arith
-
-loop-less : tie.Need-loop-less Inv-loop μ-loop
-loop-less c = omega arith
 
 loop-again : tie.Need-loop-again Inv-loop μ-loop
 loop-again c = let k = c .before .before .before .before .before in
@@ -67,20 +43,5 @@ returns-2 c = λ t. let k = c .before in
 
 pub eights-equal-spec : {M : Type 1} → statement M
 eights-equal-spec =
-    tie.close
-    (tie.spec
-    Inv-loop
-    μ-loop
-    loop-holds
-    sub-eight-equal
-    part-eight-equal-start
-    part-eight-equal-end
-    sub-eight-equal-2
-    part-eight-equal-start-2
-    part-eight-equal-end-2
-    eight-equal-requires
-    returns
-    add-at
-    loop-less
-    loop-again
-    returns-2)
+    tie.close (tie.spec Inv-loop μ-loop loop-holds (λ c. omega arith) (λ c. omega arith) (λ c. search needs) (λ c. omega arith) (λ c. omega arith)
+    (λ c. search needs) eight-equal-requires returns (λ c. omega arith) (λ c. omega arith) loop-again returns-2)

@@ -47,33 +47,6 @@ further c = let k = c .before .before .before .before .before .before in
 loop-holds : tie.Need-loop-holds Inv-loop μ-loop
 loop-holds c = (refl, omega arith, omega arith)
 
-sub-both-stride : tie.Need-sub-both-stride Inv-loop μ-loop
-sub-both-stride c = omega arith
-
-part-both-stride-start : tie.Need-part-both-stride-start Inv-loop μ-loop
-part-both-stride-start c = search needs
-
-part-both-stride-end : tie.Need-part-both-stride-end Inv-loop μ-loop
-part-both-stride-end c = search needs
-
-sub-both-stride-2 : tie.Need-sub-both-stride-2 Inv-loop μ-loop
-sub-both-stride-2 c = omega arith
-
-part-both-stride-start-2 : tie.Need-part-both-stride-start-2 Inv-loop μ-loop
-part-both-stride-start-2 c = search needs
-
-part-both-stride-end-2 : tie.Need-part-both-stride-end-2 Inv-loop μ-loop
-part-both-stride-end-2 c = search needs
-
-both-stride-requires : tie.Need-both-stride-requires Inv-loop μ-loop
-both-stride-requires c κs = search needs
-
-enum-known-m : tie.Need-enum-known-m Inv-loop μ-loop
-enum-known-m c = search needs
-
-enum-told : tie.Need-enum-told Inv-loop μ-loop
-enum-told c = search needs
-
 returns : tie.Need-returns Inv-loop μ-loop
 returns c = let e = c .before .before in
     sym (e .before .before .before .before .loop .inv .0 ∙ rw (c .enum-told .given .1) at (told e))
@@ -103,23 +76,5 @@ returns-2 c = let k = c .before in
 
 pub same-steps-spec : {M : Type 1} → statement M
 same-steps-spec =
-    tie.close
-    (tie.spec
-    Inv-loop
-    μ-loop
-    loop-holds
-    sub-both-stride
-    part-both-stride-start
-    part-both-stride-end
-    sub-both-stride-2
-    part-both-stride-start-2
-    part-both-stride-end-2
-    both-stride-requires
-    enum-known-m
-    enum-told
-    returns
-    add-i
-    add-j
-    loop-less
-    loop-again
-    returns-2)
+    tie.close (tie.spec Inv-loop μ-loop loop-holds (λ c. omega arith) (λ c. search needs) (λ c. search needs) (λ c. omega arith) (λ c. search needs)
+    (λ c. search needs) (λ c κs. search needs) (λ c. search needs) (λ c. search needs) returns add-i add-j loop-less loop-again returns-2)

@@ -6,17 +6,8 @@ use borrow.Author.Needs.{needs}
 use Rattle.utf8.proofs.equal.same_text.Statement.{statement}
 use Rattle.utf8.proofs.equal.same_text.Tie as tie
 
-surely-same-requires : tie.Need-surely-same-requires
-surely-same-requires c κs = search needs
-
 returns : tie.Need-returns
 returns c = rw (c .before .surely-same .ensures (c .if1 .taken)) (sym (same-text-refl _))
 
-same-steps-requires : tie.Need-same-steps-requires
-same-steps-requires c κs = search needs
-
-returns-2 : tie.Need-returns-2
-returns-2 c = search needs
-
 pub same-text-spec : {M : Type 1} → statement M
-same-text-spec = tie.close (tie.spec surely-same-requires returns same-steps-requires returns-2)
+same-text-spec = tie.close (tie.spec (λ c κs. search needs) returns (λ c κs. search needs) (λ c. search needs))

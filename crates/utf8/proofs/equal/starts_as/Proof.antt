@@ -11,32 +11,8 @@ use Rattle.utf8.proofs.equal.starts_as.Tie as tie
 there : (c : tie.After-y) → c .y .given .0 .0 ≤ length (c .before .before .before .before .args .b .now)
 there c = rw (c .y .given .1) at (c .before .before .before .before .pre)
 
-enum-told : tie.Need-enum-told
-enum-told c = search needs
-
-slice-aggregate-same-bytes : tie.Need-slice-aggregate-same-bytes
-slice-aggregate-same-bytes c = search needs
-
-same-bytes-requires : tie.Need-same-bytes-requires
-same-bytes-requires c κs = search needs
-
-enum-known-y : tie.Need-enum-known-y
-enum-known-y c = search needs
-
 slice-aggregate-same-bytes-2 : tie.Need-slice-aggregate-same-bytes-2
 slice-aggregate-same-bytes-2 c = sym (length-take-le _ _ (there (c .before .before)))
-
-same-bytes-requires-2 : tie.Need-same-bytes-requires-2
-same-bytes-requires-2 c κs = search needs
-
-enum-told-2 : tie.Need-enum-told-2
-enum-told-2 c = search needs
-
-slice-aggregate-same-bytes-3 : tie.Need-slice-aggregate-same-bytes-3
-slice-aggregate-same-bytes-3 c = search needs
-
-same-bytes-requires-3 : tie.Need-same-bytes-requires-3
-same-bytes-requires-3 c κs = search needs
 
 returns : tie.Need-returns
 returns c = rw (c .before .before .enum-told .given .1) (c .same-bytes .ensures)
@@ -49,17 +25,5 @@ returns-3 c = rw (c .before .before .enum-told2 .given .1) (c .same-bytes3 .ensu
 
 pub starts-as-spec : {M : Type 1} → statement M
 starts-as-spec =
-    tie.close
-    (tie.spec
-    enum-told
-    slice-aggregate-same-bytes
-    same-bytes-requires
-    enum-known-y
-    slice-aggregate-same-bytes-2
-    same-bytes-requires-2
-    enum-told-2
-    slice-aggregate-same-bytes-3
-    same-bytes-requires-3
-    returns
-    returns-2
-    returns-3)
+    tie.close (tie.spec (λ c. search needs) (λ c. search needs) (λ c κs. search needs) (λ c. search needs) slice-aggregate-same-bytes-2
+    (λ c κs. search needs) (λ c. search needs) (λ c. search needs) (λ c κs. search needs) returns returns-2 returns-3)

@@ -18,32 +18,8 @@ returns c = λ t. true-false t refl
 returns-2 : tie.Need-returns-2
 returns-2 c = λ t. true-false t refl
 
-eights-equal-requires : tie.Need-eights-equal-requires
-eights-equal-requires c κs = search needs
-
 returns-3 : tie.Need-returns-3
 returns-3 c = λ t. true-false t refl
-
-sub-eight-equal : tie.Need-sub-eight-equal
-sub-eight-equal c = search needs
-
-part-eight-equal-start : tie.Need-part-eight-equal-start
-part-eight-equal-start c = search needs
-
-part-eight-equal-end : tie.Need-part-eight-equal-end
-part-eight-equal-end c = search needs
-
-sub-eight-equal-2 : tie.Need-sub-eight-equal-2
-sub-eight-equal-2 c = search needs
-
-part-eight-equal-start-2 : tie.Need-part-eight-equal-start-2
-part-eight-equal-start-2 c = search needs
-
-part-eight-equal-end-2 : tie.Need-part-eight-equal-end-2
-part-eight-equal-end-2 c = search needs
-
-eight-equal-requires : tie.Need-eight-equal-requires
-eight-equal-requires c κs = search needs
 
 returns-4 : tie.Need-returns-4
 returns-4 c = λ t.
@@ -57,17 +33,5 @@ returns-4 c = λ t.
 
 pub surely-same-spec : {M : Type 1} → statement M
 surely-same-spec =
-    tie.close
-    (tie.spec
-    returns
-    returns-2
-    eights-equal-requires
-    returns-3
-    sub-eight-equal
-    part-eight-equal-start
-    part-eight-equal-end
-    sub-eight-equal-2
-    part-eight-equal-start-2
-    part-eight-equal-end-2
-    eight-equal-requires
-    returns-4)
+    tie.close (tie.spec returns returns-2 (λ c κs. search needs) returns-3 (λ c. search needs) (λ c. search needs) (λ c. search needs)
+    (λ c. search needs) (λ c. search needs) (λ c. search needs) (λ c κs. search needs) returns-4)

@@ -29,17 +29,8 @@ all c = rw (drop-of-length-le (c .before .before .args .s .now) (c .loop-test .l
 loop-holds : tie.Need-loop-holds Inv-loop μ-loop
 loop-holds c = partly-none _ _ (c .pre)
 
-shared-slice-read-out : tie.Need-shared-slice-read-out Inv-loop μ-loop
-shared-slice-read-out c = omega arith
-
 slice-write-out : tie.Need-slice-write-out Inv-loop μ-loop
 slice-write-out c = partly-place (on (c .before))
-
-add-i : tie.Need-add-i Inv-loop μ-loop
-add-i c = omega arith
-
-loop-less : tie.Need-loop-less Inv-loop μ-loop
-loop-less c = omega arith
 
 loop-again : tie.Need-loop-again Inv-loop μ-loop
 loop-again c = partly-next (on (c .before))
@@ -52,15 +43,5 @@ returns c = partly-all (all c)
 
 pub copy-spec : {M : Type 1} → statement M
 copy-spec =
-    tie.close
-    (tie.spec
-    Inv-loop
-    μ-loop
-    loop-holds
-    shared-slice-read-out
-    slice-write-out
-    add-i
-    loop-less
-    loop-again
-    same-length
+    tie.close (tie.spec Inv-loop μ-loop loop-holds (λ c. omega arith) slice-write-out (λ c. omega arith) (λ c. omega arith) loop-again same-length
     returns)

@@ -16,11 +16,5 @@ returns c =
     let start = c .before .before in
     sym (le-leb (length (lossy (start .args .bytes .now))) (start .args .room) (omega (arith, c .if1 .taken, lossy-length (start .args .bytes .now), div-add-mod' (start .args .room) 3)))
 
-steps-room-requires : tie.Need-steps-room-requires
-steps-room-requires c κs = search needs
-
-returns-2 : tie.Need-returns-2
-returns-2 c = search needs
-
 pub has-room-spec : {M : Type 1} → statement M
-has-room-spec = tie.close (tie.spec returns steps-room-requires returns-2)
+has-room-spec = tie.close (tie.spec returns (λ c κs. search needs) (λ c. search needs))

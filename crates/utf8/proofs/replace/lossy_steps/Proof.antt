@@ -16,22 +16,15 @@ no-room c = leb-false _ _ (sym (c .before .has-room .ensures) ∙ not-true _ (c 
 room : (c : tie.Else1) → length (lossy (c .before .before .before .before .args .bytes .now)) ≤ length (c .before .before .before .before .args .out .now)
 room c = leb-true _ _ (sym (c .before .has-room .ensures) ∙ not-false _ (c .if1 .left))
 
-has-room-requires : tie.Need-has-room-requires
-has-room-requires c κs = search needs
-
 returns : tie.Need-returns
 returns c = writes-none (lossy (c .before .before .before .before .args .bytes .now)) _ (no-room c)
 
 write-lossy-requires : tie.Need-write-lossy-requires
 write-lossy-requires c κs = room (c .before)
 
-same-length : tie.Need-same-length
-same-length c = search needs
-
 returns-2 : tie.Need-returns-2
 returns-2 c = let e = c .before .before .before .before in
     writes-all (lossy (e .before .before .before .before .args .bytes .now)) _ _ _ (room e) (c .before .before .write-lossy .ensures .0) (c .before .before .write-lossy .ensures .1)
 
 pub lossy-steps-spec : {M : Type 1} → statement M
-lossy-steps-spec =
-    tie.close (tie.spec has-room-requires returns write-lossy-requires same-length returns-2)
+lossy-steps-spec = tie.close (tie.spec (λ c κs. search needs) returns write-lossy-requires (λ c. search needs) returns-2)

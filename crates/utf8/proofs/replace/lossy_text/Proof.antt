@@ -7,37 +7,12 @@ use borrow.Author.Needs.{needs}
 use Rattle.utf8.proofs.replace.lossy_text.Statement.{statement}
 use Rattle.utf8.proofs.replace.lossy_text.Tie as tie
 
-surely-utf8-requires : tie.Need-surely-utf8-requires
-surely-utf8-requires c κs = search needs
-
-copy-requires : tie.Need-copy-requires
-copy-requires c κs = search needs
-
-same-length : tie.Need-same-length
-same-length c = search needs
-
 returns : tie.Need-returns
 returns c =
     let bytes = c .before .before .before .before .before .before .before .before .before .args .bytes .now in
     rw (lossy-same bytes (c .before .before .before .before .before .surely-utf8 .ensures (c .before .before .before .before .if2 .taken))) (writes-all bytes _ _ _ (c .before .before .before .before .before .before .if1 .taken) refl (c .before .before .copy .ensures))
 
-lossy-steps-requires : tie.Need-lossy-steps-requires
-lossy-steps-requires c κs = search needs
-
-same-length-2 : tie.Need-same-length-2
-same-length-2 c = search needs
-
-returns-2 : tie.Need-returns-2
-returns-2 c = search needs
-
 pub lossy-text-spec : {M : Type 1} → statement M
 lossy-text-spec =
-    tie.close
-    (tie.spec
-    surely-utf8-requires
-    copy-requires
-    same-length
-    returns
-    lossy-steps-requires
-    same-length-2
-    returns-2)
+    tie.close (tie.spec (λ c κs. search needs) (λ c κs. search needs) (λ c. search needs) returns (λ c κs. search needs) (λ c. search needs)
+    (λ c. search needs))

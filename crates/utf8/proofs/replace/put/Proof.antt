@@ -13,9 +13,6 @@ use borrow.Author.Needs.{needs}
 use Rattle.utf8.proofs.replace.put.Statement.{statement}
 use Rattle.utf8.proofs.replace.put.Tie as tie
 
-enum-told : tie.Need-enum-told
-enum-told c = search needs
-
 three : (out : List ℕ) → 3 ≤ length out → set (set (set out 0 0xEF) 1 0xBF) 2 0xBD ≡ leaves (written replacement) out
 three [] h = absurd (omega arith)
 three (a ∷ []) h = absurd (omega arith)
@@ -38,18 +35,12 @@ mark-is c = c .enum-told2 .given .1
 mark-room : (c : tie.After-enum-told2) → 3 ≤ length (c .before .before .before .before .args .out .now)
 mark-room c = rw (mark-is c) at (c .before .before .before .before .pre .1)
 
-enum-known-x : tie.Need-enum-known-x
-enum-known-x c = search needs
-
 slice-aggregate-copy : tie.Need-slice-aggregate-copy
 slice-aggregate-copy c = sym (length-take-le _ _ (char-there (c .before .before)))
 
 copy-requires : tie.Need-copy-requires
 copy-requires c κs = let h = char-room (c .before .before .before) in
     omega (arith, length-take-le (c .before .before .before .x .given .0 .0) (c .before .before .before .before .before .before .before .args .s .now) (char-there (c .before .before .before)))
-
-enum-told-2 : tie.Need-enum-told-2
-enum-told-2 c = search needs
 
 slice-write-out : tie.Need-slice-write-out
 slice-write-out c = omega (arith, mark-room c)
@@ -60,36 +51,14 @@ slice-write-out-2 c = simp length-set (omega (arith, mark-room c))
 slice-write-out-3 : tie.Need-slice-write-out-3
 slice-write-out-3 c = simp (length-set, length-set) (omega (arith, mark-room c))
 
-returns : tie.Need-returns
-returns c = search needs
-
-same-length : tie.Need-same-length
-same-length c = search needs
-
 returns-2 : tie.Need-returns-2
 returns-2 c = let e = c .before .before .before .before .before .before in
     rw (char-is e) (c .before .before .copy .ensures)
-
-same-length-2 : tie.Need-same-length-2
-same-length-2 c = search needs
 
 returns-3 : tie.Need-returns-3
 returns-3 c = rw (mark-is c) (three (c .before .before .before .before .args .out .now) (mark-room c))
 
 pub put-spec : {M : Type 1} → statement M
 put-spec =
-    tie.close
-    (tie.spec
-    enum-told
-    enum-known-x
-    slice-aggregate-copy
-    copy-requires
-    enum-told-2
-    slice-write-out
-    slice-write-out-2
-    slice-write-out-3
-    returns
-    same-length
-    returns-2
-    same-length-2
-    returns-3)
+    tie.close (tie.spec (λ c. search needs) (λ c. search needs) slice-aggregate-copy copy-requires (λ c. search needs) slice-write-out
+    slice-write-out-2 slice-write-out-3 (λ c. search needs) (λ c. search needs) returns-2 (λ c. search needs) returns-3)

@@ -38,27 +38,9 @@ further c =
 loop-holds : tie.Need-loop-holds Inv-loop μ-loop
 loop-holds c = (refl, omega arith)
 
-sub-stride : tie.Need-sub-stride Inv-loop μ-loop
-sub-stride c = omega arith
-
-part-stride-start : tie.Need-part-stride-start Inv-loop μ-loop
-part-stride-start c = search needs
-
-part-stride-end : tie.Need-part-stride-end Inv-loop μ-loop
-part-stride-end c = search needs
-
-stride-requires : tie.Need-stride-requires Inv-loop μ-loop
-stride-requires c κs = search needs
-
-text-len-requires : tie.Need-text-len-requires Inv-loop μ-loop
-text-len-requires c κs = search needs
-
 returns : tie.Need-returns Inv-loop μ-loop
 returns c = let k = c .before .before .before .before .before in
     sym (k .loop .inv .0 ∙ room-off _ (seen (c .before .before .stride .result)) _ (on (c .before .before)) (omega (arith, c .if1 .taken, c .before .text-len .ensures)))
-
-step-len-requires : tie.Need-step-len-requires Inv-loop μ-loop
-step-len-requires c κs = search needs
 
 add-at : tie.Need-add-at Inv-loop μ-loop
 add-at c = omega (arith, further c .0)
@@ -83,19 +65,5 @@ returns-2 c = let k = c .before in
 
 pub steps-room-spec : {M : Type 1} → statement M
 steps-room-spec =
-    tie.close
-    (tie.spec
-    Inv-loop
-    μ-loop
-    loop-holds
-    sub-stride
-    part-stride-start
-    part-stride-end
-    stride-requires
-    text-len-requires
-    returns
-    step-len-requires
-    add-at
-    loop-less
-    loop-again
-    returns-2)
+    tie.close (tie.spec Inv-loop μ-loop loop-holds (λ c. omega arith) (λ c. search needs) (λ c. search needs) (λ c κs. search needs)
+    (λ c κs. search needs) returns (λ c κs. search needs) add-at loop-less loop-again returns-2)

@@ -56,35 +56,11 @@ all c = rw (ap lossy (drop-of-length-le (c .before .before .before .before .args
 loop-holds : tie.Need-loop-holds Inv-loop μ-loop
 loop-holds c = (partly-none _ _ (c .before .before .pre), omega arith)
 
-sub-stride : tie.Need-sub-stride Inv-loop μ-loop
-sub-stride c = omega arith
-
-part-stride-start : tie.Need-part-stride-start Inv-loop μ-loop
-part-stride-start c = search needs
-
-part-stride-end : tie.Need-part-stride-end Inv-loop μ-loop
-part-stride-end c = search needs
-
-stride-requires : tie.Need-stride-requires Inv-loop μ-loop
-stride-requires c κs = search needs
-
-sub-put : tie.Need-sub-put Inv-loop μ-loop
-sub-put c = omega arith
-
-part-put-start : tie.Need-part-put-start Inv-loop μ-loop
-part-put-start c = search needs
-
-part-put-end : tie.Need-part-put-end Inv-loop μ-loop
-part-put-end c = search needs
-
 sub-put-2 : tie.Need-sub-put-2 Inv-loop μ-loop
 sub-put-2 c = omega (arith, room (c .before))
 
 part-put-start-2 : tie.Need-part-put-start-2 Inv-loop μ-loop
 part-put-start-2 c = omega (arith, room (c .before))
-
-part-put-end-2 : tie.Need-part-put-end-2 Inv-loop μ-loop
-part-put-end-2 c = search needs
 
 put-requires : tie.Need-put-requires Inv-loop μ-loop
 put-requires c κs = let e = c .before .before in
@@ -92,15 +68,9 @@ put-requires c κs = let e = c .before .before in
     let s = k .before .before .before .args .bytes .now in
     (rw (lent-tail (k .loop .at) s) (on e .there), rw (lent-tail (k .loop .n) (k .loop .out)) (omega (arith, room e, length-drop (k .loop .n) (k .loop .out))))
 
-text-len-requires : tie.Need-text-len-requires Inv-loop μ-loop
-text-len-requires c κs = search needs
-
 add-n : tie.Need-add-n Inv-loop μ-loop
 add-n c = let e = c .before .before .before .before .before .before in
     omega (arith, room e, c .text-len .ensures, partly-length (next e))
-
-step-len-requires : tie.Need-step-len-requires Inv-loop μ-loop
-step-len-requires c κs = search needs
 
 add-at : tie.Need-add-at Inv-loop μ-loop
 add-at c = let e = c .before .before .before .before .before .before .before in
@@ -129,27 +99,6 @@ returns c = (partly-count (all c), partly-all (all c))
 
 pub write-lossy-spec : {M : Type 1} → statement M
 write-lossy-spec =
-    tie.close
-    (tie.spec
-    Inv-loop
-    μ-loop
-    loop-holds
-    sub-stride
-    part-stride-start
-    part-stride-end
-    stride-requires
-    sub-put
-    part-put-start
-    part-put-end
-    sub-put-2
-    part-put-start-2
-    part-put-end-2
-    put-requires
-    text-len-requires
-    add-n
-    step-len-requires
-    add-at
-    loop-less
-    loop-again
-    same-length
-    returns)
+    tie.close (tie.spec Inv-loop μ-loop loop-holds (λ c. omega arith) (λ c. search needs) (λ c. search needs) (λ c κs. search needs)
+    (λ c. omega arith) (λ c. search needs) (λ c. search needs) sub-put-2 part-put-start-2 (λ c. search needs) put-requires (λ c κs. search needs)
+    add-n (λ c κs. search needs) add-at loop-less loop-again same-length returns)

@@ -22,23 +22,8 @@ which c = let s = c .before .before .before .before .before .args .s .now in
 returns : tie.Need-returns
 returns c = sym (step-ends _ (c .if1 .taken))
 
-shared-slice-read-lead : tie.Need-shared-slice-read-lead
-shared-slice-read-lead c = search needs
-
 returns-2 : tie.Need-returns-2
 returns-2 c = sym (step-ascii-front _ (some (c .before .before)) (c .if2 .taken))
-
-lead-row-requires : tie.Need-lead-row-requires
-lead-row-requires c κs = search needs
-
-enum-told : tie.Need-enum-told
-enum-told c = search needs
-
-enum-known-r : tie.Need-enum-known-r
-enum-known-r c = search needs
-
-step-on-requires : tie.Need-step-on-requires
-step-on-requires c κs = search needs
 
 returns-3 : tie.Need-returns-3
 returns-3 c = sym (rw (c .enum-told .given .1) at (which (c .before .before)))
@@ -48,14 +33,5 @@ returns-4 c = c .step-on .ensures ∙ sym (rw (c .before .before .r .given .1) a
 
 pub front-step-spec : {M : Type 1} → statement M
 front-step-spec =
-    tie.close
-    (tie.spec
-    returns
-    shared-slice-read-lead
-    returns-2
-    lead-row-requires
-    enum-told
-    enum-known-r
-    step-on-requires
-    returns-3
-    returns-4)
+    tie.close (tie.spec returns (λ c. search needs) returns-2 (λ c κs. search needs) (λ c. search needs) (λ c. search needs) (λ c κs. search needs)
+    returns-3 returns-4)

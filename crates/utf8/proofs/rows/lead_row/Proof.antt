@@ -56,12 +56,6 @@ outside c = ⊎-elim (λ w. inRange-above _ _ _ (w .0 .taken) (leb-false _ _ (w 
 loop-holds : tie.Need-loop-holds Inv-loop μ-loop
 loop-holds c = refl
 
-mul-r : tie.Need-mul-r Inv-loop μ-loop
-mul-r c = omega arith
-
-array-copy-out-r : tie.Need-array-copy-out-r Inv-loop μ-loop
-array-copy-out-r c = omega arith
-
 returns : tie.Need-returns Inv-loop μ-loop
 unfolding rows
 returns c =
@@ -70,12 +64,6 @@ returns c =
     (k .loop .inv
     ∙ here (k .before .args .lead) (k .loop .i) (c .before .before .before .before .before .loop-test .taken)
     (inRange-in _ _ _ (low (c .before .before)) (leb-true _ _ (high c))))
-
-add-i : tie.Need-add-i Inv-loop μ-loop
-add-i c = omega arith
-
-loop-less : tie.Need-loop-less Inv-loop μ-loop
-loop-less c = omega arith
 
 loop-again : tie.Need-loop-again Inv-loop μ-loop
 loop-again c = let k = c .before .before .before .before in
@@ -87,15 +75,5 @@ returns-2 c = let k = c .before in
 
 pub lead-row-spec : {M : Type 1} → statement M
 lead-row-spec =
-    tie.close
-    (tie.spec
-    Inv-loop
-    μ-loop
-    loop-holds
-    mul-r
-    array-copy-out-r
-    returns
-    add-i
-    loop-less
-    loop-again
+    tie.close (tie.spec Inv-loop μ-loop loop-holds (λ c. omega arith) (λ c. omega arith) returns (λ c. omega arith) (λ c. omega arith) loop-again
     returns-2)

@@ -54,9 +54,6 @@ returns c = let k = c .before .before in
     let s = k .before .args .s .now in
     sym (stop s _ (k .before .args .bytes) (k .loop .at) (k .loop .low) (k .loop .high) (k .loop .inv .0) (c .before .loop-test .taken) (starts-in-end _ s (k .loop .at) (c .if1 .taken)))
 
-shared-slice-read-byte : tie.Need-shared-slice-read-byte Inv-loop μ-loop
-shared-slice-read-byte c = omega arith
-
 returns-2 : tie.Need-returns-2 Inv-loop μ-loop
 returns-2 c = let k = c .before .before .before .before in
     let s = k .before .args .s .now in
@@ -70,12 +67,6 @@ returns-3 c = let k = c .before .before .before .before .before in
     sym
     (stop s _ (k .before .args .bytes) (k .loop .at) (k .loop .low) (k .loop .high) (k .loop .inv .0) (c .before .before .before .before .loop-test .taken)
     (starts-in-at _ s (k .loop .at) (c .before .before .before .if1 .left) ∙ inRange-above _ _ _ (c .before .if2 .left) (c .if3 .taken)))
-
-add-at : tie.Need-add-at Inv-loop μ-loop
-add-at c = omega arith
-
-loop-less : tie.Need-loop-less Inv-loop μ-loop
-loop-less c = omega arith
 
 loop-again : tie.Need-loop-again Inv-loop μ-loop
 loop-again c = let k = c .before .before .before .before .before in
@@ -93,16 +84,5 @@ returns-4 c = let k = c .before in
 
 pub step-on-spec : {M : Type 1} → statement M
 step-on-spec =
-    tie.close
-    (tie.spec
-    Inv-loop
-    μ-loop
-    loop-holds
-    returns
-    shared-slice-read-byte
-    returns-2
-    returns-3
-    add-at
-    loop-less
-    loop-again
+    tie.close (tie.spec Inv-loop μ-loop loop-holds returns (λ c. omega arith) returns-2 returns-3 (λ c. omega arith) (λ c. omega arith) loop-again
     returns-4)

@@ -23,15 +23,6 @@ loop-holds c = ascii-to-none _
 sub-loop : tie.Need-sub-loop Inv-loop μ-loop
 sub-loop c = c .loop .inv .there
 
-sub-block-ascii : tie.Need-sub-block-ascii Inv-loop μ-loop
-sub-block-ascii c = omega arith
-
-part-block-ascii-start : tie.Need-part-block-ascii-start Inv-loop μ-loop
-part-block-ascii-start c = omega arith
-
-part-block-ascii-end : tie.Need-part-block-ascii-end Inv-loop μ-loop
-part-block-ascii-end c = search needs
-
 block-ascii-requires : tie.Need-block-ascii-requires Inv-loop μ-loop
 block-ascii-requires c κs = block-lent (c .before .before .before .before .args .s .now) (c .before .before .loop .at) 32 (c .before .loop-test .taken)
 
@@ -53,18 +44,5 @@ returns-2 c = c .before .loop .inv
 
 pub ascii-blocks-spec : {M : Type 1} → statement M
 ascii-blocks-spec =
-    tie.close
-    (tie.spec
-    Inv-loop
-    μ-loop
-    loop-holds
-    sub-loop
-    sub-block-ascii
-    part-block-ascii-start
-    part-block-ascii-end
-    block-ascii-requires
-    returns
-    add-at
-    loop-less
-    loop-again
-    returns-2)
+    tie.close (tie.spec Inv-loop μ-loop loop-holds sub-loop (λ c. omega arith) (λ c. omega arith) (λ c. search needs) block-ascii-requires returns
+    add-at loop-less loop-again returns-2)

@@ -23,15 +23,6 @@ loop-holds c = c .before .pre
 sub-loop : tie.Need-sub-loop Inv-loop μ-loop
 sub-loop c = c .loop .inv .there
 
-sub-eight-ascii : tie.Need-sub-eight-ascii Inv-loop μ-loop
-sub-eight-ascii c = omega arith
-
-part-eight-ascii-start : tie.Need-part-eight-ascii-start Inv-loop μ-loop
-part-eight-ascii-start c = omega arith
-
-part-eight-ascii-end : tie.Need-part-eight-ascii-end Inv-loop μ-loop
-part-eight-ascii-end c = search needs
-
 eight-ascii-requires : tie.Need-eight-ascii-requires Inv-loop μ-loop
 eight-ascii-requires c κs = block-lent (c .before .before .before .before .args .s .now) (c .before .before .loop .at) 8 (c .before .loop-test .taken)
 
@@ -53,18 +44,5 @@ returns-2 c = c .before .loop .inv
 
 pub ascii-eights-spec : {M : Type 1} → statement M
 ascii-eights-spec =
-    tie.close
-    (tie.spec
-    Inv-loop
-    μ-loop
-    loop-holds
-    sub-loop
-    sub-eight-ascii
-    part-eight-ascii-start
-    part-eight-ascii-end
-    eight-ascii-requires
-    returns
-    add-at
-    loop-less
-    loop-again
-    returns-2)
+    tie.close (tie.spec Inv-loop μ-loop loop-holds sub-loop (λ c. omega arith) (λ c. omega arith) (λ c. search needs) eight-ascii-requires returns
+    add-at loop-less loop-again returns-2)

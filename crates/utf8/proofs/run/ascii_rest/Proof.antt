@@ -15,18 +15,6 @@ use Rattle.utf8.proofs.run.ascii_rest.Tie as tie
 returns : tie.Need-returns
 returns c = λ t. true-false t refl
 
-sub-block-ascii : tie.Need-sub-block-ascii
-sub-block-ascii c = search needs
-
-part-block-ascii-start : tie.Need-part-block-ascii-start
-part-block-ascii-start c = search needs
-
-part-block-ascii-end : tie.Need-part-block-ascii-end
-part-block-ascii-end c = search needs
-
-block-ascii-requires : tie.Need-block-ascii-requires
-block-ascii-requires c κs = search needs
-
 returns-2 : tie.Need-returns-2
 returns-2 c = λ t.
     let s = c .before .before .before .before .before in
@@ -37,39 +25,12 @@ returns-2 c = λ t.
 returns-3 : tie.Need-returns-3
 returns-3 c = λ t. true-false t refl
 
-sub-eight-ascii : tie.Need-sub-eight-ascii
-sub-eight-ascii c = search needs
-
-part-eight-ascii-start : tie.Need-part-eight-ascii-start
-part-eight-ascii-start c = search needs
-
-part-eight-ascii-end : tie.Need-part-eight-ascii-end
-part-eight-ascii-end c = search needs
-
-eight-ascii-requires : tie.Need-eight-ascii-requires
-eight-ascii-requires c κs = search needs
-
 returns-4 : tie.Need-returns-4
 returns-4 c = λ t.
     let s = c .before .before .before .before .before .before in
     let bytes = s .args .s .now in
     let long = c .before .before .before .if3 .taken in
     ascii-to-end bytes (s .args .n) (length bytes - 8) 8 (s .pre) (omega (arith, c .before .before .if4 .left)) (omega arith) (rw (lent-tail (length bytes - 8) bytes) at (sym (c .eight-ascii .ensures) ∙ t))
-
-four-ascii-requires : tie.Need-four-ascii-requires
-four-ascii-requires c κs = search needs
-
-sub-four-ascii : tie.Need-sub-four-ascii
-sub-four-ascii c = search needs
-
-part-four-ascii-start : tie.Need-part-four-ascii-start
-part-four-ascii-start c = search needs
-
-part-four-ascii-end : tie.Need-part-four-ascii-end
-part-four-ascii-end c = search needs
-
-four-ascii-requires-2 : tie.Need-four-ascii-requires-2
-four-ascii-requires-2 c κs = search needs
 
 returns-5 : tie.Need-returns-5
 returns-5 c = λ t.
@@ -85,24 +46,6 @@ returns-6 c = λ t. true-false t refl
 
 pub ascii-rest-spec : {M : Type 1} → statement M
 ascii-rest-spec =
-    tie.close
-    (tie.spec
-    returns
-    sub-block-ascii
-    part-block-ascii-start
-    part-block-ascii-end
-    block-ascii-requires
-    returns-2
-    returns-3
-    sub-eight-ascii
-    part-eight-ascii-start
-    part-eight-ascii-end
-    eight-ascii-requires
-    returns-4
-    four-ascii-requires
-    sub-four-ascii
-    part-four-ascii-start
-    part-four-ascii-end
-    four-ascii-requires-2
-    returns-5
-    returns-6)
+    tie.close (tie.spec returns (λ c. search needs) (λ c. search needs) (λ c. search needs) (λ c κs. search needs) returns-2 returns-3
+    (λ c. search needs) (λ c. search needs) (λ c. search needs) (λ c κs. search needs) returns-4 (λ c κs. search needs) (λ c. search needs)
+    (λ c. search needs) (λ c. search needs) (λ c κs. search needs) returns-5 returns-6)

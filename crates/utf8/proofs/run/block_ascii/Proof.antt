@@ -46,6 +46,4 @@ returns c =
     l .inv .0 ∙ ap (λ (k : ℕ). ascii (take k s)) end
 
 pub block-ascii-spec : {M : Type 1} → statement M
-block-ascii-spec =
-    tie.close
-    (tie.spec Inv-loop μ-loop loop-holds shared-slice-read-all add-i loop-less loop-again returns)
+block-ascii-spec = tie.close (tie.spec Inv-loop μ-loop loop-holds shared-slice-read-all add-i loop-less loop-again returns)

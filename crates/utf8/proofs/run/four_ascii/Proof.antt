@@ -9,11 +9,4 @@ returns : tie.Need-returns
 returns c = let s = c .before .before .before .before in ascii-four (s .args .s .now) (s .pre)
 
 pub four-ascii-spec : {M : Type 1} → statement M
-four-ascii-spec =
-    tie.close
-    (tie.spec
-    (λ c. search needs)
-    (λ c. search needs)
-    (λ c. search needs)
-    (λ c. search needs)
-    returns)
+four-ascii-spec = tie.close (tie.spec (λ c. search needs) (λ c. search needs) (λ c. search needs) (λ c. search needs) returns)

@@ -6,19 +6,11 @@ use borrow.Author.Needs.{needs}
 use Rattle.utf8.proofs.run.stride.Statement.{statement}
 use Rattle.utf8.proofs.run.stride.Tie as tie
 
-ascii-front-requires : tie.Need-ascii-front-requires
-ascii-front-requires c κs = search needs
-
 returns : tie.Need-returns
 returns c = let a = c .before .ascii-front .ensures in text-advances _ _ (c .if1 .taken) (a .there) (ascii-well _ (a .are))
-
-front-step-requires : tie.Need-front-step-requires
-front-step-requires c κs = search needs
 
 returns-2 : tie.Need-returns-2
 returns-2 c = rw (c .front-step .ensures) (step-advances _)
 
 pub stride-spec : {M : Type 1} → statement M
-stride-spec =
-    tie.close
-    (tie.spec ascii-front-requires returns front-step-requires returns-2)
+stride-spec = tie.close (tie.spec (λ c κs. search needs) returns (λ c κs. search needs) returns-2)

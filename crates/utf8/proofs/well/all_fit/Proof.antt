@@ -17,35 +17,14 @@ use Rattle.utf8.proofs.well.all_fit.Tie as tie
 returns : tie.Need-returns
 returns c = λ t. true-false t refl
 
-first-fit-requires : tie.Need-first-fit-requires
-first-fit-requires c κs = search needs
-
 returns-2 : tie.Need-returns-2
 returns-2 c = λ t. true-false t refl
-
-ends-whole-requires : tie.Need-ends-whole-requires
-ends-whole-requires c κs = search needs
 
 returns-3 : tie.Need-returns-3
 returns-3 c = λ t. true-false t refl
 
-blocks-fit-requires : tie.Need-blocks-fit-requires
-blocks-fit-requires c κs = search needs
-
 returns-4 : tie.Need-returns-4
 returns-4 c = λ t. true-false t refl
-
-sub-block-fits : tie.Need-sub-block-fits
-sub-block-fits c = search needs
-
-part-block-fits-start : tie.Need-part-block-fits-start
-part-block-fits-start c = search needs
-
-part-block-fits-end : tie.Need-part-block-fits-end
-part-block-fits-end c = search needs
-
-block-fits-requires : tie.Need-block-fits-requires
-block-fits-requires c κs = search needs
 
 returns-5 : tie.Need-returns-5
 returns-5 c = λ t.
@@ -60,17 +39,5 @@ returns-5 c = λ t.
 
 pub all-fit-spec : {M : Type 1} → statement M
 all-fit-spec =
-    tie.close
-    (tie.spec
-    returns
-    first-fit-requires
-    returns-2
-    ends-whole-requires
-    returns-3
-    blocks-fit-requires
-    returns-4
-    sub-block-fits
-    part-block-fits-start
-    part-block-fits-end
-    block-fits-requires
-    returns-5)
+    tie.close (tie.spec returns (λ c κs. search needs) returns-2 (λ c κs. search needs) returns-3 (λ c κs. search needs) returns-4 (λ c. search needs)
+    (λ c. search needs) (λ c. search needs) (λ c κs. search needs) returns-5)

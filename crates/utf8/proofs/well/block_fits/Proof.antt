@@ -20,36 +20,6 @@ abbrev μ-loop : tie.MeasureT-loop
 loop-holds : tie.Need-loop-holds Inv-loop μ-loop
 loop-holds c = (λ t. fit-none (c .before .args .s .now), omega arith)
 
-shared-slice-read-fits : tie.Need-shared-slice-read-fits Inv-loop μ-loop
-shared-slice-read-fits c = omega arith
-
-add-fits : tie.Need-add-fits Inv-loop μ-loop
-add-fits c = omega arith
-
-shared-slice-read-fits-2 : tie.Need-shared-slice-read-fits-2 Inv-loop μ-loop
-shared-slice-read-fits-2 c = omega arith
-
-add-fits-2 : tie.Need-add-fits-2 Inv-loop μ-loop
-add-fits-2 c = omega arith
-
-shared-slice-read-fits-3 : tie.Need-shared-slice-read-fits-3 Inv-loop μ-loop
-shared-slice-read-fits-3 c = omega arith
-
-add-fits-3 : tie.Need-add-fits-3 Inv-loop μ-loop
-add-fits-3 c = omega arith
-
-shared-slice-read-fits-4 : tie.Need-shared-slice-read-fits-4 Inv-loop μ-loop
-shared-slice-read-fits-4 c = omega arith
-
-fits-requires : tie.Need-fits-requires Inv-loop μ-loop
-fits-requires c κs = search needs
-
-add-i : tie.Need-add-i Inv-loop μ-loop
-add-i c = omega arith
-
-loop-less : tie.Need-loop-less Inv-loop μ-loop
-loop-less c = omega arith
-
 loop-again : tie.Need-loop-again Inv-loop μ-loop
 loop-again c =
     let k = c .before .before .before .before .before .before in
@@ -65,20 +35,5 @@ returns c = λ t i h. let k = c .before in k .loop .inv .0 t i (omega (arith, c 
 
 pub block-fits-spec : {M : Type 1} → statement M
 block-fits-spec =
-    tie.close
-    (tie.spec
-    Inv-loop
-    μ-loop
-    loop-holds
-    shared-slice-read-fits
-    add-fits
-    shared-slice-read-fits-2
-    add-fits-2
-    shared-slice-read-fits-3
-    add-fits-3
-    shared-slice-read-fits-4
-    fits-requires
-    add-i
-    loop-less
-    loop-again
-    returns)
+    tie.close (tie.spec Inv-loop μ-loop loop-holds (λ c. omega arith) (λ c. omega arith) (λ c. omega arith) (λ c. omega arith) (λ c. omega arith)
+    (λ c. omega arith) (λ c. omega arith) (λ c κs. search needs) (λ c. omega arith) (λ c. omega arith) loop-again returns)

@@ -22,15 +22,6 @@ abbrev μ-loop : tie.MeasureT-loop
 loop-holds : tie.Need-loop-holds Inv-loop μ-loop
 loop-holds c = fit-none (c .before .args .s .now)
 
-sub-block-fits : tie.Need-sub-block-fits Inv-loop μ-loop
-sub-block-fits c = omega arith
-
-part-block-fits-start : tie.Need-part-block-fits-start Inv-loop μ-loop
-part-block-fits-start c = omega arith
-
-part-block-fits-end : tie.Need-part-block-fits-end Inv-loop μ-loop
-part-block-fits-end c = search needs
-
 block-fits-requires : tie.Need-block-fits-requires Inv-loop μ-loop
 block-fits-requires c κs = let k = c .before .before in
     let start = k .before .before in
@@ -39,12 +30,6 @@ block-fits-requires c κs = let k = c .before .before in
 
 returns : tie.Need-returns Inv-loop μ-loop
 returns c = λ t. true-false t refl
-
-add-at : tie.Need-add-at Inv-loop μ-loop
-add-at c = omega arith
-
-loop-less : tie.Need-loop-less Inv-loop μ-loop
-loop-less c = omega arith
 
 loop-again : tie.Need-loop-again Inv-loop μ-loop
 loop-again c = let k = c .before .before .before .before in
@@ -56,17 +41,5 @@ returns-2 c = λ t i h. c .before .loop .inv i (omega (arith, c .loop-test .left
 
 pub blocks-fit-spec : {M : Type 1} → statement M
 blocks-fit-spec =
-    tie.close
-    (tie.spec
-    Inv-loop
-    μ-loop
-    loop-holds
-    sub-block-fits
-    part-block-fits-start
-    part-block-fits-end
-    block-fits-requires
-    returns
-    add-at
-    loop-less
-    loop-again
-    returns-2)
+    tie.close (tie.spec Inv-loop μ-loop loop-holds (λ c. omega arith) (λ c. omega arith) (λ c. search needs) block-fits-requires returns
+    (λ c. omega arith) (λ c. omega arith) loop-again returns-2)

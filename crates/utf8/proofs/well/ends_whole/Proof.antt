@@ -10,24 +10,6 @@ use borrow.Author.Needs.{needs}
 use Rattle.utf8.proofs.well.ends_whole.Statement.{statement}
 use Rattle.utf8.proofs.well.ends_whole.Tie as tie
 
-sub-result : tie.Need-sub-result
-sub-result c = search needs
-
-shared-slice-read-result : tie.Need-shared-slice-read-result
-shared-slice-read-result c = search needs
-
-sub-result-2 : tie.Need-sub-result-2
-sub-result-2 c = search needs
-
-shared-slice-read-result-2 : tie.Need-shared-slice-read-result-2
-shared-slice-read-result-2 c = search needs
-
-sub-result-3 : tie.Need-sub-result-3
-sub-result-3 c = search needs
-
-shared-slice-read-result-3 : tie.Need-shared-slice-read-result-3
-shared-slice-read-result-3 c = search needs
-
 returns : tie.Need-returns
 returns c = λ t.
     let s = c .before .before .before .args .s .now in
@@ -37,12 +19,5 @@ returns c = λ t.
 
 pub ends-whole-spec : {M : Type 1} → statement M
 ends-whole-spec =
-    tie.close
-    (tie.spec
-    sub-result
-    shared-slice-read-result
-    sub-result-2
-    shared-slice-read-result-2
-    sub-result-3
-    shared-slice-read-result-3
+    tie.close (tie.spec (λ c. search needs) (λ c. search needs) (λ c. search needs) (λ c. search needs) (λ c. search needs) (λ c. search needs)
     returns)

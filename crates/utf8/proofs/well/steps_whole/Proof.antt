@@ -47,21 +47,6 @@ further c = let k = c .before .before .before .before .before in
 loop-holds : tie.Need-loop-holds Inv-loop μ-loop
 loop-holds c = (refl, omega arith)
 
-sub-stride : tie.Need-sub-stride Inv-loop μ-loop
-sub-stride c = omega arith
-
-part-stride-start : tie.Need-part-stride-start Inv-loop μ-loop
-part-stride-start c = search needs
-
-part-stride-end : tie.Need-part-stride-end Inv-loop μ-loop
-part-stride-end c = search needs
-
-stride-requires : tie.Need-stride-requires Inv-loop μ-loop
-stride-requires c κs = search needs
-
-enum-known-n : tie.Need-enum-known-n Inv-loop μ-loop
-enum-known-n c = search needs
-
 returns : tie.Need-returns Inv-loop μ-loop
 returns c = let k = c .before .before .before .before in
     sym (k .loop .inv .0 ∙ ill _ (c .before .stride .result) (rest-some _ _ (c .before .before .before .loop-test .taken)) (c .match .keys2) (told (c .before)))
@@ -85,18 +70,5 @@ returns-2 c = let k = c .before in
 
 pub steps-whole-spec : {M : Type 1} → statement M
 steps-whole-spec =
-    tie.close
-    (tie.spec
-    Inv-loop
-    μ-loop
-    loop-holds
-    sub-stride
-    part-stride-start
-    part-stride-end
-    stride-requires
-    enum-known-n
-    returns
-    add-at
-    loop-less
-    loop-again
-    returns-2)
+    tie.close (tie.spec Inv-loop μ-loop loop-holds (λ c. omega arith) (λ c. search needs) (λ c. search needs) (λ c κs. search needs)
+    (λ c. search needs) returns add-at loop-less loop-again returns-2)
