@@ -48,9 +48,6 @@ returns-3 c = let e = c .before .before .before .before .before .before .before 
 returns-4 : tie.Need-returns-4 Inv-loop μ-loop
 returns-4 c = lengths-apart (first-stands (c .before)) (second-stands (c .before)) (c .if2 .taken)
 
-loop-holds : tie.Need-loop-holds Inv-loop μ-loop
-loop-holds c = refl
-
 slice-read-if3 : tie.Need-slice-read-if3 Inv-loop μ-loop
 slice-read-if3 c = let k = c .before .before in
     omega (arith, c .before .loop-test .taken, text-inside (first-stands (k .before .before)))
@@ -75,5 +72,5 @@ pub same-text-plain-spec : {M : Type 1} → statement M
 same-text-plain-spec =
     tie.close (tie.spec Inv-loop μ-loop (λ c κs. search needs) returns (λ c κs. search needs) (λ c. search needs) (λ c. search needs)
     (λ c. search needs) returns-2 (λ c κs. search needs) (λ c. search needs) (λ c. search needs) (λ c. search needs) (λ c. search needs) returns-3
-    (λ c. search needs) (λ c. search needs) returns-4 loop-holds slice-read-if3 slice-read-if3-2 (λ c. search needs) (λ c. search needs) returns-5
+    (λ c. search needs) (λ c. search needs) returns-4 (λ c. refl) slice-read-if3 slice-read-if3-2 (λ c. search needs) (λ c. search needs) returns-5
     (λ c. search needs) (λ c. search needs) loop-again (λ c. search needs) (λ c. search needs) returns-6)

@@ -19,18 +19,12 @@ Inv-loop a b last at₀ at = take at a ≡ take at b
 abbrev μ-loop : tie.MeasureT-loop
 μ-loop a b last at₀ at = last - at
 
-loop-holds : tie.Need-loop-holds Inv-loop μ-loop
-loop-holds c = refl
-
 eight-equal-requires : tie.Need-eight-equal-requires Inv-loop μ-loop
 eight-equal-requires c κs = let k = c .before .before .before in
     let at = k .loop .at in
     let start = k .before .before .before in
     let h = c .before .before .loop-test .taken in
     (block-lent (start .args .a .now) at 8 (omega (arith, start .pre .0)), block-lent (start .args .b .now) at 8 (omega (arith, start .pre .1)))
-
-returns : tie.Need-returns Inv-loop μ-loop
-returns c = λ t. true-false t refl
 
 loop-again : tie.Need-loop-again Inv-loop μ-loop
 loop-again c = let k = c .before .before .before .before .before in
@@ -43,5 +37,5 @@ returns-2 c = λ t. let k = c .before in
 
 pub eights-equal-spec : {M : Type 1} → statement M
 eights-equal-spec =
-    tie.close (tie.spec Inv-loop μ-loop loop-holds (λ c. omega arith) (λ c. omega arith) (λ c. search needs) (λ c. omega arith) (λ c. omega arith)
-    (λ c. search needs) eight-equal-requires returns (λ c. omega arith) (λ c. omega arith) loop-again returns-2)
+    tie.close (tie.spec Inv-loop μ-loop (λ c. refl) (λ c. omega arith) (λ c. omega arith) (λ c. search needs) (λ c. omega arith) (λ c. omega arith)
+    (λ c. search needs) eight-equal-requires (λ c t. true-false t refl) (λ c. omega arith) (λ c. omega arith) loop-again returns-2)

@@ -19,9 +19,6 @@ abbrev μ-loop : tie.MeasureT-loop
 returns : tie.Need-returns Inv-loop μ-loop
 returns c = sym (same-length _ _ (c .if1 .taken))
 
-loop-holds : tie.Need-loop-holds Inv-loop μ-loop
-loop-holds c = refl
-
 shared-slice-read-if2-2 : tie.Need-shared-slice-read-if2-2 Inv-loop μ-loop
 shared-slice-read-if2-2 c = omega (arith, c .before .before .before .before .if1 .left)
 
@@ -44,5 +41,5 @@ returns-3 c = let k = c .before in
 
 pub same-bytes-spec : {M : Type 1} → statement M
 same-bytes-spec =
-    tie.close (tie.spec Inv-loop μ-loop returns loop-holds (λ c. omega arith) shared-slice-read-if2-2 returns-2 (λ c. omega arith) (λ c. omega arith)
+    tie.close (tie.spec Inv-loop μ-loop returns (λ c. refl) (λ c. omega arith) shared-slice-read-if2-2 returns-2 (λ c. omega arith) (λ c. omega arith)
     loop-again returns-3)

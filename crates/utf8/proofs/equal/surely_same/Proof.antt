@@ -12,15 +12,6 @@ use borrow.Author.Needs.{needs}
 use Rattle.utf8.proofs.equal.surely_same.Statement.{statement}
 use Rattle.utf8.proofs.equal.surely_same.Tie as tie
 
-returns : tie.Need-returns
-returns c = λ t. true-false t refl
-
-returns-2 : tie.Need-returns-2
-returns-2 c = λ t. true-false t refl
-
-returns-3 : tie.Need-returns-3
-returns-3 c = λ t. true-false t refl
-
 returns-4 : tie.Need-returns-4
 returns-4 c = λ t.
     let k = c .before .before .before .before in
@@ -33,5 +24,6 @@ returns-4 c = λ t.
 
 pub surely-same-spec : {M : Type 1} → statement M
 surely-same-spec =
-    tie.close (tie.spec returns returns-2 (λ c κs. search needs) returns-3 (λ c. search needs) (λ c. search needs) (λ c. search needs)
-    (λ c. search needs) (λ c. search needs) (λ c. search needs) (λ c κs. search needs) returns-4)
+    tie.close (tie.spec (λ c t. true-false t refl) (λ c t. true-false t refl) (λ c κs. search needs) (λ c t. true-false t refl)
+    (λ c. search needs) (λ c. search needs) (λ c. search needs) (λ c. search needs) (λ c. search needs) (λ c. search needs) (λ c κs. search needs)
+    returns-4)

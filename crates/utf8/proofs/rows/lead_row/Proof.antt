@@ -53,9 +53,6 @@ outside : (c : tie.Joined1 Inv-loop μ-loop) → inRange (asRange (rowAt (c .bef
 unfolding rows
 outside c = ⊎-elim (λ w. inRange-above _ _ _ (w .0 .taken) (leb-false _ _ (w .2 .left))) (λ w. inRange-below _ _ _ (w .left)) (c .if1 .came)
 
-loop-holds : tie.Need-loop-holds Inv-loop μ-loop
-loop-holds c = refl
-
 returns : tie.Need-returns Inv-loop μ-loop
 unfolding rows
 returns c =
@@ -75,5 +72,5 @@ returns-2 c = let k = c .before in
 
 pub lead-row-spec : {M : Type 1} → statement M
 lead-row-spec =
-    tie.close (tie.spec Inv-loop μ-loop loop-holds (λ c. omega arith) (λ c. omega arith) returns (λ c. omega arith) (λ c. omega arith) loop-again
+    tie.close (tie.spec Inv-loop μ-loop (λ c. refl) (λ c. omega arith) (λ c. omega arith) returns (λ c. omega arith) (λ c. omega arith) loop-again
     returns-2)

@@ -12,18 +12,12 @@ use Rattle.utf8.proofs.Ascii.{ascii-to-end, ascii-few}
 use Rattle.utf8.proofs.run.ascii_rest.Statement.{statement}
 use Rattle.utf8.proofs.run.ascii_rest.Tie as tie
 
-returns : tie.Need-returns
-returns c = λ t. true-false t refl
-
 returns-2 : tie.Need-returns-2
 returns-2 c = λ t.
     let s = c .before .before .before .before .before in
     let bytes = s .args .s .now in
     let long = c .before .before .before .if1 .taken in
     ascii-to-end bytes (s .args .n) (length bytes - 32) 32 (s .pre) (omega (arith, c .before .before .if2 .left)) (omega arith) (rw (lent-tail (length bytes - 32) bytes) at (sym (c .block-ascii .ensures) ∙ t))
-
-returns-3 : tie.Need-returns-3
-returns-3 c = λ t. true-false t refl
 
 returns-4 : tie.Need-returns-4
 returns-4 c = λ t.
@@ -41,11 +35,8 @@ returns-5 c = λ t.
     ascii-few bytes (length bytes - 4) (omega arith) (omega arith) (sym (c .before .before .four-ascii .ensures) ∙ both .0)
     (rw (lent-tail (length bytes - 4) bytes) at (sym (c .four-ascii2 .ensures) ∙ both .1))
 
-returns-6 : tie.Need-returns-6
-returns-6 c = λ t. true-false t refl
-
 pub ascii-rest-spec : {M : Type 1} → statement M
 ascii-rest-spec =
-    tie.close (tie.spec returns (λ c. search needs) (λ c. search needs) (λ c. search needs) (λ c κs. search needs) returns-2 returns-3
-    (λ c. search needs) (λ c. search needs) (λ c. search needs) (λ c κs. search needs) returns-4 (λ c κs. search needs) (λ c. search needs)
-    (λ c. search needs) (λ c. search needs) (λ c κs. search needs) returns-5 returns-6)
+    tie.close (tie.spec (λ c t. true-false t refl) (λ c. search needs) (λ c. search needs) (λ c. search needs) (λ c κs. search needs) returns-2
+    (λ c t. true-false t refl) (λ c. search needs) (λ c. search needs) (λ c. search needs) (λ c κs. search needs) returns-4 (λ c κs. search needs)
+    (λ c. search needs) (λ c. search needs) (λ c. search needs) (λ c κs. search needs) returns-5 (λ c t. true-false t refl))

@@ -14,18 +14,6 @@ use borrow.Author.Needs.{needs}
 use Rattle.utf8.proofs.well.all_fit.Statement.{statement}
 use Rattle.utf8.proofs.well.all_fit.Tie as tie
 
-returns : tie.Need-returns
-returns c = λ t. true-false t refl
-
-returns-2 : tie.Need-returns-2
-returns-2 c = λ t. true-false t refl
-
-returns-3 : tie.Need-returns-3
-returns-3 c = λ t. true-false t refl
-
-returns-4 : tie.Need-returns-4
-returns-4 c = λ t. true-false t refl
-
 returns-5 : tie.Need-returns-5
 returns-5 c = λ t.
     let s = c .before .before .before .before .before .before .before .before .before .before .args .s .now in
@@ -39,5 +27,6 @@ returns-5 c = λ t.
 
 pub all-fit-spec : {M : Type 1} → statement M
 all-fit-spec =
-    tie.close (tie.spec returns (λ c κs. search needs) returns-2 (λ c κs. search needs) returns-3 (λ c κs. search needs) returns-4 (λ c. search needs)
-    (λ c. search needs) (λ c. search needs) (λ c κs. search needs) returns-5)
+    tie.close (tie.spec (λ c t. true-false t refl) (λ c κs. search needs) (λ c t. true-false t refl) (λ c κs. search needs)
+    (λ c t. true-false t refl) (λ c κs. search needs) (λ c t. true-false t refl) (λ c. search needs) (λ c. search needs) (λ c. search needs)
+    (λ c κs. search needs) returns-5)

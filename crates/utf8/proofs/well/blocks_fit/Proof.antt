@@ -28,9 +28,6 @@ block-fits-requires c κs = let k = c .before .before in
     let h = c .before .loop-test .taken in
     block-lent (start .args .s .now) (k .loop .at) 19 (omega (arith, start .pre))
 
-returns : tie.Need-returns Inv-loop μ-loop
-returns c = λ t. true-false t refl
-
 loop-again : tie.Need-loop-again Inv-loop μ-loop
 loop-again c = let k = c .before .before .before .before in
     let s = k .before .before .args .s .now in
@@ -41,5 +38,5 @@ returns-2 c = λ t i h. c .before .loop .inv i (omega (arith, c .loop-test .left
 
 pub blocks-fit-spec : {M : Type 1} → statement M
 blocks-fit-spec =
-    tie.close (tie.spec Inv-loop μ-loop loop-holds (λ c. omega arith) (λ c. omega arith) (λ c. search needs) block-fits-requires returns
-    (λ c. omega arith) (λ c. omega arith) loop-again returns-2)
+    tie.close (tie.spec Inv-loop μ-loop loop-holds (λ c. omega arith) (λ c. omega arith) (λ c. search needs) block-fits-requires
+    (λ c t. true-false t refl) (λ c. omega arith) (λ c. omega arith) loop-again returns-2)
