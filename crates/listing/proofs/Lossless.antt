@@ -21,7 +21,7 @@ use Rattle.parser.specs.declared.Metadata.{Metadata}
 use Rattle.parser.specs.Payload.{Contents}
 use Rattle.parser.specs.Frame.{whole, haproxys}
 use Rattle.listing.specs.Digits.{decimal, shown}
-use Rattle.listing.specs.Lines.{mark, others, filled, frameForm, messageForm, pairForm, endForm, valueText, frameLine, messageLine, pairLine, endLine}
+use Rattle.listing.specs.Lines.{gap, others, filled, frameForm, messageForm, pairForm, endForm, valueText, frameLine, messageLine, pairLine, endLine}
 use Rattle.listing.proofs.Frames.{pairLines, itemLines, frameLines}
 use Rattle.answer.proofs.Each.{Each, each-on}
 use Rattle.listing.proofs.Accepted.{Whole, whole-held}
@@ -32,7 +32,7 @@ use Rattle.listing.proofs.Distinct.{lineMeaning, Plain, decimal-apart, 
 -- how many marks a form has, and whether a space or a line's end stands behind each
 abbrev pub marks : List ℕ → ℕ
 marks [] = 0
-marks (b ∷ form) = cond (eqb b mark) 1 0 + marks form
+marks (b ∷ form) = cond (eqb b gap) 1 0 + marks form
 
 abbrev pub stops : List ℕ → Bool
 stops [] = false
@@ -40,13 +40,13 @@ stops (b ∷ form) = leb b 32
 
 abbrev pub spaced : List ℕ → Bool
 spaced [] = true
-spaced (b ∷ form) = cond (eqb b mark) (stops form) true && spaced form
+spaced (b ∷ form) = cond (eqb b gap) (stops form) true && spaced form
 
-filled-plain : (b : ℕ) (form : List ℕ) (ts : List (List ℕ)) → eqb b mark ≡ false → filled (b ∷ form) ts ≡ b ∷ filled form ts
+filled-plain : (b : ℕ) (form : List ℕ) (ts : List (List ℕ)) → eqb b gap ≡ false → filled (b ∷ form) ts ≡ b ∷ filled form ts
 unfolding filled
 filled-plain b form ts e = rw e
 
-filled-mark : (b : ℕ) (form t : List ℕ) (ts : List (List ℕ)) → eqb b mark ≡ true → filled (b ∷ form) (t ∷ ts) ≡ t ++ filled form ts
+filled-mark : (b : ℕ) (form t : List ℕ) (ts : List (List ℕ)) → eqb b gap ≡ true → filled (b ∷ form) (t ∷ ts) ≡ t ++ filled form ts
 unfolding filled
 filled-mark b form t ts e = rw e
 
@@ -55,7 +55,7 @@ behind-mark : (form : List ℕ) (ts : List (List ℕ)) → stops form ≡ true �
 behind-mark [] ts e = true-false e refl
 behind-mark (b ∷ form) ts e =
     let h = leb-true b 32 e in
-    (b, filled form ts, h, bool-cases (eqb b mark) (λ t. absurd (omega (arith, eqb-true b mark t))) (λ t. filled-plain b form ts t))
+    (b, filled form ts, h, bool-cases (eqb b gap) (λ t. absurd (omega (arith, eqb-true b gap t))) (λ t. filled-plain b form ts t))
 
 -- Two lines of this form that start the same bytes have the same texts, and the same follows them.
 abbrev pub Apart : List ℕ → Type 0
@@ -64,12 +64,12 @@ Apart form = (ts us : List (List ℕ)) (u v : List ℕ)
     → filled form ts ++ u ≡ filled form us ++ v → (ts ≡ us) × (u ≡ v)
 
 module _ (b : ℕ) (form : List ℕ) (on : Apart form) where
-  apart-plain : eqb b mark ≡ false → Apart (b ∷ form)
+  apart-plain : eqb b gap ≡ false → Apart (b ∷ form)
   apart-plain t ts us u v m n p q e =
       on ts us u v (omega (arith, rw t at m)) (omega (arith, rw t at n)) p q
       (tail-eq-of-cons-eq (rw (filled-plain b form ts t, filled-plain b form us t) at e))
 
-  apart-mark : eqb b mark ≡ true → stops form ≡ true → Apart (b ∷ form)
+  apart-mark : eqb b gap ≡ true → stops form ≡ true → Apart (b ∷ form)
   apart-mark t s [] us u v m n p q e = absurd (omega (arith, rw t at m))
   apart-mark t s (x ∷ ts) [] u v m n p q e = absurd (omega (arith, rw t at n))
   apart-mark t s (x ∷ ts) (y ∷ us) u v m n p q e =
@@ -92,8 +92,8 @@ apart-none (x ∷ ts) us u v m n p q e = absurd (omega arith)
 pub filled-apart : (form : List ℕ) → spaced form ≡ true → Apart form
 filled-apart [] s = apart-none
 filled-apart (b ∷ form) s =
-    let o = both-true (cond (eqb b mark) (stops form) true) (spaced form) s in
-    bool-cases (eqb b mark)
+    let o = both-true (cond (eqb b gap) (stops form) true) (spaced form) s in
+    bool-cases (eqb b gap)
     (λ t. apart-mark b form (filled-apart form (o .1)) t (rw t at (o .0)))
     (λ t. apart-plain b form (filled-apart form (o .1)) t)
 

@@ -17,7 +17,7 @@ use Rattle.answer.proofs.Output.{Partly, partly-count, partly-all}
 use Rattle.answer.proofs.Parts.{part-start, part-room, part-most, partly-part}
 use Rattle.types.specs.Inner.{Puts}
 use Rattle.listing.specs.Digits.{dash, glyph, decimal, signed, hexPair, shown}
-use Rattle.listing.specs.Lines.{mark, filled}
+use Rattle.listing.specs.Lines.{gap, filled}
 use Rattle.listing.proofs.Decimal.{decimal-most}
 
 -- ---- a sign
@@ -77,20 +77,20 @@ module _ (form numbers : List ℕ) (i k : ℕ) where
   from-end h = rw (drop-of-length-le form h)
 
   module _ (h : i < length form) where
-    pub from-plain : (getD form i 0 ≡ mark → ⊥) → filledFrom form numbers i k ≡ getD form i 0 ∷ filledFrom form numbers (i + 1) k
+    pub from-plain : (getD form i 0 ≡ gap → ⊥) → filledFrom form numbers i k ≡ getD form i 0 ∷ filledFrom form numbers (i + 1) k
     unfolding filled
-    from-plain ne = rw (add-one i, drop-cons form i 0 h) (simp (ne-eqb (getD form i 0) mark ne))
+    from-plain ne = rw (add-one i, drop-cons form i 0 h) (simp (ne-eqb (getD form i 0) gap ne))
 
-    pub from-mark : getD form i 0 ≡ mark → k < length numbers
+    pub from-mark : getD form i 0 ≡ gap → k < length numbers
         → filledFrom form numbers i k ≡ decimal (getD numbers k 0) ++ filledFrom form numbers (i + 1) (k + 1)
     unfolding filled
     from-mark e l =
-        rw (add-one i, add-one k, drop-cons form i 0 h, drop-cons numbers k 0 l) (simp (eq-eqb (getD form i 0) mark e))
+        rw (add-one i, add-one k, drop-cons form i 0 h, drop-cons numbers k 0 l) (simp (eq-eqb (getD form i 0) gap e))
 
-    pub from-out : getD form i 0 ≡ mark → length numbers ≤ k → filledFrom form numbers i k ≡ filledFrom form numbers (i + 1) k
+    pub from-out : getD form i 0 ≡ gap → length numbers ≤ k → filledFrom form numbers i k ≡ filledFrom form numbers (i + 1) k
     unfolding filled
     from-out e l =
-        rw (add-one i, drop-cons form i 0 h, drop-of-length-le numbers l) (simp (eq-eqb (getD form i 0) mark e))
+        rw (add-one i, drop-cons form i 0 h, drop-of-length-le numbers l) (simp (eq-eqb (getD form i 0) gap e))
 
 -- ---- parts
 

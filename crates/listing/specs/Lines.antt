@@ -30,17 +30,17 @@ use Rattle.listing.specs.Digits.{letters, dash, decimal, signed, shown}
 -- ---- a line
 
 -- `#`, for which a text is put
-abbrev pub mark : ℕ
-mark = code "#"
+abbrev pub gap : ℕ
+gap = code "#"
 
--- what is put for a byte of a form, and the texts that are left: a mark takes the first, or none where none is left
+-- what is put for a byte of a form, and the texts that are left: a gap takes the first, or none where none is left
 abbrev pub piece : ℕ → List (List ℕ) → List ℕ
-piece b texts = cond (eqb b mark) (getD texts 0 []) (b ∷ [])
+piece b texts = cond (eqb b gap) (getD texts 0 []) (b ∷ [])
 
 abbrev pub others : ℕ → List (List ℕ) → List (List ℕ)
-others b texts = cond (eqb b mark) (drop 1 texts) texts
+others b texts = cond (eqb b gap) (drop 1 texts) texts
 
--- A form with a text for each mark, in order.
+-- A form with a text for each gap, in order.
 unfoldable pub filled : List ℕ → List (List ℕ) → List ℕ
 filled [] texts = []
 filled (b ∷ form) texts = piece b texts ++ filled form (others b texts)
