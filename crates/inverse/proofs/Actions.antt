@@ -4,7 +4,7 @@ use mathlib.Core.Bool.{true, cond}
 use mathlib.Core.List.{List, [], _∷_, _++_, append-assoc}
 use Prim.Native.Nat.{ℕ}
 use lib.ListN.{drop}
-use Rattle.answer.specs.Order.{first}
+use Rattle.answer.specs.Order.{inOrder}
 use Rattle.answer.specs.Table.{joined}
 use Rattle.answer.proofs.Records.{joined-none, joined-on}
 use Rattle.varint.proofs.Reading.{Bytes}
@@ -23,7 +23,7 @@ PlainOf f x = plainAction f x ≡ true
 
 -- what a writer refuses of an action
 abbrev pub Refuses : List ℕ → Action → Type 0
-Refuses f x = first (actionChecks f x) ≡ cond (wellAction f x) 0 15
+Refuses f x = inOrder (actionChecks f x) 0 ≡ cond (wellAction f x) 0 15
 
 module _ (f : List ℕ) (small : Bytes f) where
   -- Law: plain actions took exactly the bytes that they are written as.
