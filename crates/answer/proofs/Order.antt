@@ -53,15 +53,15 @@ passes-zero ((suc n, test) ∷ checks) some e =
     bool-cases test (λ t. (t, passes-zero checks some (rw t at e))) (λ t. let z = (rw t at e) in absurd (omega arith))
 
 -- of two orders the first one's number, and past it the second one's
-pub number-front : (xs ys : List Check) (n : ℕ) → n ≡ inOrder xs 0 → (n ≡ 0 → ⊥) → n ≡ inOrder (xs ++ ys) 0
+pub order-front : (xs ys : List Check) (n : ℕ) → n ≡ inOrder xs 0 → (n ≡ 0 → ⊥) → n ≡ inOrder (xs ++ ys) 0
 unfolding inOrder
-number-front [] ys n e ne = absurd (ne e)
-number-front ((k, test) ∷ xs) ys n e ne = bool-cases test (λ t. rw t (number-front xs ys n (rw t at e) ne)) (λ t. rw t (rw t at e))
+order-front [] ys n e ne = absurd (ne e)
+order-front ((k, test) ∷ xs) ys n e ne = bool-cases test (λ t. rw t (order-front xs ys n (rw t at e) ne)) (λ t. rw t (rw t at e))
 
-pub number-past : (xs ys : List Check) → Passes xs → inOrder (xs ++ ys) 0 ≡ inOrder ys 0
+pub order-past : (xs ys : List Check) → Passes xs → inOrder (xs ++ ys) 0 ≡ inOrder ys 0
 unfolding inOrder
-number-past [] ys p = refl
-number-past ((k, test) ∷ xs) ys p = rw (p .0) (number-past xs ys (p .1))
+order-past [] ys p = refl
+order-past ((k, test) ∷ xs) ys p = rw (p .0) (order-past xs ys (p .1))
 
 -- ---- as lines at a place
 

@@ -9,14 +9,14 @@ unfoldable pub inOrder : {A : Type 0} → List (A × Bool) → A → A
 inOrder [] last = last
 inOrder ((answer, holds) ∷ lines) last = cond holds (inOrder lines last) answer
 
--- A line whose answer is a refusal's number; and such lines where they refuse at a place.
+-- A line that says a refusal's number alone; and such lines in an answer, each refusal at this place.
 abbrev pub Check : Type 0
 Check = ℕ × Bool
 
 abbrev pub linesAt : {A : Type 0} → ℕ → List Check → List (Answer A × Bool)
 linesAt place checks = map (λ c. (refused (c .0) place, c .1)) checks
 
--- So many records from the first on, in their order: the lines of each at its index, and then the last answer.
+-- So many records from the first on: the lines of one after those of the other, each record's at its index, and then the last answer.
 unfoldable pub eachInOrder : {A : Type 0} → (ℕ → List Check) → ℕ → ℕ → Answer A → Answer A
 eachInOrder checks first zero last = last
 eachInOrder checks first (suc n) last = inOrder (linesAt first (checks first)) (eachInOrder checks (suc first) n last)

@@ -35,7 +35,7 @@ use Rattle.writer.specs.Inner.{actionOrder}
 use Rattle.writer.specs.Frame.{headOf, limited, finAlone, kvAllowed, actionsBytes, actionsAnswer}
 use Rattle.writer.proofs.Answers.{kv-agent-hello, kv-agent-disconnect, actions-list, list-held}
 use Rattle.inverse.proofs.Plain.{plainAction, wellAction, WellActions, PlainActions}
-use Rattle.inverse.proofs.Actions.{PlainOf, Refuses, actions-form, actions-only, actions-refuse}
+use Rattle.inverse.proofs.Actions.{PlainOf, RefusesText, actions-form, actions-only, actions-refuse}
 use Rattle.agent.proofs.Standing.{ActionRun, actions-stand, of-actions, of-pairs, agent-cut}
 use Rattle.inverse.proofs.Head.{kinds-above, payload-same, Accepted, entry-accepted}
 use Rattle.inverse.proofs.Payload.{Distinct, kv-distinct, kv-stands}
@@ -138,7 +138,7 @@ module _ (limit : ℕ) (s oldPairs newPairs oldActions newActions : List ℕ) (m
     action-says : (i : ℕ) → i < rows → inOrder (actionOrder f newActions i) 0 ≡ cond (wellAction f (actionAt newActions i)) 0 15
     action-says i l =
         let here : 0 + i ≡ i = omega arith in
-        rw here at (each-at (Refuses f) (actionAt newActions) rows 0 (rw hold-actions (actions-refuse f small (x .start) (c .actions) (length f) stand)) i l)
+        rw here at (each-at (RefusesText f) (actionAt newActions) rows 0 (rw hold-actions (actions-refuse f small (x .start) (c .actions) (length f) stand)) i l)
 
     action-well : (i : ℕ) → i < rows → wellAction f (actionAt newActions i) ≡ true → Passes (actionOrder f newActions i)
     action-well i l w = passes-zero _ tt (action-says i l ∙ rw w)

@@ -1,6 +1,6 @@
 -- Payloads joined and told apart, of what accepted calls leave in their output: the payload of two lists joined is the first payload followed by
 -- the second, an empty list gives no byte, and lists with different records never give the same payload. (Spelled says what is different.)
-use mathlib.Core.Path.{_≡_, sym, ap, ap₂, _∙_}
+use mathlib.Core.Path.{_≡_, ap, ap₂, _∙_}
 use mathlib.Core.Bool.{Bool}
 use mathlib.Core.List.{List, [], _++_}
 use Prim.Native.Nat.{ℕ, _+_, _*_, _^_, _≤_, _<_}

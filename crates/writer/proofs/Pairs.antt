@@ -12,10 +12,10 @@ use Rattle.answer.specs.Writes.{Wrote, Writes}
 use Rattle.answer.specs.Order.{Check, inOrder}
 use Rattle.answer.specs.Table.{records, some}
 use Rattle.answer.specs.Inner.{Passes, Sound}
-use Rattle.answer.proofs.Order.{order-fails, order-holds, passes-both, passes-parts, number-front, number-past, Refuses, lines-refuse}
+use Rattle.answer.proofs.Order.{order-fails, order-holds, passes-both, passes-parts, order-front, order-past, Refuses, lines-refuse}
 use Rattle.answer.proofs.Parts.{room-counted, room-leaves}
 use Rattle.varint.specs.Number.{numberBytes}
-use Rattle.types.specs.Form.{part, stringBytes, valueBytes, writableRecord, ranged, valueAnswer}
+use Rattle.types.specs.Form.{part, stringBytes, valueBytes, writableRecord, ranged}
 use Rattle.types.specs.Check.{stringChecks, partChecks}
 use Rattle.types.specs.declared.Value.{Value}
 use Rattle.types.specs.Promise.{recordOf, WriteString, WriteValue}
@@ -33,12 +33,12 @@ module _ (buffer : List ℕ) (p : Pair) where
 
   pub pair-key : writableRecord (recordOf (p .value)) ≡ true → (n : ℕ) → n ≡ inOrder (stringChecks buffer (p .start) (p .len)) 0 → (n ≡ 0 → ⊥)
       → n ≡ inOrder (pairChecks buffer p) 0
-  pair-key h n e ne = number-front (stringChecks buffer (p .start) (p .len)) (partChecks buffer (recordOf (p .value))) n e ne ∙ sym (order-holds 14 _ _ 0 h)
+  pair-key h n e ne = order-front (stringChecks buffer (p .start) (p .len)) (partChecks buffer (recordOf (p .value))) n e ne ∙ sym (order-holds 14 _ _ 0 h)
 
   -- past the key it is the value's part
   pub pair-part : writableRecord (recordOf (p .value)) ≡ true → Passes (stringChecks buffer (p .start) (p .len))
       → inOrder (pairChecks buffer p) 0 ≡ inOrder (partChecks buffer (recordOf (p .value))) 0
-  pair-part h t = order-holds 14 _ _ 0 h ∙ number-past (stringChecks buffer (p .start) (p .len)) (partChecks buffer (recordOf (p .value))) t
+  pair-part h t = order-holds 14 _ _ 0 h ∙ order-past (stringChecks buffer (p .start) (p .len)) (partChecks buffer (recordOf (p .value))) t
 
 -- Law: a pair that passes has a written form.
 pub formed-passed : (buffer : List ℕ) (p : Pair) → Passes (pairChecks buffer p) → Formed buffer p
@@ -62,7 +62,7 @@ module _ (buffer pairs : List ℕ) (i : ℕ) where
   new = (9, newKey buffer pairs i) ∷ []
 
   pub kv-own : (n : ℕ) → n ≡ inOrder (pairOrder buffer pairs i) 0 → (n ≡ 0 → ⊥) → Refuses (kvChecks buffer pairs i) n
-  kv-own n e ne = lines-refuse (kvChecks buffer pairs i) n (number-front (pairOrder buffer pairs i) new n e ne) ne
+  kv-own n e ne = lines-refuse (kvChecks buffer pairs i) n (order-front (pairOrder buffer pairs i) new n e ne) ne
 
   pub kv-passed : Passes (kvChecks buffer pairs i) → Passes (pairOrder buffer pairs i)
   kv-passed p = passes-parts (pairOrder buffer pairs i) new p .0
@@ -75,7 +75,7 @@ module _ (buffer pairs : List ℕ) (i : ℕ) where
   module _ (p : Passes (pairOrder buffer pairs i)) where
     pub kv-met : some (sameKey buffer (pairAt pairs i)) (records (pairAt pairs) 0 i) ≡ true → Refuses (kvChecks buffer pairs i) 9
     unfolding newKey
-    kv-met h = lines-refuse (kvChecks buffer pairs i) 9 (sym (number-past (pairOrder buffer pairs i) new p ∙ order-fails 9 _ [] 0 (rw h))) (λ z. omega arith)
+    kv-met h = lines-refuse (kvChecks buffer pairs i) 9 (sym (order-past (pairOrder buffer pairs i) new p ∙ order-fails 9 _ [] 0 (rw h))) (λ z. omega arith)
 
     pub kv-new : some (sameKey buffer (pairAt pairs i)) (records (pairAt pairs) 0 i) ≡ false → Passes (kvChecks buffer pairs i)
     unfolding newKey

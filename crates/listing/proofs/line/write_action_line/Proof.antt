@@ -1,7 +1,7 @@
 -- `listing::line::write_action_line` meets its contract: the action is refused, or `write_valued` writes the line of a set, and `write_named`
 -- that of an unset.
 -- Assumes nothing.
-use mathlib.Core.Path.{_≡_, sym, _∙_}
+use mathlib.Core.Path.{sym, _∙_}
 use Prim.Native.Nat.{_+_, _≤_}
 use native.Mathlib.Omega.{arith}
 use lib.ListN.{length}

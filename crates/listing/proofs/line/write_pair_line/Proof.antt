@@ -1,6 +1,6 @@
 -- `listing::line::write_pair_line` meets its contract: the pair is refused, or `write_valued` writes its line.
 -- Assumes nothing.
-use mathlib.Core.Path.{_≡_, sym, _∙_}
+use mathlib.Core.Path.{sym, _∙_}
 use Prim.Native.Nat.{_+_, _≤_}
 use native.Mathlib.Omega.{arith}
 use lib.ListN.{length}
