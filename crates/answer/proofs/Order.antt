@@ -1,161 +1,162 @@
--- Laws about orders of checks, and about the first record that is refused.
-use mathlib.Core.Path.{_≡_, refl, sym, ap, _∙_}
+-- Laws about orders: of one record's checks, as a number and as lines at a place, and of all records of a table.
+use mathlib.Core.Path.{_≡_, refl, sym, ap, ap₂, _∙_}
 use mathlib.Core.Bool.{Bool, true, false}
-use mathlib.Core.Logic.{⊎-elim}
+use mathlib.Core.Logic.{_⊎_, inl, inr, ⊎-elim}
 use mathlib.Core.List.{List, [], _∷_, _++_}
 use Prim.Native.Nat.{ℕ, zero, suc, _+_, _-_, _<_}
 use native.Mathlib.Numerals.{add-one}
 use native.Mathlib.Omega.{arith}
-use lib.Dec.{eqb}
-use borrow.Author.Tests.{eq-eqb, ne-eqb, eqb-true, eqb-false}
-use Rattle.answer.specs.declared.Refusal.{Refusal}
 use Rattle.answer.specs.Answer.{Answer, done, refused}
-use Rattle.answer.specs.Order.{Check, inOrder, first, unless, firstRefused}
-use Rattle.answer.specs.Inner.{Sound}
+use Rattle.answer.specs.Order.{Check, inOrder, linesAt, eachInOrder}
+use Rattle.answer.specs.Inner.{Passes, Sound}
 use Rattle.answer.proofs.Cases.{lt-or-le, bool-cases, not-both}
 
 -- ---- one line after the other
 
-pub first-none : first [] ≡ 0
+pub order-none : {A : Type 0} (last : A) → inOrder [] last ≡ last
 unfolding inOrder
-first-none = refl
+order-none last = refl
 
-module _ (n : ℕ) (test : Bool) (checks : List Check) where
-  pub first-fails : test ≡ false → first ((n, test) ∷ checks) ≡ n
+module _ {A : Type 0} (answer : A) (test : Bool) (lines : List (A × Bool)) (last : A) where
+  pub order-fails : test ≡ false → inOrder ((answer, test) ∷ lines) last ≡ answer
   unfolding inOrder
-  first-fails e = rw e
+  order-fails e = rw e
 
-  pub first-holds : test ≡ true → first ((n, test) ∷ checks) ≡ first checks
+  pub order-holds : test ≡ true → inOrder ((answer, test) ∷ lines) last ≡ inOrder lines last
   unfolding inOrder
-  first-holds e = rw e
+  order-holds e = rw e
 
-  -- where all hold, the first does and the others do
-  pub first-passed : (n ≡ 0 → ⊥) → first ((n, test) ∷ checks) ≡ 0 → (test ≡ true) × (first checks ≡ 0)
-  first-passed ne z =
-      bool-cases test (λ t. (t, sym (first-holds t) ∙ z)) (λ t. absurd (ne (sym (first-fails t) ∙ z)))
+-- ---- checks that pass
 
--- ---- one order behind another
+pub passes-both : (xs ys : List Check) → Passes xs → Passes ys → Passes (xs ++ ys)
+passes-both [] ys p q = q
+passes-both ((n, test) ∷ xs) ys p q = (p .0, passes-both xs ys (p .1) q)
 
--- no line of it has the number 0, which stands for none
+pub passes-parts : (xs ys : List Check) → Passes (xs ++ ys) → Passes xs × Passes ys
+passes-parts [] ys p = (tt, p)
+passes-parts ((n, test) ∷ xs) ys p = let o = passes-parts xs ys (p .1) in ((p .0, o .0), o .1)
+
+-- ---- as a number, where 0 stands for none
+
+-- no line has the number 0
 abbrev pub Numbered : List Check → Type 0
 Numbered [] = Unit
-Numbered ((n, test) ∷ checks) = (n ≡ 0 → ⊥) × Numbered checks
+Numbered ((zero, test) ∷ checks) = ⊥
+Numbered ((suc n, test) ∷ checks) = Numbered checks
 
--- where the first order refuses, so do both
-pub first-both : (xs ys : List Check) → (first xs ≡ 0 → ⊥) → first (xs ++ ys) ≡ first xs
+-- Law: so with 0 all pass.
+pub passes-zero : (checks : List Check) → Numbered checks → inOrder checks 0 ≡ 0 → Passes checks
 unfolding inOrder
-first-both [] ys ne = absurd (ne refl)
-first-both ((n, test) ∷ xs) ys ne =
-    bool-cases test (λ t. rw t (first-both xs ys (λ z. ne (rw t z)))) (λ t. rw t)
+passes-zero [] some e = tt
+passes-zero ((zero, test) ∷ checks) some e = absurd some
+passes-zero ((suc n, test) ∷ checks) some e =
+    bool-cases test (λ t. (t, passes-zero checks some (rw t at e))) (λ t. let z = (rw t at e) in absurd (omega arith))
 
--- and where it does not, both do as the second
-pub first-then : (xs ys : List Check) → Numbered xs → first xs ≡ 0 → first (xs ++ ys) ≡ first ys
+-- of two orders the first one's number, and past it the second one's
+pub order-front : (xs ys : List Check) (n : ℕ) → n ≡ inOrder xs 0 → (n ≡ 0 → ⊥) → n ≡ inOrder (xs ++ ys) 0
 unfolding inOrder
-first-then [] ys some z = refl
-first-then ((n, test) ∷ xs) ys some z =
-    bool-cases test (λ t. rw t (first-then xs ys (some .1) (rw t at z))) (λ t. absurd (some .0 (rw t at z)))
+order-front [] ys n e ne = absurd (ne e)
+order-front ((k, test) ∷ xs) ys n e ne = bool-cases test (λ t. rw t (order-front xs ys n (rw t at e) ne)) (λ t. rw t (rw t at e))
 
--- so what passes both passes the first
-pub first-front : (xs ys : List Check) → first (xs ++ ys) ≡ 0 → first xs ≡ 0
-first-front xs ys z =
-    bool-cases (eqb (first xs) 0) (λ t. eqb-true (first xs) 0 t)
-    (λ t. let ne = eqb-false (first xs) 0 t in absurd (ne (sym (first-both xs ys ne) ∙ z)))
+pub order-past : (xs ys : List Check) → Passes xs → inOrder (xs ++ ys) 0 ≡ inOrder ys 0
+unfolding inOrder
+order-past [] ys p = refl
+order-past ((k, test) ∷ xs) ys p = rw (p .0) (order-past xs ys (p .1))
 
--- ---- a refusal or what comes after it
+-- ---- as lines at a place
 
-module _ {A : Type 0} (r : Refusal) (a : Answer A) where
-  pub unless-refused : (r .number ≡ 0 → ⊥) → unless r a ≡ refused (r .number) (r .place)
-  unless-refused ne = rw (ne-eqb (r .number) 0 ne)
+-- Checks that refuse with n, whatever the last answer is.
+abbrev pub Refuses : List Check → ℕ → Type 0
+Refuses checks n = (place : ℕ) (a : Answer (List ℕ)) → inOrder (linesAt place checks) a ≡ refused n place
 
-  pub unless-none : r .number ≡ 0 → unless r a ≡ a
-  unless-none z = rw (eq-eqb (r .number) 0 z)
+pub lines-refuse : (checks : List Check) (n : ℕ) → n ≡ inOrder checks 0 → (n ≡ 0 → ⊥) → Refuses checks n
+unfolding inOrder
+lines-refuse [] n e ne place a = absurd (ne e)
+lines-refuse ((k, test) ∷ checks) n e ne place a =
+    bool-cases test (λ t. rw t (lines-refuse checks n (rw t at e) ne place a)) (λ t. rw t (ap (λ (m : ℕ). refused m place) (sym (rw t at e))))
 
-  -- what an accepted answer has passed
-  pub unless-passed : {x : A} {n : ℕ} → unless r a ≡ done x n → (r .number ≡ 0) × (a ≡ done x n)
-  unless-passed is =
-      bool-cases (eqb (r .number) 0)
-      (λ t. let z = eqb-true (r .number) 0 t in (z, sym (unless-none z) ∙ is))
-      (λ t. not-both is (unless-refused (eqb-false (r .number) 0 t)))
+pub lines-pass : (checks : List Check) → Passes checks → (place : ℕ) (a : Answer (List ℕ)) → inOrder (linesAt place checks) a ≡ a
+unfolding inOrder
+lines-pass [] p place a = refl
+lines-pass ((k, test) ∷ checks) p place a = rw (p .0) (lines-pass checks (p .1) place a)
 
--- ---- records that are not refused
+lines-cases : (checks : List Check) → Passes checks ⊎ ((n : ℕ) × Refuses checks n)
+unfolding inOrder
+lines-cases [] = inl tt
+lines-cases ((k, test) ∷ checks) =
+    bool-cases test
+    (λ t. ⊎-elim (λ p. inl (t, p)) (λ r. inr (r .0, λ place a. rw t (r .1 place a))) (lines-cases checks))
+    (λ t. inr (k, λ place a. rw t))
 
-pub sound-none : {number : ℕ → ℕ} → Sound number 0
+-- Law: what an accepted answer has passed.
+pub lines-done : (checks : List Check) (place : ℕ) (a : Answer (List ℕ)) {x : List ℕ} {n : ℕ} → inOrder (linesAt place checks) a ≡ done x n → Passes checks × (a ≡ done x n)
+lines-done checks place a is =
+    ⊎-elim (λ p. (p, sym (lines-pass checks p place a) ∙ is)) (λ r. not-both is (r .1 place a)) (lines-cases checks)
+
+-- ---- all records of a table
+
+pub sound-none : {checks : ℕ → List Check} → Sound checks 0
 sound-none = record { each = λ i h. absurd (omega arith) }
 
-pub sound-on : {number : ℕ → ℕ} {n : ℕ} → Sound number n → number n ≡ 0 → Sound number (n + 1)
-sound-on {number} {n} s e =
-    record { each = λ i h. ⊎-elim (λ l. s .each i l) (λ l. let same : i ≡ n = omega arith in ap number same ∙ e) (lt-or-le i n) }
+pub sound-on : {checks : ℕ → List Check} {n : ℕ} → Sound checks n → Passes (checks n) → Sound checks (n + 1)
+sound-on {checks} {n} s p =
+    record { each = λ i h. ⊎-elim (λ l. s .each i l) (λ l. let same : i ≡ n = omega arith in rw same p) (lt-or-le i n) }
 
--- ---- the first record that is refused
+module _ (checks : ℕ → List Check) (a : Answer (List ℕ)) where
+  none-left : (first : ℕ) → eachInOrder checks first 0 a ≡ a
+  unfolding eachInOrder
+  none-left first = refl
 
-module _ (number : ℕ → ℕ) where
-  first-zero : firstRefused number 0 ≡ record { number = 0; place = 0 }
-  unfolding firstRefused
-  first-zero = refl
+  one-more : (first n : ℕ) → eachInOrder checks first (suc n) a ≡ inOrder (linesAt first (checks first)) (eachInOrder checks (suc first) n a)
+  unfolding eachInOrder
+  one-more first n = refl
 
-  -- none before record i, which is refused or not
-  first-on : (i : ℕ) → firstRefused number i .number ≡ 0 → number i ≡ 0 → firstRefused number (suc i) ≡ record { number = 0; place = 0 }
-  unfolding firstRefused
-  first-on i z e = rw (z, e)
+  -- k records that pass are passed over: what is left is the order of the n from there on
+  past : (k n from to m : ℕ) → to ≡ from + k → m ≡ k + n → ((i : ℕ) → i < to → Passes (checks i)) → eachInOrder checks from m a ≡ eachInOrder checks to n a
+  past zero n from to m e f p =
+      let here : from ≡ to = omega arith in
+      let all : m ≡ n = omega arith in
+      ap₂ (λ (i l : ℕ). eachInOrder checks i l a) here all
+  past (suc k) n from to m e f p =
+      let more : m ≡ suc (k + n) = omega arith in
+      ap (λ (l : ℕ). eachInOrder checks from l a) more
+      ∙ one-more from (k + n)
+      ∙ lines-pass (checks from) (p from (omega arith)) from (eachInOrder checks (suc from) (k + n) a)
+      ∙ past k n (suc from) to (k + n) (omega arith) refl p
 
-  first-here : (i : ℕ) → firstRefused number i .number ≡ 0 → (number i ≡ 0 → ⊥) → firstRefused number (suc i) ≡ record { number = number i; place = i }
-  unfolding firstRefused
-  first-here i z ne = rw (z, ne-eqb (number i) 0 ne)
+  -- Law: where all records pass it is the last answer.
+  pub each-pass : (count : ℕ) → Sound checks count → eachInOrder checks 0 count a ≡ a
+  each-pass count s = past count 0 0 count count (omega arith) (omega arith) (s .each) ∙ none-left count
 
-  first-kept : (i : ℕ) → (firstRefused number i .number ≡ 0 → ⊥) → firstRefused number (suc i) ≡ firstRefused number i
-  unfolding firstRefused
-  first-kept i ne = rw (ne-eqb (firstRefused number i .number) 0 ne)
+  -- Law: where record i is refused, and those before it pass, it is that refusal at i.
+  pub each-refuse : (count i n : ℕ) → i < count → Sound checks i → Refuses (checks i) n → eachInOrder checks 0 count a ≡ refused n i
+  each-refuse count i n h s r =
+      let k = count - suc i in
+      past i (suc k) 0 i count (omega arith) (omega arith) (s .each) ∙ one-more i k ∙ r i (eachInOrder checks (suc i) k a)
 
-  -- Law: where no record is refused, the number is 0.
-  pub none-refused : (count : ℕ) → Sound number count → firstRefused number count ≡ record { number = 0; place = 0 }
-  none-refused zero s = first-zero
-  none-refused (suc i) s =
-      let before = none-refused i (record { each = λ j h. s .each j (omega arith) }) in
-      first-on i (ap (λ (r : Refusal). r .number) before) (s .each i (omega arith))
+  -- all records pass, or there is the first that does not
+  each-cases : (count : ℕ) → Sound checks count ⊎ ((i : ℕ) × (n : ℕ) × (i < count) × Sound checks i × Refuses (checks i) n)
+  each-cases zero = inl sound-none
+  each-cases (suc k) =
+      ⊎-elim
+      (λ s. ⊎-elim (λ p. inl (rw (add-one k) at (sound-on {checks = checks} {n = k} s p))) (λ r. inr (k, r .0, omega arith, s, r .1)) (lines-cases (checks k)))
+      (λ r. inr (r .0, r .1, omega arith, r .3, r .4))
+      (each-cases k)
 
-  -- a refused record stays the first, however many come after it
-  stays : (k i : ℕ) → (firstRefused number i .number ≡ 0 → ⊥) → firstRefused number (i + k) ≡ firstRefused number i
-  stays zero i ne = ap (firstRefused number) (omega arith)
-  stays (suc k) i ne =
-      let one = first-kept i ne in
-      ap (firstRefused number) (omega arith)
-      ∙ stays k (suc i) (λ z. ne (ap (λ (r : Refusal). r .number) (sym one) ∙ z))
-      ∙ one
+  -- Law: what is accepted had no record refused.
+  pub each-done : (count : ℕ) {x : List ℕ} {n : ℕ} → eachInOrder checks 0 count a ≡ done x n → Sound checks count × (a ≡ done x n)
+  each-done count is =
+      ⊎-elim (λ s. (s, sym (each-pass count s) ∙ is)) (λ r. not-both is (each-refuse count (r .0) (r .1) (r .2) (r .3) (r .4))) (each-cases count)
 
-  -- Law: a refused record with none before it is the first.
-  pub refused-here : (count i n : ℕ) → i < count → Sound number i → number i ≡ n → (n ≡ 0 → ⊥) → firstRefused number count ≡ record { number = n; place = i }
-  refused-here count i n h s e ne =
-      let before = ap (λ (r : Refusal). r .number) (none-refused i s) in
-      let here = first-here i before (λ z. ne (sym e ∙ z)) in
-      let more : count ≡ suc i + (count - suc i) = omega arith in
-      ap (firstRefused number) more
-      ∙ stays (count - suc i) (suc i) (λ z. ne (sym e ∙ ap (λ (r : Refusal). r .number) (sym here) ∙ z))
-      ∙ here
-      ∙ ap (λ (m : ℕ). record { number = m; place = i }) e
-
-  -- no record is refused, or the one that is named is, and none before it
-  by-records : {G : Type 0} (count : ℕ) → (firstRefused number count ≡ record { number = 0; place = 0 } → Sound number count → G)
-      → ((i : ℕ) → i < count → Sound number i → (number i ≡ 0 → ⊥) → firstRefused number count ≡ record { number = number i; place = i } → G) → G
-  by-records zero passed stopped = passed first-zero (record { each = λ i h. absurd (omega arith) })
-  by-records (suc n) passed stopped =
-      by-records n
-      (λ is s.
-      let before = ap (λ (r : Refusal). r .number) is in
-      bool-cases (eqb (number n) 0)
-      (λ t. let e = eqb-true (number n) 0 t in passed (first-on n before e) (rw (add-one n) at (sound-on s e)))
-      (λ t. let ne = eqb-false (number n) 0 t in stopped n (omega arith) s ne (first-here n before ne)))
-      (λ i h s ne is. stopped i (omega arith) s ne (first-kept n (λ z. ne (ap (λ (r : Refusal). r .number) (sym is) ∙ z)) ∙ is))
-
-  -- Law: with number 0 no record is refused.
-  pub none-before : (count : ℕ) → firstRefused number count .number ≡ 0 → Sound number count
-  none-before count z = by-records count (λ is s. s) (λ i h s ne is. absurd (ne (ap (λ (r : Refusal). r .number) (sym is) ∙ z)))
-
-  -- Law: the record that a list is refused with is refused, with that number, and none before it is.
-  pub first-is : (count : ℕ) → (firstRefused number count .number ≡ 0 → ⊥)
-      → (firstRefused number count .place < count)
-      × (number (firstRefused number count .place) ≡ firstRefused number count .number)
-      × Sound number (firstRefused number count .place)
-  first-is count ne =
-      by-records count
-      (λ is s. absurd (ne (ap (λ (r : Refusal). r .number) is)))
-      (λ i h s no is. rw is (h, refl, s))
+  -- Law: a refusal is the last answer's, or its place is the index of the first record that is refused, with that number.
+  pub each-first : (count : ℕ) {n place : ℕ} → eachInOrder checks 0 count a ≡ refused n place
+      → (Sound checks count × (a ≡ refused n place)) ⊎ ((place < count) × Sound checks place × Refuses (checks place) n)
+  each-first count {n} {place} is =
+      ⊎-elim
+      (λ s. inl (s, sym (each-pass count s) ∙ is))
+      (λ r.
+      let same = sym (each-refuse count (r .0) (r .1) (r .2) (r .3) (r .4)) ∙ is in
+      let number : r .1 ≡ n = cc same in
+      let here : r .0 ≡ place = cc same in
+      inr (rw (sym number, sym here) (r .2, r .3, r .4)))
+      (each-cases count)

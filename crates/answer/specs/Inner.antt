@@ -1,7 +1,15 @@
 -- What only private contracts cite. No public promise rests on anything in this file.
 use mathlib.Core.Path.{_≡_}
+use mathlib.Core.Bool.{true}
+use mathlib.Core.List.{List, [], _∷_}
 use Prim.Native.Nat.{ℕ, _<_}
+use Rattle.answer.specs.Order.{Check}
 
--- None of the first n records is refused.
-pub record Sound (number : ℕ → ℕ) (n : ℕ) : Type 0 where
-  pub each : (i : ℕ) → i < n → number i ≡ 0
+-- Every test holds.
+abbrev pub Passes : List Check → Type 0
+Passes [] = Unit
+Passes ((number, holds) ∷ checks) = (holds ≡ true) × Passes checks
+
+-- Those of the first n records do.
+pub record Sound (checks : ℕ → List Check) (n : ℕ) : Type 0 where
+  pub each : (i : ℕ) → i < n → Passes (checks i)

@@ -8,7 +8,7 @@ use native.Mathlib.Omega.{arith}
 use lib.ListN.{drop}
 use borrow.Author.Tests.{eq-eqb}
 use Rattle.answer.specs.Answer.{next}
-use Rattle.answer.specs.Order.{first}
+use Rattle.answer.specs.Order.{inOrder}
 use Rattle.varint.proofs.Reading.{Bytes}
 use Rattle.frame.specs.declared.Action.{Action}
 use Rattle.parser.specs.Pair.{pair}
@@ -56,5 +56,5 @@ module _ (f : List ℕ) (at : ℕ) (x : Action) (next : ℕ) (small : Bytes f) (
       (λ two. writable-unset x (z .scope) two ∙ rw (sym (z .unset two .1)) refl)
 
   -- Law: of an action that was read a writer refuses with 15 a text that is not UTF-8, and nothing else.
-  pub action-refuses : first (actionChecks f x) ≡ cond (wellPair f (x .pair)) 0 15
+  pub action-refuses : inOrder (actionChecks f x) 0 ≡ cond (wellPair f (x .pair)) 0 15
   action-refuses = action-pair f x action-fits ∙ pair-refuses f (x .pair) (action-acts f at x next z .whole)

@@ -4,7 +4,7 @@ use mathlib.Core.Bool.{true, cond}
 use mathlib.Core.List.{List, [], _∷_, _++_, append-assoc}
 use Prim.Native.Nat.{ℕ}
 use lib.ListN.{drop}
-use Rattle.answer.specs.Order.{first}
+use Rattle.answer.specs.Order.{inOrder}
 use Rattle.answer.specs.Table.{joined}
 use Rattle.answer.proofs.Records.{joined-none, joined-on}
 use Rattle.varint.proofs.Reading.{Bytes}
@@ -22,8 +22,8 @@ abbrev pub PlainOf : List ℕ → Action → Type 0
 PlainOf f x = plainAction f x ≡ true
 
 -- what a writer refuses of an action
-abbrev pub Refuses : List ℕ → Action → Type 0
-Refuses f x = first (actionChecks f x) ≡ cond (wellAction f x) 0 15
+abbrev pub RefusesText : List ℕ → Action → Type 0
+RefusesText f x = inOrder (actionChecks f x) 0 ≡ cond (wellAction f x) 0 15
 
 module _ (f : List ℕ) (small : Bytes f) where
   -- Law: plain actions took exactly the bytes that they are written as.
@@ -47,6 +47,6 @@ module _ (f : List ℕ) (small : Bytes f) where
       (plain, actions-only (r .0) xs end (r .2) t (cancel (actionBytes f x) rest (drop (r .0) f) (one ∙ action-at-form f at x (r .0) small z plain)))
 
   -- Law: of each a writer refuses with 15 a text that is not UTF-8, and nothing else.
-  pub actions-refuse : (at : ℕ) (xs : List Action) (end : ℕ) → ActionRun f at xs end → Each (Refuses f) xs
+  pub actions-refuse : (at : ℕ) (xs : List Action) (end : ℕ) → ActionRun f at xs end → Each (RefusesText f) xs
   actions-refuse at [] end r = tt
   actions-refuse at (x ∷ xs) end r = (action-refuses f at x (r .0) small (stands f at x (r .0) (r .1)), actions-refuse (r .0) xs end (r .2))

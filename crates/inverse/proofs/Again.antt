@@ -9,11 +9,11 @@ use lib.Dec.{eqb}
 use lib.ListN.{length, take, drop, length-append, drop-of-length-le}
 use borrow.Author.Tests.{le-leb, ltb-true, eq-eqb, ne-eqb, eqb-true, eqb-false}
 use Rattle.answer.specs.Answer.{done, refused, written}
-use Rattle.answer.specs.Order.{first, firstRefused}
-use Rattle.answer.specs.declared.Refusal.{Refusal}
+use Rattle.answer.specs.Order.{inOrder}
+use Rattle.answer.specs.Inner.{Passes, Sound}
 use Rattle.answer.specs.Table.{records, joined}
 use Rattle.answer.proofs.Cases.{bool-cases, true-false}
-use Rattle.answer.proofs.Order.{none-refused, refused-here}
+use Rattle.answer.proofs.Order.{passes-zero, Refuses, lines-refuse, each-refuse}
 use Rattle.varint.proofs.Reading.{Bytes}
 use Rattle.types.specs.Check.{stringChecks}
 use Rattle.types.proofs.Checking.{string-ill, string-well}
@@ -30,11 +30,11 @@ use Rattle.parser.proofs.Accepted.{frame-cut}
 use Rattle.listing.proofs.Accepted.{Named, Held, whole-held}
 use Rattle.answer.proofs.Each.{each-at}
 use Rattle.listing.proofs.Tables.{table-messages}
-use Rattle.writer.specs.Pair.{pairRefusal}
-use Rattle.writer.specs.Message.{messageBytes, runStart, messageRefusal}
+use Rattle.writer.specs.Message.{messageBytes, runStart}
+use Rattle.writer.specs.Inner.{pairOrder, messageOrder}
 use Rattle.writer.specs.Frame.{headOf, limited, kvAllowed, messagesBytes, notifyAnswer}
-use Rattle.writer.proofs.Messages.{message-name, message-number}
-use Rattle.writer.proofs.Answers.{kv-haproxy-hello, kv-haproxy-disconnect, notify-message, notify-pair, notify-passed}
+use Rattle.writer.proofs.Messages.{message-name}
+use Rattle.writer.proofs.Answers.{kv-haproxy-hello, kv-haproxy-disconnect, notify-held, notify-named, notify-passed}
 use Rattle.inverse.proofs.Plain.{plainPair, wellPair, wellName, WellPairs, WellNames, PlainPairs}
 use Rattle.inverse.proofs.Payload.{kv-distinct, kv-stands, messages-stand}
 use Rattle.inverse.proofs.Listed.{messages-form, messages-only, Runs, runs-stand, no-stray}
@@ -141,20 +141,19 @@ module _ (limit : ℕ) (s oldMessages newMessages oldPairs newPairs : List ℕ) 
         let here : 0 + i ≡ i = omega arith in
         rw here at (each-at (Named (length f)) (messageAt newMessages) rows 0 (rw hold-messages (held .messages)) i l)
 
-    name-says : (i : ℕ) → i < rows → messageRefusal f total newMessages rows i ≡ first (stringChecks f (messageAt newMessages i .start) (messageAt newMessages i .len))
+    name-says : (i : ℕ) → i < rows → inOrder (messageOrder f total newMessages rows i) 0 ≡ inOrder (stringChecks f (messageAt newMessages i .start) (messageAt newMessages i .len)) 0
     name-says i l =
         let a = messageAt newMessages i in
         let r = runs i l in
-        message-number f total newMessages rows i
-        ∙ message-name f total (runStart newMessages i) (eqb (i + 1) rows) a (eq-eqb (a .first) (runStart newMessages i) (r .starts))
+        message-name f total (runStart newMessages i) (eqb (i + 1) rows) a (eq-eqb (a .first) (runStart newMessages i) (r .starts))
         (λ t. eq-eqb total (a .first + a .count) (r .ends (eqb-true (i + 1) rows t)))
         (r .few)
 
-    name-well : (i : ℕ) → i < rows → wellName f (messageAt newMessages i) ≡ true → messageRefusal f total newMessages rows i ≡ 0
-    name-well i l w = name-says i l ∙ string-well f _ _ (le-leb _ (length f) (named i l)) w
+    name-well : (i : ℕ) → i < rows → wellName f (messageAt newMessages i) ≡ true → Passes (messageOrder f total newMessages rows i)
+    name-well i l w = passes-zero _ tt (name-says i l ∙ string-well f _ _ (le-leb _ (length f) (named i l)) w)
 
-    name-ill : (i : ℕ) → i < rows → wellName f (messageAt newMessages i) ≡ false → messageRefusal f total newMessages rows i ≡ 15
-    name-ill i l w = name-says i l ∙ string-ill f _ _ (le-leb _ (length f) (named i l)) w
+    name-ill : (i : ℕ) → i < rows → wellName f (messageAt newMessages i) ≡ false → Refuses (messageOrder f total newMessages rows i) 15
+    name-ill i l w = lines-refuse _ 15 (sym (name-says i l ∙ string-ill f _ _ (le-leb _ (length f) (named i l)) w)) fifteen
 
     abbrev bytes : List ℕ
     bytes = messagesBytes f newMessages rows newPairs
@@ -175,13 +174,15 @@ module _ (limit : ℕ) (s oldMessages newMessages oldPairs newPairs : List ℕ) 
         (messages-only f small newPairs (x .start) 0 (c .messages) (c .pairs) used lie (table .0) []
         (append-nil all ∙ sym notify-bytes ∙ payload-same h bytes (drop (x .start) f) (is ∙ x .form)))
 
-    no-name : WellNames f newMessages rows → firstRefused (messageRefusal f total newMessages rows) rows .number ≡ 0
-    no-name w = ap (λ (r : Refusal). r .number) (none-refused (messageRefusal f total newMessages rows) rows (record { each = λ i l. name-well i l (w i l) }))
+    no-name : WellNames f newMessages rows → Sound (messageOrder f total newMessages rows) rows
+    no-name w = record { each = λ i l. name-well i l (w i l) }
+
+    well : (i : ℕ) → i < total → wellPair f (pairAt newPairs i) ≡ true → Passes (pairOrder f newPairs i)
+    well = pair-well f newPairs (c .pairs) (table .0) (held .pairs)
 
     notify-taken : WellNames f newMessages rows → WellPairs f newPairs total → notifyAnswer h limit f newMessages rows newPairs total ≡ limited limit h bytes
     notify-taken ws w =
-        notify-passed h limit f newMessages rows newPairs total refl messages-room (table .1) no-pair (no-name ws)
-        (ap (λ (r : Refusal). r .number) (none-refused (pairRefusal f newPairs) total (record { each = λ i l. pair-well f newPairs (c .pairs) (table .0) (held .pairs) i l (w i l) })))
+        notify-passed h limit f newMessages rows newPairs total refl messages-room (table .1) no-pair (no-name ws) (record { each = λ i l. well i l (w i l) })
 
     -- Law: the writer writes exactly the frame's bytes where all texts are UTF-8 and all values plain.
     pub notify-inverse : WellNames f newMessages rows → WellPairs f newPairs total → PlainPairs f newPairs total → notifyAnswer h limit f newMessages rows newPairs total ≡ written f
@@ -192,17 +193,16 @@ module _ (limit : ℕ) (s oldMessages newMessages oldPairs newPairs : List ℕ) 
     pub notify-refuses-name : (i : ℕ) → i < rows → wellName f (messageAt newMessages i) ≡ false → WellNames f newMessages i
         → notifyAnswer h limit f newMessages rows newPairs total ≡ refused 15 i
     notify-refuses-name i l ill w =
-        notify-message h limit f newMessages rows newPairs total refl messages-room (table .1) no-pair (record { number = 15; place = i })
-        (sym (refused-here (messageRefusal f total newMessages rows) rows i 15 l (record { each = λ k b. name-well k (omega arith) (w k b) }) (name-ill i l ill) fifteen))
-        fifteen
+        notify-held h limit f newMessages rows newPairs total refl messages-room (table .1) no-pair
+        ∙ each-refuse (messageOrder f total newMessages rows) _ rows i 15 l (record { each = λ k b. name-well k (omega arith) (w k b) }) (name-ill i l ill)
 
     -- Law: where all names are UTF-8 and a pair has a text that is not, and none before it has, the writer refuses with 15 and the pair's index.
     pub notify-refuses-pair : WellNames f newMessages rows → (i : ℕ) → i < total → wellPair f (pairAt newPairs i) ≡ false → WellPairs f newPairs i
         → notifyAnswer h limit f newMessages rows newPairs total ≡ refused 15 i
     notify-refuses-pair ws i l ill w =
-        notify-pair h limit f newMessages rows newPairs total refl messages-room (table .1) no-pair (no-name ws) (record { number = 15; place = i })
-        (sym (refused-here (pairRefusal f newPairs) total i 15 l (record { each = λ k b. pair-well f newPairs (c .pairs) (table .0) (held .pairs) k (omega arith) (w k b) }) (pair-ill f newPairs (c .pairs) (table .0) (held .pairs) i l ill) fifteen))
-        fifteen
+        notify-named h limit f newMessages rows newPairs total refl messages-room (table .1) no-pair (no-name ws)
+        ∙ each-refuse (pairOrder f newPairs) _ total i 15 l (record { each = λ k b. well k (omega arith) (w k b) })
+        (lines-refuse _ 15 (pair-ill f newPairs (c .pairs) (table .0) (held .pairs) i l ill) fifteen)
 
     -- Law: where all texts are UTF-8 and a value is not plain, the writer writes another frame, if that is within the limit.
     pub notify-differs : WellNames f newMessages rows → WellPairs f newPairs total → (i : ℕ) → i < total → plainPair f (pairAt newPairs i) ≡ false

@@ -23,7 +23,7 @@ use Rattle.agent.specs.declared.AgentRead.the-variants as a
 use Rattle.agent.specs.Frame.{Sent}
 use Rattle.agent.specs.Promise.{Counts, agentSaid, readInto, ReadAgentFrame}
 use Rattle.agent.proofs.Entries.{countsOf, said-done}
-use Rattle.writer.specs.Pair.{kvRefusal}
+use Rattle.writer.specs.Pair.{kvChecks}
 use Rattle.writer.specs.Frame.{headOf, limited, kvAllowed, pairsBytes, kvAnswer, actionsAnswer}
 use Rattle.writer.specs.Promise.{WriteKv, WriteActions}
 use Rattle.writer.proofs.Answers.{kv-list, list-metadata}
@@ -124,7 +124,7 @@ module _ (limit : ℕ) (s : List ℕ) (small : Bytes s) (r : AgentRead) (oldPair
     agent-kv-ids ids =
         caller-refused writes 14 0
         (kv-list head limit f newPairs total
-        ∙ list-metadata (kvAllowed head) pairWidth newPairs total (kvRefusal f newPairs) (limited limit head (pairsBytes f newPairs total)) (may ∙ not-zero))
+        ∙ list-metadata (kvAllowed head) pairWidth newPairs total (kvChecks f newPairs) (limited limit head (pairsBytes f newPairs total)) (may ∙ not-zero))
       where
         not-zero : eqb (m .stream) 0 && eqb (m .frame) 0 ≡ false
         not-zero =

@@ -6,7 +6,7 @@ use Prim.Native.Nat.{ℕ}
 use lib.Dec.{eqb}
 use lib.ListN.{length}
 use Rattle.answer.specs.Answer.{Answer, refused, next, written}
-use Rattle.answer.specs.Order.{inOrder, firstRefused}
+use Rattle.answer.specs.Order.{inOrder, eachInOrder}
 use Rattle.answer.specs.Table.{records, joined, some}
 use Rattle.varint.specs.Number.{more, number, groups, numberBytes}
 use Rattle.utf8.specs.Text.{rows, follow, inRange, matching, rowFor, step, bySteps, isUtf8, lossy, sameBytes, sameText}
@@ -19,9 +19,9 @@ use Rattle.parser.specs.Payload.{onePair, oneMessage, toEnd, payload}
 use Rattle.parser.specs.Frame.{answerOf, lastId, ids, metadata, whole, front as frontOf, frameRead}
 use Rattle.agent.specs.Action.{variable, action, oneAction, toEnd as actionsToEnd, actions}
 use Rattle.agent.specs.Frame.{agentRead}
-use Rattle.writer.specs.Pair.{pairBytes, pairRefusal, newKey, kvRefusal}
-use Rattle.writer.specs.Action.{actionBytes, actionWritable, actionRefusal}
-use Rattle.writer.specs.Message.{nameBytes, messageBytes, messageRefusal}
+use Rattle.writer.specs.Pair.{pairBytes, newKey}
+use Rattle.writer.specs.Action.{actionBytes, actionWritable}
+use Rattle.writer.specs.Message.{nameBytes, messageBytes}
 use Rattle.writer.specs.Frame.{headOf, limited, kvAllowed, kvAnswer, actionsAnswer, notifyAnswer}
 
 -- What comes of a frame that is read under a limit of 64, in tables for four messages and four pairs, and written again.
@@ -81,8 +81,8 @@ pub examples : (again list ≡ written list) × (again messages ≡ written mess
     × (again (one 10 (0x31 ∷ [])) ≡ written (one 10 (0x11 ∷ [])))
     × (again (one 15 (0x03 ∷ 0xF7 ∷ 0xF1 ∷ 0xFE ∷ 0xFE ∷ 0x7E ∷ [])) ≡ written (one 11 (0x03 ∷ 0x07 ∷ [])))
 unfolding more number groups numberBytes rows follow inRange matching rowFor step bySteps isUtf8 lossy sameBytes sameText string typed shape signExtended inOrder some
-    firstRefused records joined stringBytes valueBytes fourBytes fourNumber headBytes frameBytes messageAt pairAt pair onePair oneMessage toEnd payload lastId ids
-    metadata whole frontOf frameRead pairBytes pairRefusal newKey kvRefusal nameBytes messageBytes messageRefusal limited kvAllowed kvAnswer notifyAnswer
+    eachInOrder records joined stringBytes valueBytes fourBytes fourNumber headBytes frameBytes messageAt pairAt pair onePair oneMessage toEnd payload lastId ids
+    metadata whole frontOf frameRead pairBytes newKey nameBytes messageBytes limited kvAllowed kvAnswer notifyAnswer
 examples = (refl, refl, refl, refl, refl)
 
 -- The ACK comes out as it went in, and so does the AGENT-DISCONNECT with ids 0; with another it is 14. An unset's name that is FF is 15, of action 0, and of a boolean with the
@@ -91,6 +91,6 @@ pub sent-examples : (sentAgain two ≡ written two) × (sentAgain (leave 0) ≡ 
     × (sentAgain (ack 12 (0x02 ∷ 0x02 ∷ 0x00 ∷ 0x01 ∷ 0xFF ∷ [])) ≡ refused 15 0)
     × (sentAgain (ack 13 (0x01 ∷ 0x03 ∷ 0x00 ∷ 0x01 ∷ 0x61 ∷ 0x31 ∷ [])) ≡ written (ack 13 (0x01 ∷ 0x03 ∷ 0x00 ∷ 0x01 ∷ 0x61 ∷ 0x11 ∷ [])))
 unfolding more number groups numberBytes rows follow inRange matching rowFor step bySteps isUtf8 lossy sameBytes sameText string typed shape signExtended inOrder some
-    firstRefused records joined stringBytes valueBytes fourBytes fourNumber headBytes frameBytes pairAt actionAt pair onePair toEnd payload variable action oneAction
-    actionsToEnd actions lastId ids metadata whole frontOf pairBytes pairRefusal newKey kvRefusal actionBytes actionWritable actionRefusal limited kvAllowed kvAnswer actionsAnswer
+    eachInOrder records joined stringBytes valueBytes fourBytes fourNumber headBytes frameBytes pairAt actionAt pair onePair toEnd payload variable action oneAction
+    actionsToEnd actions lastId ids metadata whole frontOf pairBytes newKey actionBytes actionWritable limited kvAllowed kvAnswer actionsAnswer
 sent-examples = (refl, refl, refl, refl, refl)

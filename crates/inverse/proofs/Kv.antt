@@ -8,11 +8,11 @@ use native.Mathlib.Omega.{arith}
 use lib.ListN.{length, drop, length-append, drop-of-length-le}
 use borrow.Author.Tests.{le-leb}
 use Rattle.answer.specs.Answer.{refused, written}
-use Rattle.answer.specs.Order.{inOrder}
-use Rattle.answer.specs.declared.Refusal.{Refusal}
+use Rattle.answer.specs.Order.{inOrder, eachInOrder}
+use Rattle.answer.specs.Inner.{Passes}
 use Rattle.answer.specs.Table.{records, joined, some}
 use Rattle.answer.proofs.Cases.{true-false}
-use Rattle.answer.proofs.Order.{none-refused, refused-here}
+use Rattle.answer.proofs.Order.{passes-zero, each-pass, each-refuse}
 use Rattle.answer.proofs.Records.{records-none, records-snoc}
 use Rattle.varint.proofs.Reading.{Bytes}
 use Rattle.frame.specs.declared.Head.{Head}
@@ -26,10 +26,11 @@ use Rattle.parser.proofs.Filling.{joined-width}
 use Rattle.answer.proofs.Each.{Each, each-record, each-at}
 use Rattle.listing.proofs.Accepted.{Whole, pair-there}
 use Rattle.listing.proofs.Tables.{table-pairs}
-use Rattle.writer.specs.Pair.{pairBytes, pairRefusal, kvRefusal}
+use Rattle.writer.specs.Pair.{pairBytes, kvChecks}
+use Rattle.writer.specs.Inner.{pairOrder}
 use Rattle.writer.specs.Frame.{limited, kvAllowed, pairsBytes, kvAnswer}
-use Rattle.writer.proofs.Pairs.{pair-number, kv-own, kv-new}
-use Rattle.writer.proofs.Answers.{kv-list, list-refused, list-passed}
+use Rattle.writer.proofs.Pairs.{kv-own, kv-new}
+use Rattle.writer.proofs.Answers.{kv-list, list-held}
 use Rattle.inverse.proofs.Plain.{plainPair, wellPair, WellPairs, PlainPairs}
 use Rattle.inverse.proofs.Pair.{Plain, run-form, run-only, pair-refuses}
 use Rattle.inverse.proofs.Payload.{Distinct}
@@ -79,16 +80,16 @@ module _ (f pairs : List ℕ) (ps : List Pair) (hold : records (pairAt pairs) 0 
   plain-each g i l = let here : 0 + i ≡ i = omega arith in rw here at (each-at (Plain f) (pairAt pairs) many 0 (rw hold g) i l)
 
   -- a pair's own checks are its texts'
-  pair-says : (i : ℕ) → i < many → pairRefusal f pairs i ≡ cond (wellPair f (pairAt pairs i)) 0 15
+  pair-says : (i : ℕ) → i < many → inOrder (pairOrder f pairs i) 0 ≡ cond (wellPair f (pairAt pairs i)) 0 15
   pair-says i l =
       let here : 0 + i ≡ i = omega arith in
-      pair-number f pairs i ∙ pair-refuses f (pairAt pairs i) (rw here at (each-at (Whole (length f)) (pairAt pairs) many 0 (rw hold whole) i l))
+      pair-refuses f (pairAt pairs i) (rw here at (each-at (Whole (length f)) (pairAt pairs) many 0 (rw hold whole) i l))
 
-  pub pair-well : (i : ℕ) → i < many → wellPair f (pairAt pairs i) ≡ true → pairRefusal f pairs i ≡ 0
-  pair-well i l w = pair-says i l ∙ rw w
+  pub pair-well : (i : ℕ) → i < many → wellPair f (pairAt pairs i) ≡ true → Passes (pairOrder f pairs i)
+  pair-well i l w = passes-zero _ tt (pair-says i l ∙ rw w)
 
-  pub pair-ill : (i : ℕ) → i < many → wellPair f (pairAt pairs i) ≡ false → pairRefusal f pairs i ≡ 15
-  pair-ill i l w = pair-says i l ∙ rw w
+  pub pair-ill : (i : ℕ) → i < many → wellPair f (pairAt pairs i) ≡ false → 15 ≡ inOrder (pairOrder f pairs i) 0
+  pair-ill i l w = sym (pair-says i l ∙ rw w)
 
 -- pairs that stand one behind the other lie in the bytes
 run-whole : (f : List ℕ) (at : ℕ) (ps : List Pair) (end : ℕ) → Run f at ps end → Each (Whole (length f)) ps
@@ -131,7 +132,7 @@ module _ (limit : ℕ) (f : List ℕ) (small : Bytes f) (h : Head) (pairs : List
       let none : Distinct f (records (pairAt pairs) 0 0) (records (pairAt pairs) 0 total) = rw (records-none (pairAt pairs) 0, x .hold) (x .distinct) in
       rw here at (distinct-at f (pairAt pairs) total 0 none i l)
 
-  kv-well : (i : ℕ) → i < total → wellPair f (pairAt pairs i) ≡ true → kvRefusal f pairs i ≡ 0
+  kv-well : (i : ℕ) → i < total → wellPair f (pairAt pairs i) ≡ true → Passes (kvChecks f pairs i)
   kv-well i l w = kv-new f pairs i (pair-well f pairs ps (x .hold) whole i l w) (fresh i l)
 
   kv-bytes : pairsBytes f pairs total ≡ joined (pairBytes f) ps
@@ -148,11 +149,11 @@ module _ (limit : ℕ) (f : List ℕ) (small : Bytes f) (h : Head) (pairs : List
       (run-only f small (x .start) ps (length f) (x .run) []
       (append-nil (joined (pairBytes f) ps) ∙ sym kv-bytes ∙ payload-same h (pairsBytes f pairs total) (drop (x .start) f) (is ∙ x .form)) .0)
 
+  kv-held : kvAnswer h limit f pairs total ≡ eachInOrder (kvChecks f pairs) 0 total (limited limit h (pairsBytes f pairs total))
+  kv-held = kv-list h limit f pairs total ∙ list-held (kvAllowed h) pairWidth pairs total (kvChecks f pairs) (limited limit h (pairsBytes f pairs total)) allowed (x .room)
+
   kv-taken : WellPairs f pairs total → kvAnswer h limit f pairs total ≡ limited limit h (pairsBytes f pairs total)
-  kv-taken w =
-      kv-list h limit f pairs total
-      ∙ list-passed (kvAllowed h) pairWidth pairs total (kvRefusal f pairs) (limited limit h (pairsBytes f pairs total)) allowed (x .room)
-      (ap (λ (r : Refusal). r .number) (none-refused (kvRefusal f pairs) total (record { each = λ i l. kv-well i l (w i l) })))
+  kv-taken w = kv-held ∙ each-pass (kvChecks f pairs) (limited limit h (pairsBytes f pairs total)) total (record { each = λ i l. kv-well i l (w i l) })
 
   -- Law: the writer writes exactly the frame's bytes where all texts are UTF-8 and all values plain.
   pub list-written : WellPairs f pairs total → PlainPairs f pairs total → kvAnswer h limit f pairs total ≡ written f
@@ -163,11 +164,9 @@ module _ (limit : ℕ) (f : List ℕ) (small : Bytes f) (h : Head) (pairs : List
   -- Law: where a pair has a text that is not UTF-8, and none before it has, the writer refuses with 15 and the pair's index.
   pub list-ill : (i : ℕ) → i < total → wellPair f (pairAt pairs i) ≡ false → WellPairs f pairs i → kvAnswer h limit f pairs total ≡ refused 15 i
   list-ill i l ill w =
-      kv-list h limit f pairs total
-      ∙ list-refused (kvAllowed h) pairWidth pairs total (kvRefusal f pairs) (limited limit h (pairsBytes f pairs total)) allowed (x .room)
-      (record { number = 15; place = i })
-      (sym (refused-here (kvRefusal f pairs) total i 15 l (record { each = λ k b. kv-well k (omega arith) (w k b) }) (kv-own f pairs i 15 (pair-ill f pairs ps (x .hold) whole i l ill) fifteen) fifteen))
-      fifteen
+      kv-held
+      ∙ each-refuse (kvChecks f pairs) (limited limit h (pairsBytes f pairs total)) total i 15 l (record { each = λ k b. kv-well k (omega arith) (w k b) })
+      (kv-own f pairs i 15 (pair-ill f pairs ps (x .hold) whole i l ill) fifteen)
 
   -- Law: where all texts are UTF-8 and a value is not plain, the writer writes another frame, if that is within the limit.
   pub list-differs : WellPairs f pairs total → (i : ℕ) → i < total → plainPair f (pairAt pairs i) ≡ false

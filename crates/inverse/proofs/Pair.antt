@@ -11,7 +11,7 @@ use lib.ListN.{length, drop, getD}
 use lib.Seq.{drop-cons, drop-drop, drop-at}
 use borrow.Author.Tests.{le-leb}
 use Rattle.answer.specs.Answer.{Answer, done, refused, behind}
-use Rattle.answer.specs.Order.{inOrder, first}
+use Rattle.answer.specs.Order.{inOrder}
 use Rattle.answer.specs.Table.{joined}
 use Rattle.answer.proofs.Cases.{bool-cases, answer-cases, not-both}
 use Rattle.answer.proofs.Records.{joined-none, joined-on}
@@ -216,7 +216,7 @@ name-at-form f at m place small e byte count =
 -- ---- what a writer refuses of a pair
 
 -- Law: of a pair whose numbers lie in their fields and whose parts lie in the buffer, a writer refuses with 15 a text that is not UTF-8, and nothing else.
-pub pair-refuses : (f : List ℕ) (p : Pair) → Whole (length f) p → first (pairChecks f p) ≡ cond (wellPair f p) 0 15
+pub pair-refuses : (f : List ℕ) (p : Pair) → Whole (length f) p → inOrder (pairChecks f p) 0 ≡ cond (wellPair f p) 0 15
 unfolding inOrder
 pair-refuses f p h =
     bool-cases (isUtf8 (keyOf f p))

@@ -9,10 +9,11 @@ use lib.Dec.{eqb}
 use lib.ListN.{length, take, drop, length-append, drop-of-length-le}
 use borrow.Author.Tests.{eq-eqb, ne-eqb, eqb-true, eqb-false, leb-true}
 use Rattle.answer.specs.Answer.{done, refused, written}
-use Rattle.answer.specs.declared.Refusal.{Refusal}
+use Rattle.answer.specs.Order.{inOrder, eachInOrder}
+use Rattle.answer.specs.Inner.{Passes}
 use Rattle.answer.specs.Table.{records, joined}
 use Rattle.answer.proofs.Cases.{bool-cases, true-false}
-use Rattle.answer.proofs.Order.{none-refused, refused-here}
+use Rattle.answer.proofs.Order.{passes-zero, lines-refuse, each-pass, each-refuse}
 use Rattle.varint.proofs.Reading.{Bytes}
 use Rattle.frame.specs.declared.Head.{Head}
 use Rattle.frame.specs.Head.{frameBytes}
@@ -29,12 +30,12 @@ use Rattle.agent.specs.Frame.{Sent, agents}
 use Rattle.agent.specs.Promise.{sentRead, readInto, Fills}
 use Rattle.answer.proofs.Each.{Each, each-record, each-at}
 use Rattle.listing.proofs.Sent.{sent-actions-held}
-use Rattle.writer.specs.Action.{actionBytes, actionRefusal}
+use Rattle.writer.specs.Action.{actionBytes}
+use Rattle.writer.specs.Inner.{actionOrder}
 use Rattle.writer.specs.Frame.{headOf, limited, finAlone, kvAllowed, actionsBytes, actionsAnswer}
-use Rattle.writer.proofs.Actions.{action-number}
-use Rattle.writer.proofs.Answers.{kv-agent-hello, kv-agent-disconnect, actions-list, list-refused, list-passed}
+use Rattle.writer.proofs.Answers.{kv-agent-hello, kv-agent-disconnect, actions-list, list-held}
 use Rattle.inverse.proofs.Plain.{plainAction, wellAction, WellActions, PlainActions}
-use Rattle.inverse.proofs.Actions.{PlainOf, Refuses, actions-form, actions-only, actions-refuse}
+use Rattle.inverse.proofs.Actions.{PlainOf, RefusesText, actions-form, actions-only, actions-refuse}
 use Rattle.agent.proofs.Standing.{ActionRun, actions-stand, of-actions, of-pairs, agent-cut}
 use Rattle.inverse.proofs.Head.{kinds-above, payload-same, Accepted, entry-accepted}
 use Rattle.inverse.proofs.Payload.{Distinct, kv-distinct, kv-stands}
@@ -134,17 +135,13 @@ module _ (limit : ℕ) (s oldPairs newPairs oldActions newActions : List ℕ) (m
     plain-each : Each (PlainOf f) (c .actions) → PlainActions f newActions rows
     plain-each g i l = let here : 0 + i ≡ i = omega arith in rw here at (each-at (PlainOf f) (actionAt newActions) rows 0 (rw hold-actions g) i l)
 
-    action-says : (i : ℕ) → i < rows → actionRefusal f newActions i ≡ cond (wellAction f (actionAt newActions i)) 0 15
+    action-says : (i : ℕ) → i < rows → inOrder (actionOrder f newActions i) 0 ≡ cond (wellAction f (actionAt newActions i)) 0 15
     action-says i l =
         let here : 0 + i ≡ i = omega arith in
-        action-number f newActions i
-        ∙ rw here at (each-at (Refuses f) (actionAt newActions) rows 0 (rw hold-actions (actions-refuse f small (x .start) (c .actions) (length f) stand)) i l)
+        rw here at (each-at (RefusesText f) (actionAt newActions) rows 0 (rw hold-actions (actions-refuse f small (x .start) (c .actions) (length f) stand)) i l)
 
-    action-well : (i : ℕ) → i < rows → wellAction f (actionAt newActions i) ≡ true → actionRefusal f newActions i ≡ 0
-    action-well i l w = action-says i l ∙ rw w
-
-    action-ill : (i : ℕ) → i < rows → wellAction f (actionAt newActions i) ≡ false → actionRefusal f newActions i ≡ 15
-    action-ill i l w = action-says i l ∙ rw w
+    action-well : (i : ℕ) → i < rows → wellAction f (actionAt newActions i) ≡ true → Passes (actionOrder f newActions i)
+    action-well i l w = passes-zero _ tt (action-says i l ∙ rw w)
 
     abbrev bytes : List ℕ
     bytes = actionsBytes f newActions rows
@@ -163,11 +160,11 @@ module _ (limit : ℕ) (s oldPairs newPairs oldActions newActions : List ℕ) (m
         plain-each
         (actions-only f small (x .start) (c .actions) (length f) stand [] (append-nil all ∙ sym ack-bytes ∙ payload-same h bytes (drop (x .start) f) (is ∙ x .form)))
 
+    ack-held : actionsAnswer h limit f newActions rows ≡ eachInOrder (actionOrder f newActions) 0 rows (limited limit h bytes)
+    ack-held = actions-list h limit f newActions rows ∙ list-held (finAlone h) actionWidth newActions rows (actionOrder f newActions) (limited limit h bytes) refl actions-room
+
     ack-taken : WellActions f newActions rows → actionsAnswer h limit f newActions rows ≡ limited limit h bytes
-    ack-taken w =
-        actions-list h limit f newActions rows
-        ∙ list-passed (finAlone h) actionWidth newActions rows (actionRefusal f newActions) (limited limit h bytes) refl actions-room
-        (ap (λ (r : Refusal). r .number) (none-refused (actionRefusal f newActions) rows (record { each = λ i l. action-well i l (w i l) })))
+    ack-taken w = ack-held ∙ each-pass (actionOrder f newActions) (limited limit h bytes) rows (record { each = λ i l. action-well i l (w i l) })
 
     -- Law: the writer writes exactly the frame's bytes where all texts are UTF-8 and all values plain.
     pub ack-inverse : WellActions f newActions rows → PlainActions f newActions rows → actionsAnswer h limit f newActions rows ≡ written f
@@ -176,11 +173,9 @@ module _ (limit : ℕ) (s oldPairs newPairs oldActions newActions : List ℕ) (m
     -- Law: where an action has a text that is not UTF-8, and none before it has, the writer refuses with 15 and the action's index.
     pub ack-refuses : (i : ℕ) → i < rows → wellAction f (actionAt newActions i) ≡ false → WellActions f newActions i → actionsAnswer h limit f newActions rows ≡ refused 15 i
     ack-refuses i l ill w =
-        actions-list h limit f newActions rows
-        ∙ list-refused (finAlone h) actionWidth newActions rows (actionRefusal f newActions) (limited limit h bytes) refl actions-room
-        (record { number = 15; place = i })
-        (sym (refused-here (actionRefusal f newActions) rows i 15 l (record { each = λ k b. action-well k (omega arith) (w k b) }) (action-ill i l ill) fifteen))
-        fifteen
+        ack-held
+        ∙ each-refuse (actionOrder f newActions) (limited limit h bytes) rows i 15 l (record { each = λ k b. action-well k (omega arith) (w k b) })
+        (lines-refuse _ 15 (sym (action-says i l ∙ rw ill)) fifteen)
 
     -- Law: where all texts are UTF-8 and a value is not plain, the writer writes another frame, if that is within the limit.
     pub ack-differs : WellActions f newActions rows → (i : ℕ) → i < rows → plainAction f (actionAt newActions i) ≡ false

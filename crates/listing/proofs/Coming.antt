@@ -1,8 +1,8 @@
--- Laws about the next line: what a step says of a line's answer, and where a record's own checks begin.
+-- Laws about the next line: what a step says of a line's answer, and which line comes.
 use mathlib.Core.Path.{_≡_, refl, sym, ap, _∙_}
-use mathlib.Core.Bool.{Bool, true, false}
+use mathlib.Core.Bool.{true, false}
 use mathlib.Core.Logic.{⊎-elim}
-use mathlib.Core.List.{List, _∷_}
+use mathlib.Core.List.{List}
 use Prim.Native.Nat.{ℕ, _+_, _-_, _≤_, _<_, zero-le}
 use native.Mathlib.Omega.{arith}
 use lib.Dec.{ltb}
@@ -12,9 +12,7 @@ use Rattle.answer.specs.declared.Written.{Written}
 use Rattle.answer.specs.declared.Written.the-variants as w
 use Rattle.answer.specs.Answer.{Answer, done, refused, tells, within}
 use Rattle.answer.specs.Writes.{said, counted, Writes}
-use Rattle.answer.specs.Order.{Check, unless, after}
 use Rattle.answer.proofs.Cases.{lt-or-le, bool-cases, both-true}
-use Rattle.answer.proofs.Order.{first-fails, first-holds}
 use Rattle.answer.proofs.Same.{refusal-same}
 use Rattle.frame.specs.Records.{messageAt}
 use Rattle.listing.specs.declared.Place.{Place}
@@ -23,7 +21,6 @@ use Rattle.listing.specs.declared.Step.the-variants as s
 use Rattle.listing.specs.Order.{pairNext, behindPair, behindMessage, pairAnswer, messageAnswer, Coming, line, none, coming}
 use Rattle.listing.specs.Promise.{stepOf, comingSaid, Comes}
 use Rattle.listing.specs.Inner.{stepFrom}
-use Rattle.listing.proofs.Pieces.{after-refused}
 
 -- ---- a step
 
@@ -42,15 +39,6 @@ comes-line {a} {answer} {r} {old} p q e = record { says = e ∙ step-same answer
 pub comes-refused : {a : Answer (List ℕ)} (n : ℕ) (p : Place) (old : List ℕ) → a ≡ refused n 0
     → Comes (line a p) (s.Refused (record { number = n; place = 0 })) old old
 comes-refused n p old e = rw e (record { says = refl; holds = refl })
-
--- ---- a record of a table
-
--- a test that holds is passed over
-pub after-holds : {A : Type 0} (n : ℕ) (test : Bool) (checks : List Check) (a : Answer A) → test ≡ true → after ((n, test) ∷ checks) a ≡ after checks a
-after-holds n test checks a e = ap (λ (k : ℕ). unless (record { number = k; place = 0 }) a) (first-holds n test checks e)
-
-pub after-fails : {A : Type 0} (n : ℕ) (test : Bool) (checks : List Check) (a : Answer A) → test ≡ false → (n ≡ 0 → ⊥) → after ((n, test) ∷ checks) a ≡ refused n 0
-after-fails n test checks a e ne = after-refused ((n, test) ∷ checks) a n (sym (first-fails n test checks e)) ne
 
 -- ---- which comes
 

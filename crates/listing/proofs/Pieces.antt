@@ -1,26 +1,23 @@
 -- Laws about lines: a value's text by its kind, lines in the parts in which they are written, and the checks before them.
 use mathlib.Core.Path.{_≡_, sym, ap, _∙_}
-use mathlib.Core.Bool.{true, false, _&&_, _||_}
+use mathlib.Core.Bool.{true, false}
 use mathlib.Core.List.{List, [], _∷_, _++_, append-assoc}
 use Prim.Native.Nat.{ℕ, _+_, _≤_, _<_}
 use native.Mathlib.Omega.{arith}
-use lib.Dec.{leb, eqb}
 use lib.ListN.{length, length-append}
 use borrow.Author.Tests.{leb-true, eq-eqb, ne-eqb}
-use Rattle.answer.specs.Answer.{Answer, refused}
-use Rattle.answer.specs.Order.{Check, first, after}
-use Rattle.answer.proofs.Order.{first-none, first-fails, first-holds, first-passed, unless-refused, unless-none}
+use Rattle.answer.specs.Order.{inOrder}
+use Rattle.answer.proofs.Order.{order-fails, order-holds}
 use Rattle.types.specs.Value.{Shape, nothing, flag, integer, address, text, signed32, whole64, shape, value}
 use Rattle.types.specs.Form.{part, inside, writableRecord, ranged}
 use Rattle.types.specs.Promise.{recordOf}
 use Rattle.types.proofs.Shapes.{shape-is, row, shape-cases, points-no, points-yes, writable-kind}
-use Rattle.frame.specs.declared.Message.{Message}
 use Rattle.frame.specs.declared.Pair.{Pair}
 use Rattle.frame.specs.declared.Action.{Action}
 use Rattle.frame.specs.Records.{keyOf}
 use Rattle.listing.specs.Digits.{letters, dash, decimal, signed, shown}
 use Rattle.listing.specs.Lines.{filled, messageForm, pairForm, setForm, unsetForm, dataText, valueText, actionLine}
-use Rattle.listing.specs.Check.{messageChecks, pairChecks, isAction, actionChecks}
+use Rattle.listing.specs.Check.{pairLineChecks, isAction, actionLineChecks}
 use Rattle.listing.specs.Inner.{kindForm}
 
 -- ---- a value's text
@@ -119,21 +116,6 @@ pair-length i t k v = ap length (pair-parts i t k v) ∙ valued-length (filled p
 
 -- ---- checks
 
-module _ {A : Type 0} (checks : List Check) (a : Answer A) where
-  pub after-refused : (n : ℕ) → n ≡ first checks → (n ≡ 0 → ⊥) → after checks a ≡ refused n 0
-  after-refused n e ne =
-      unless-refused (record { number = first checks; place = 0 }) a (λ z. ne (e ∙ z)) ∙ ap (λ (k : ℕ). refused k 0) (sym e)
-
-  pub after-none : first checks ≡ 0 → after checks a ≡ a
-  after-none e = unless-none (record { number = first checks; place = 0 }) a e
-
-module _ (f : List ℕ) (m : Message) where
-  pub message-outside : inside f (m .start) (m .len) ≡ false → first (messageChecks f m) ≡ 16
-  message-outside h = first-fails 16 _ [] h
-
-  pub message-inside : inside f (m .start) (m .len) ≡ true → first (messageChecks f m) ≡ 0
-  message-inside h = first-holds 16 _ [] h ∙ first-none
-
 module _ (f : List ℕ) (p : Pair) where
   -- a kind that points is in range where its bytes lie inside, and another always
   pub pair-plain : p .value .kind < 6 → ranged f (recordOf (p .value)) ≡ true
@@ -144,33 +126,22 @@ module _ (f : List ℕ) (p : Pair) where
       let v = p .value in
       rw (points-yes (v .kind) h (omega (arith, writable-kind (v .kind) (v .a) (v .b) (v .flags) w)))
 
-  pub pair-fields : writableRecord (recordOf (p .value)) ≡ false → first (pairChecks f p) ≡ 14
-  pair-fields w = first-fails 14 _ _ w
+  pub pair-fields : writableRecord (recordOf (p .value)) ≡ false → inOrder (pairLineChecks f p) 0 ≡ 14
+  pair-fields w = order-fails 14 _ _ 0 w
 
   module _ (w : writableRecord (recordOf (p .value)) ≡ true) where
-    pub pair-key : inside f (p .start) (p .len) ≡ false → first (pairChecks f p) ≡ 16
-    pair-key k = first-holds 14 _ _ w ∙ first-fails 16 _ _ k
+    pub pair-key : inside f (p .start) (p .len) ≡ false → inOrder (pairLineChecks f p) 0 ≡ 16
+    pair-key k = order-holds 14 _ _ 0 w ∙ order-fails 16 _ _ 0 k
 
-    pub pair-rest : inside f (p .start) (p .len) ≡ true → first (pairChecks f p) ≡ first ((16, ranged f (recordOf (p .value))) ∷ [])
-    pair-rest k = first-holds 14 _ _ w ∙ first-holds 16 _ _ k
-
-  pub pair-passed : first (pairChecks f p) ≡ 0
-      → (writableRecord (recordOf (p .value)) ≡ true) × (inside f (p .start) (p .len) ≡ true) × (ranged f (recordOf (p .value)) ≡ true)
-  pair-passed e =
-      let one = first-passed 14 (writableRecord (recordOf (p .value))) _ (λ z. omega arith) e in
-      let two = first-passed 16 (inside f (p .start) (p .len)) _ (λ z. omega arith) (one .1) in
-      let three = first-passed 16 (ranged f (recordOf (p .value))) [] (λ z. omega arith) (two .1) in
-      (one .0, two .0, three .0)
+    pub pair-rest : inside f (p .start) (p .len) ≡ true → inOrder (pairLineChecks f p) 0 ≡ inOrder ((16, ranged f (recordOf (p .value))) ∷ []) 0
+    pair-rest k = order-holds 14 _ _ 0 w ∙ order-holds 16 _ _ 0 k
 
 module _ (f : List ℕ) (x : Action) where
-  pub action-unknown : isAction x ≡ false → first (actionChecks f x) ≡ 14
-  action-unknown h = first-fails 14 _ _ h
+  pub action-unknown : isAction x ≡ false → inOrder (actionLineChecks f x) 0 ≡ 14
+  action-unknown h = order-fails 14 _ _ 0 h
 
-  pub action-known : isAction x ≡ true → first (actionChecks f x) ≡ first (pairChecks f (x .pair))
-  action-known h = first-holds 14 _ _ h
-
-  pub action-pair : first (actionChecks f x) ≡ 0 → first (pairChecks f (x .pair)) ≡ 0
-  action-pair e = first-passed 14 (isAction x) (pairChecks f (x .pair)) (λ z. omega arith) e .1
+  pub action-known : isAction x ≡ true → inOrder (actionLineChecks f x) 0 ≡ inOrder (pairLineChecks f (x .pair)) 0
+  action-known h = order-holds 14 _ _ 0 h
 
   -- its line in parts: a set's, and an unset's
   pub action-set : (i : ℕ) → x .verb ≡ 1

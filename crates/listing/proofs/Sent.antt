@@ -9,8 +9,9 @@ use lib.Dec.{eqb}
 use lib.ListN.{length, take, drop, length-append, length-drop}
 use borrow.Author.Tests.{le-leb, eq-eqb, ne-eqb}
 use Rattle.answer.specs.Answer.{done, written}
-use Rattle.answer.specs.Table.{records, joined}
+use Rattle.answer.specs.Table.{holds, records, joined}
 use Rattle.answer.proofs.Cases.{bool-cases, true-false}
+use Rattle.answer.proofs.Order.{lines-pass}
 use Rattle.answer.proofs.Each.{Each, each-on, each-at}
 use Rattle.answer.proofs.Records.{joined-none}
 use Rattle.types.specs.Value.{value, shape}
@@ -32,10 +33,8 @@ use Rattle.agent.specs.Frame.{Sent, agents}
 use Rattle.agent.specs.Promise.{sentRead, readInto, Fills}
 use Rattle.agent.proofs.Standing.{Stands, stands, by-verb, ActionRun, actions-stand, of-actions, of-pairs, agent-cut}
 use Rattle.listing.specs.Lines.{pairLine, actionLine}
-use Rattle.listing.specs.Check.{isAction, actionChecks}
+use Rattle.listing.specs.Check.{isAction, actionLineChecks}
 use Rattle.listing.specs.Order.{actionAnswer}
-use Rattle.listing.proofs.Pieces.{after-none, action-known}
-use Rattle.listing.proofs.Coming.{after-holds}
 use Rattle.listing.proofs.Accepted.{Whole, held-moved, pair-there, payload-held}
 use Rattle.listing.proofs.Frames.{pairLines, itemLines}
 use Rattle.listing.proofs.Stepped.{steps}
@@ -145,9 +144,8 @@ module _ (limit : ℕ) (s oldPairs newPairs oldActions newActions : List ℕ) (m
       omega (arith, ap length (behindActions .1), length-append (joined actionNumbers (c .actions)) (behindActions .0), wide) in
       let here : 0 + k ≡ k = omega arith in
       let acts : Acts (length f) x = rw here at (each-at (Acts (length f)) (actionAt newActions) (length (c .actions)) 0 (rw sent-actions-held (held .actions)) k h) in
-      after-holds 16 _ (actionChecks f x) (written (actionLine k f x)) (le-leb ((k + 1) * actionWidth) (length newActions) room)
-      ∙ after-none (actionChecks f x) (written (actionLine k f x))
-      (action-known f x (acts-known (length f) x acts) ∙ pair-passes f (x .pair) (acts .whole))
+      lines-pass ((16, holds actionWidth newActions (k + 1)) ∷ actionLineChecks f x)
+      (le-leb ((k + 1) * actionWidth) (length newActions) room, (acts-known (length f) x acts, pair-passes f (x .pair) (acts .whole))) 0 _
 
   -- Law: so no line is refused where 2n + 128 bytes are lent.
   pub sent-room : (k : ℕ) → k < 2 ^ 64

@@ -1,5 +1,6 @@
 -- Laws about the tables of an accepted frame: they hold its records, and the steps over them give its lines.
 use mathlib.Core.Path.{_≡_, refl, sym, ap, ap₂, _∙_}
+use mathlib.Core.Bool.{true}
 use mathlib.Core.List.{List, [], _∷_, _++_, append-assoc}
 use Prim.Native.Nat.{ℕ, zero, suc, _+_, _*_, _≤_, _<_}
 use native.Mathlib.Nat.{one-mul}
@@ -8,14 +9,16 @@ use lib.ListN.{length, take, length-append}
 use lib.Seq.{length-take-le}
 use borrow.Author.Tests.{le-leb}
 use Rattle.answer.specs.Answer.{done, written}
-use Rattle.answer.specs.Order.{first}
-use Rattle.answer.specs.Table.{numberAt, records, joined}
+use Rattle.answer.specs.Table.{numberAt, holds, records, joined}
 use Rattle.answer.proofs.Cases.{bool-cases}
-use Rattle.answer.proofs.Order.{first-none, first-holds}
+use Rattle.answer.specs.Inner.{Passes}
+use Rattle.answer.proofs.Order.{lines-pass}
 use Rattle.answer.proofs.Each.{Each, each-at}
 use Rattle.answer.proofs.Records.{records-none, joined-on}
 use Rattle.answer.proofs.Rows.{number-later}
 use Rattle.types.specs.Value.{points, shape}
+use Rattle.types.specs.Form.{ranged}
+use Rattle.types.specs.Promise.{recordOf}
 use Rattle.frame.specs.declared.Pair.{Pair}
 use Rattle.frame.specs.declared.Message.{Message}
 use Rattle.frame.specs.declared.Action.{Action}
@@ -27,11 +30,9 @@ use Rattle.parser.specs.Promise.{roomsOf, contentsRead, Fills}
 use Rattle.parser.proofs.Filling.{joined-width}
 use Rattle.parser.proofs.Accepted.{frame-cut}
 use Rattle.listing.specs.Lines.{frameLine, messageLine, pairLine}
-use Rattle.listing.specs.Check.{messageChecks, pairChecks}
+use Rattle.listing.specs.Check.{messageLineChecks, pairLineChecks}
 use Rattle.listing.specs.Order.{messageAnswer, pairAnswer}
 use Rattle.listing.proofs.Frames.{itemLines, frameLines}
-use Rattle.listing.proofs.Pieces.{after-none, message-inside, pair-rest}
-use Rattle.listing.proofs.Coming.{after-holds}
 use Rattle.listing.proofs.Accepted.{Named, Whole, whole-held}
 use Rattle.listing.proofs.Stepped.{steps, steps-lines}
 
@@ -101,14 +102,14 @@ table-actions = table-holds actionNumbers actionAt here later
 
 -- ---- records of an accepted frame pass their checks
 
-message-passes : (f : List ℕ) (m : Message) → Named (length f) m → first (messageChecks f m) ≡ 0
-message-passes f m h = message-inside f m (le-leb (m .start + m .len) (length f) h)
+message-passes : (f : List ℕ) (m : Message) → Named (length f) m → Passes (messageLineChecks f m)
+message-passes f m h = (le-leb (m .start + m .len) (length f) h, tt)
 
-pub pair-passes : (f : List ℕ) (p : Pair) → Whole (length f) p → first (pairChecks f p) ≡ 0
-pair-passes f p h =
-    pair-rest f p (h .fields) (le-leb (p .start + p .len) (length f) (h .key))
-    ∙ first-holds 16 _ [] (bool-cases (points (shape (p .value .kind))) (λ t. rw t (le-leb (p .value .a + p .value .b) (length f) (h .range t))) (λ t. rw t))
-    ∙ first-none
+pub pair-passes : (f : List ℕ) (p : Pair) → Whole (length f) p → Passes (pairLineChecks f p)
+pair-passes f p h = (h .fields, (le-leb (p .start + p .len) (length f) (h .key), (range, tt)))
+  where
+    range : ranged f (recordOf (p .value)) ≡ true
+    range = bool-cases (points (shape (p .value .kind))) (λ t. rw t (le-leb (p .value .a + p .value .b) (length f) (h .range t))) (λ t. rw t)
 
 -- ---- the steps over an accepted frame's tables
 
@@ -128,8 +129,8 @@ module _ (f messages pairs : List ℕ) (c : Contents) (n : ℕ) (long : n ≡ le
       let room : (i + 1) * messageWidth ≤ length messages = omega (arith, ap length inMessages, length-append (joined messageNumbers (c .messages)) behindMessages, wide) in
       let here : 0 + i ≡ i = omega arith in
       let there : Named n (messageAt messages i) = rw here at (each-at (Named n) (messageAt messages) (length (c .messages)) 0 (rw hold-messages (held .0)) i h) in
-      after-holds 16 _ (messageChecks f (messageAt messages i)) (written (messageLine i f (messageAt messages i))) (le-leb ((i + 1) * messageWidth) (length messages) room)
-      ∙ after-none (messageChecks f (messageAt messages i)) (written (messageLine i f (messageAt messages i))) (message-passes f (messageAt messages i) (rw long at there))
+      lines-pass ((16, holds messageWidth messages (i + 1)) ∷ messageLineChecks f (messageAt messages i))
+      (le-leb ((i + 1) * messageWidth) (length messages) room, message-passes f (messageAt messages i) (rw long at there)) 0 _
 
   paired : (k : ℕ) → k < length (c .pairs) → pairAnswer f pairs k ≡ written (pairLine k f (pairAt pairs k))
   paired k h =
@@ -137,8 +138,8 @@ module _ (f messages pairs : List ℕ) (c : Contents) (n : ℕ) (long : n ≡ le
       let room : (k + 1) * pairWidth ≤ length pairs = omega (arith, ap length inPairs, length-append (joined pairNumbers (c .pairs)) behindPairs, wide) in
       let here : 0 + k ≡ k = omega arith in
       let there : Whole n (pairAt pairs k) = rw here at (each-at (Whole n) (pairAt pairs) (length (c .pairs)) 0 (rw hold-pairs (held .1)) k h) in
-      after-holds 16 _ (pairChecks f (pairAt pairs k)) (written (pairLine k f (pairAt pairs k))) (le-leb ((k + 1) * pairWidth) (length pairs) room)
-      ∙ after-none (pairChecks f (pairAt pairs k)) (written (pairLine k f (pairAt pairs k))) (pair-passes f (pairAt pairs k) (rw long at there))
+      lines-pass ((16, holds pairWidth pairs (k + 1)) ∷ pairLineChecks f (pairAt pairs k))
+      (le-leb ((k + 1) * pairWidth) (length pairs) room, pair-passes f (pairAt pairs k) (rw long at there)) 0 _
 
   pub steps-contents : steps f messages (length (c .messages)) pairs (length (c .pairs)) (length (c .messages) + length (c .pairs)) (record { messages = 0; pairs = 0; left = 0 })
       ≡ itemLines f 0 0 (c .messages) (c .pairs)

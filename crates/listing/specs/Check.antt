@@ -11,11 +11,11 @@ use Rattle.frame.specs.declared.Message.{Message}
 use Rattle.frame.specs.declared.Action.{Action}
 
 -- A name that lies outside the frame's bytes; numbers outside their fields, a key that lies outside, and a value that does.
-abbrev pub messageChecks : List ℕ → Message → List Check
-messageChecks f m = (16, inside f (m .start) (m .len)) ∷ []
+abbrev pub messageLineChecks : List ℕ → Message → List Check
+messageLineChecks f m = (16, inside f (m .start) (m .len)) ∷ []
 
-abbrev pub pairChecks : List ℕ → Pair → List Check
-pairChecks f p =
+abbrev pub pairLineChecks : List ℕ → Pair → List Check
+pairLineChecks f p =
     (14, writableRecord (recordOf (p .value)))
     ∷ (16, inside f (p .start) (p .len))
     ∷ (16, ranged f (recordOf (p .value))) ∷ []
@@ -25,5 +25,5 @@ abbrev pub isAction : Action → Bool
 isAction x = leb (x .scope) 4 && (eqb (x .verb) 1 || (eqb (x .verb) 2 && (eqb (x .pair .value .kind) 0 && eqb (x .pair .value .flags) 0)))
 
 -- its own numbers, and then what its name and value are refused with, as a pair
-abbrev pub actionChecks : List ℕ → Action → List Check
-actionChecks f x = (14, isAction x) ∷ pairChecks f (x .pair)
+abbrev pub actionLineChecks : List ℕ → Action → List Check
+actionLineChecks f x = (14, isAction x) ∷ pairLineChecks f (x .pair)

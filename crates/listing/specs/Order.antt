@@ -3,13 +3,13 @@ use mathlib.Core.Bool.{Bool, cond, _&&_, _||_}
 use mathlib.Core.List.{List, _∷_}
 use Prim.Native.Nat.{ℕ, _+_, _-_}
 use lib.Dec.{ltb, leb}
-use Rattle.answer.specs.Answer.{Answer, written}
-use Rattle.answer.specs.Order.{after}
+use Rattle.answer.specs.Answer.{Answer, refused, written}
+use Rattle.answer.specs.Order.{inOrder, linesAt}
 use Rattle.answer.specs.Table.{holds}
 use Rattle.frame.specs.Records.{messageWidth, pairWidth, actionWidth, messageAt, pairAt, actionAt}
 use Rattle.listing.specs.declared.Place.{Place}
 use Rattle.listing.specs.Lines.{messageLine, pairLine, actionLine}
-use Rattle.listing.specs.Check.{messageChecks, pairChecks, actionChecks}
+use Rattle.listing.specs.Check.{messageLineChecks, pairLineChecks, actionLineChecks}
 
 -- ---- which
 
@@ -29,15 +29,15 @@ behindMessage p count = record { messages = p .messages + 1; pairs = p .pairs; l
 -- a record that its table does not have is 16, before its own checks
 abbrev pub pairAnswer : List ℕ → List ℕ → ℕ → Answer (List ℕ)
 pairAnswer f pairs k =
-    after ((16, holds pairWidth pairs (k + 1)) ∷ pairChecks f (pairAt pairs k)) (written (pairLine k f (pairAt pairs k)))
+    inOrder ((refused 16 0, holds pairWidth pairs (k + 1)) ∷ linesAt 0 (pairLineChecks f (pairAt pairs k))) (written (pairLine k f (pairAt pairs k)))
 
 abbrev pub messageAnswer : List ℕ → List ℕ → ℕ → Answer (List ℕ)
 messageAnswer f messages i =
-    after ((16, holds messageWidth messages (i + 1)) ∷ messageChecks f (messageAt messages i)) (written (messageLine i f (messageAt messages i)))
+    inOrder ((refused 16 0, holds messageWidth messages (i + 1)) ∷ linesAt 0 (messageLineChecks f (messageAt messages i))) (written (messageLine i f (messageAt messages i)))
 
 abbrev pub actionAnswer : List ℕ → List ℕ → ℕ → Answer (List ℕ)
 actionAnswer f actions k =
-    after ((16, holds actionWidth actions (k + 1)) ∷ actionChecks f (actionAt actions k)) (written (actionLine k f (actionAt actions k)))
+    inOrder ((refused 16 0, holds actionWidth actions (k + 1)) ∷ linesAt 0 (actionLineChecks f (actionAt actions k))) (written (actionLine k f (actionAt actions k)))
 
 -- a line and the place behind it, or no line
 pub data Coming : Type 0 where

@@ -6,7 +6,7 @@ use lib.ListN.{length}
 use Rattle.answer.specs.declared.Written.{Written}
 use Rattle.answer.specs.Answer.{Answer, done, refused, written, within, leaves}
 use Rattle.answer.specs.Writes.{Writes}
-use Rattle.answer.specs.Order.{after}
+use Rattle.answer.specs.Order.{inOrder, linesAt}
 use Rattle.frame.specs.declared.Pair.{Pair}
 use Rattle.frame.specs.declared.Message.{Message}
 use Rattle.frame.specs.declared.Action.{Action}
@@ -15,7 +15,7 @@ use Rattle.listing.specs.declared.Place.{Place}
 use Rattle.listing.specs.declared.Step.{Step}
 use Rattle.listing.specs.declared.Step.the-variants as s
 use Rattle.listing.specs.Lines.{frameLine, messageLine, pairLine, actionLine, endLine}
-use Rattle.listing.specs.Check.{messageChecks, pairChecks, actionChecks}
+use Rattle.listing.specs.Check.{messageLineChecks, pairLineChecks, actionLineChecks}
 use Rattle.listing.specs.Order.{Coming, line, none, coming, actionAnswer}
 
 -- ---- what the next line says
@@ -45,15 +45,15 @@ WriteFrameLine index m bytes r old new = Writes (within (length old) (written (f
 
 abbrev pub WriteMessageLine : ℕ → List ℕ → Message → Written → List ℕ → List ℕ → Type 0
 WriteMessageLine index f m r old new =
-    Writes (within (length old) (after (messageChecks f m) (written (messageLine index f m)))) r old new
+    Writes (within (length old) (inOrder (linesAt 0 (messageLineChecks f m)) (written (messageLine index f m)))) r old new
 
 abbrev pub WritePairLine : ℕ → List ℕ → Pair → Written → List ℕ → List ℕ → Type 0
 WritePairLine index f p r old new =
-    Writes (within (length old) (after (pairChecks f p) (written (pairLine index f p)))) r old new
+    Writes (within (length old) (inOrder (linesAt 0 (pairLineChecks f p)) (written (pairLine index f p)))) r old new
 
 abbrev pub WriteActionLine : ℕ → List ℕ → Action → Written → List ℕ → List ℕ → Type 0
 WriteActionLine index f x r old new =
-    Writes (within (length old) (after (actionChecks f x) (written (actionLine index f x)))) r old new
+    Writes (within (length old) (inOrder (linesAt 0 (actionLineChecks f x)) (written (actionLine index f x)))) r old new
 
 abbrev pub WriteEndLine : ℕ → ℕ → ℕ → Written → List ℕ → List ℕ → Type 0
 WriteEndLine used number at r old new = Writes (within (length old) (written (endLine used number at))) r old new

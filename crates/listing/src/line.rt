@@ -27,12 +27,12 @@ ghost use lib.Dec.{leb, eqb};
 ghost use lib.ListN.{length};
 ghost use Rattle.answer.specs.Answer.{written, within};
 ghost use Rattle.answer.specs.Writes.{Writes};
-ghost use Rattle.answer.specs.Order.{first as firstOf};
+ghost use Rattle.answer.specs.Order.{inOrder};
 ghost use Rattle.types.specs.Inner.{Puts};
 ghost use Rattle.types.specs.Form.{inside};
 ghost use Rattle.types.specs.Promise.{recordOf};
 ghost use Rattle.listing.specs.Lines.{valueText};
-ghost use Rattle.listing.specs.Check.{pairChecks, isAction, actionChecks};
+ghost use Rattle.listing.specs.Check.{pairLineChecks, isAction, actionLineChecks};
 ghost use Rattle.listing.specs.Promise.{WriteFrameLine, WriteMessageLine, WritePairLine, WriteActionLine, WriteEndLine};
 ghost use Rattle.listing.specs.Inner.{Listed, namedText, valuedText};
 
@@ -175,7 +175,7 @@ pub fn write_pair_line(index: u64, frame: &[u8], pair: Pair, out: &mut [u8]) -> 
 
 // What a pair is refused with: 14 or 16, the first that holds; else 0.
 fn check_pair(pair: Pair, frame: &[u8]) -> u64
-    ensures { λ r. ⌜ r ≡ firstOf (pairChecks (now (frame .entry)) pair) ⌝ }
+    ensures { λ r. ⌜ r ≡ inOrder (pairLineChecks (now (frame .entry)) pair) 0 ⌝ }
 {
     if !types::writable(pair.value) {
         return NOT_WRITABLE;
@@ -225,7 +225,7 @@ pub fn write_action_line(index: u64, frame: &[u8], action: Action, out: &mut [u8
 
 // What an action is refused with: 14 or 16, the first that holds; else 0.
 fn check_action(action: Action, frame: &[u8]) -> u64
-    ensures { λ r. ⌜ r ≡ firstOf (actionChecks (now (frame .entry)) action) ⌝ }
+    ensures { λ r. ⌜ r ≡ inOrder (actionLineChecks (now (frame .entry)) action) 0 ⌝ }
 {
     if !is_action(action) {
         return NOT_WRITABLE;

@@ -7,7 +7,7 @@ use Prim.Native.Nat.{ℕ, _+_, _-_, _^_}
 use lib.Dec.{ltb, leb}
 use lib.ListN.{length}
 use Rattle.answer.specs.Answer.{Answer, done, refused, written}
-use Rattle.answer.specs.Order.{inOrder, firstRefused}
+use Rattle.answer.specs.Order.{inOrder, eachInOrder}
 use Rattle.answer.specs.Table.{records, joined, some}
 use Rattle.varint.specs.Number.{more, number, groups, numberBytes}
 use Rattle.utf8.specs.Text.{rows, follow, inRange, matching, rowFor, step, bySteps, isUtf8, lossy, sameBytes, sameText}
@@ -23,8 +23,8 @@ use Rattle.parser.specs.declared.Metadata.{Metadata}
 use Rattle.parser.specs.Pair.{pair}
 use Rattle.parser.specs.Payload.{Contents, onePair, oneMessage, toEnd, payload}
 use Rattle.parser.specs.Frame.{Reading, wait, answered, lastId, ids, metadata, whole, front as frameFront, frameRead}
-use Rattle.writer.specs.Pair.{pairBytes, pairRefusal, newKey, kvRefusal}
-use Rattle.writer.specs.Message.{nameBytes, messageBytes, messageRefusal}
+use Rattle.writer.specs.Pair.{pairBytes, newKey}
+use Rattle.writer.specs.Message.{nameBytes, messageBytes}
 use Rattle.writer.specs.Frame.{headOf, limited, finAlone, kvAllowed, kvAnswer, notifyAnswer}
 use Rattle.hello.specs.Hello.{frameSize}
 
@@ -211,8 +211,8 @@ pub marked : All examples
 unfolding more number groups numberBytes string typed shape signExtended fourNumber inOrder some
     rows follow inRange matching rowFor step bySteps lossy sameBytes sameText
     pair onePair oneMessage toEnd payload lastId ids metadata whole frameFront frameRead frameSize
-    isUtf8 firstRefused records joined stringBytes valueBytes fourBytes headBytes frameBytes messageAt pairAt pairBytes pairRefusal newKey kvRefusal
-    nameBytes messageBytes messageRefusal limited kvAllowed kvAnswer notifyAnswer
+    isUtf8 eachInOrder records joined stringBytes valueBytes fourBytes headBytes frameBytes messageAt pairAt pairBytes newKey
+    nameBytes messageBytes limited kvAllowed kvAnswer notifyAnswer
 marked =
     (refl, refl) and (refl, refl) and (refl, refl) and (refl, refl) and (refl, refl) and refl and refl and refl and refl and refl and refl and
     refl and refl and

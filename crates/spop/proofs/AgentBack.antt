@@ -1,19 +1,17 @@
 -- What is written for HAProxy is read back by the entry for agents' frames: one statement for all three types.
 use mathlib.Core.Path.{_≡_, refl, sym, ap, ap₂, subst, _∙_}
-use mathlib.Core.Bool.{Bool, true, false, cond, _&&_, _||_}
+use mathlib.Core.Bool.{true, cond}
 use mathlib.Core.Logic.{⊎-elim}
 use mathlib.Core.List.{List, [], _∷_, _++_, map}
 use Prim.Native.Nat.{ℕ, _+_, _^_, _≤_, _<_}
 use native.Mathlib.Omega.{arith}
-use lib.Dec.{leb, eqb}
+use lib.Dec.{eqb}
 use lib.ListN.{length, drop, length-append}
 use borrow.Author.Tests.{le-leb, eq-eqb, ne-eqb, eqb-true, eqb-false}
 use Rattle.answer.specs.Answer.{Answer, done, next, behind}
-use Rattle.answer.specs.Order.{first}
 use Rattle.answer.specs.Table.{records}
 use Rattle.answer.specs.Inner as inner
 use Rattle.answer.proofs.Cases.{lt-or-le, bool-cases, true-false, both-true}
-use Rattle.answer.proofs.Order.{first-passed}
 use Rattle.types.specs.Value.{Record, value}
 use Rattle.types.specs.Form.{stringBytes, valueBytes}
 use Rattle.types.specs.Promise.{recordOf}
@@ -27,17 +25,16 @@ use Rattle.frame.proofs.Meaning.{pairMeaning, actionMeaning}
 use Rattle.parser.specs.declared.Rooms.{Rooms}
 use Rattle.parser.specs.declared.Metadata.{Metadata}
 use Rattle.parser.specs.Pair.{movedPair}
-use Rattle.parser.specs.Payload.{Contents, payload}
 use Rattle.parser.specs.Frame.{answered}
 use Rattle.parser.proofs.Back.{pair-moved, metadataOf, Readable, known-high}
 use Rattle.agent.specs.Action.{actions, movedAction}
 use Rattle.agent.specs.Frame.{Sent, ofPairs, ofActions, movedSent, sentOf, agents, agentRead}
 use Rattle.agent.proofs.Back.{ActionBack, set-back, unset-back, actions-back}
-use Rattle.writer.specs.Pair.{pairBytes, pairChecks}
-use Rattle.writer.specs.Action.{noValue, actionWritable, actionBytes, actionChecks, actionRefusal}
-use Rattle.writer.specs.Frame.{finAlone, kvAllowed, kvAnswer, actionsBytes, actionsAnswer}
-use Rattle.writer.proofs.Pairs.{formed-passed, pair-bytes}
-use Rattle.writer.proofs.Actions.{writable-unset, writable-other, set-bytes, unset-bytes, passed-scope, passed-pair, action-number}
+use Rattle.writer.specs.Action.{noValue, actionBytes, actionChecks}
+use Rattle.writer.specs.Inner.{actionOrder}
+use Rattle.writer.specs.Frame.{finAlone, kvAnswer, actionsBytes, actionsAnswer}
+use Rattle.writer.proofs.Pairs.{pair-bytes}
+use Rattle.writer.proofs.Actions.{writable-unset, writable-other, set-bytes, unset-bytes, passed-scope, passed-form}
 use Rattle.writer.proofs.Answers.{kv-agent-hello, kv-agent-disconnect}
 use Rattle.writer.proofs.Laws.{Wrote, kv-accepted, actions-accepted, actions-wrote}
 use Rattle.spop.proofs.Walked as walk
@@ -58,7 +55,7 @@ no-value (value kind a b flags) e =
     cc
 
 -- Law: each action that passes the writer's checks reads back.
-module _ (buffer : List ℕ) (x : Action) (e : first (actionChecks buffer x) ≡ 0) (r t : List ℕ) (small : length (actionBytes buffer x) < 2 ^ 64) where
+module _ (buffer : List ℕ) (x : Action) (e : inner.Passes (actionChecks buffer x)) (r t : List ℕ) (small : length (actionBytes buffer x) < 2 ^ 64) where
   abbrev key : List ℕ
   key = keyOf buffer (x .pair)
 
@@ -66,7 +63,7 @@ module _ (buffer : List ℕ) (x : Action) (e : first (actionChecks buffer x) ≡
   set-so verb =
       let is : actionBytes buffer x ≡ 1 ∷ 3 ∷ x .scope ∷ (stringBytes key ++ valueBytes buffer (recordOf (x .pair .value))) =
       set-bytes buffer x verb ∙ ap (λ (l : List ℕ). 1 ∷ 3 ∷ x .scope ∷ l) (pair-bytes buffer (x .pair)) in
-      let f = formed-passed buffer (x .pair) (passed-pair buffer x e) in
+      let f = passed-form buffer x e in
       let few : length key < 2 ^ 64 = omega (arith, small, ap length is, length-append (stringBytes key) (valueBytes buffer (recordOf (x .pair .value))), string-length key) in
       rw (is, verb) (set-back buffer key r t few (x .scope) (passed-scope buffer x e) (recordOf (x .pair .value)) (f .fields) (f .range))
 
@@ -74,7 +71,7 @@ module _ (buffer : List ℕ) (x : Action) (e : first (actionChecks buffer x) ≡
   unset-so verb =
       let is = unset-bytes buffer x (λ z. omega (arith, z, verb)) in
       let few : length key < 2 ^ 64 = omega (arith, small, ap length is, string-length key) in
-      let none = no-value (recordOf (x .pair .value)) (sym (writable-unset x (passed-scope buffer x e) verb) ∙ first-passed 14 (actionWritable x) _ (λ z. omega arith) e .0) in
+      let none = no-value (recordOf (x .pair .value)) (sym (writable-unset x (passed-scope buffer x e) verb) ∙ e .0) in
       subst (λ (v : Record). ActionBack buffer (actionBytes buffer x) r t (x .verb, x .scope, (key, meaning buffer v))) (sym none)
       (rw (is, verb) (unset-back buffer key r t few (x .scope) (passed-scope buffer x e)))
 
@@ -84,7 +81,7 @@ module _ (buffer : List ℕ) (x : Action) (e : first (actionChecks buffer x) ≡
       (λ a.
       bool-cases (eqb (x .verb) 2) (λ b. unset-so (eqb-true (x .verb) 2 b))
       (λ b.
-      true-false (first-passed 14 (actionWritable x) _ (λ z. omega arith) e .0)
+      true-false (e .0)
       (writable-other x (passed-scope buffer x e) (eqb-false (x .verb) 1 a) (eqb-false (x .verb) 2 b))))
 
 -- ---- the frame
@@ -139,7 +136,7 @@ module _ (h : Head) (limit : ℕ) (buffer bytes : List ℕ) (n : ℕ) (stream : 
     ack-ok : Readable true h
     ack-ok = sendable (actions-accepted h limit buffer rows j bytes n is .0) (omega (arith, ack))
 
-    passed : inner.Sound (actionRefusal buffer rows) j
+    passed : inner.Sound (actionOrder buffer rows) j
     passed = actions-accepted h limit buffer rows j bytes n is .2
 
     abbrev start : ℕ
@@ -154,7 +151,7 @@ module _ (h : Head) (limit : ℕ) (buffer bytes : List ℕ) (n : ℕ) (stream : 
     read =
         actions-back room buffer (actionBytes buffer) (actionAt rows) j p t refl fits
         (λ i l r u long.
-        action-back buffer (actionAt rows i) (sym (action-number buffer rows i) ∙ passed .each i l) r u
+        action-back buffer (actionAt rows i) (passed .each i l) r u
         (omega (arith, long, short (agents pairRoom room) h limit p bytes n w small ack-ok higher up t)))
 
     moved-means : (x : Action) → actionMeaning (bytes ++ t) (movedAction start x) ≡ actionMeaning (p ++ t) x

@@ -7,7 +7,7 @@ use Prim.Native.Nat.{ℕ, _≤_}
 use native.Mathlib.Omega.{arith}
 use lib.ListN.{length, drop}
 use Rattle.answer.specs.Answer.{done, written}
-use Rattle.answer.specs.Order.{inOrder, firstRefused}
+use Rattle.answer.specs.Order.{inOrder, eachInOrder}
 use Rattle.answer.specs.Table.{records, joined, some}
 use Rattle.answer.proofs.Output.{writes-whole}
 use Rattle.varint.specs.Number.{groups, numberBytes}
@@ -19,9 +19,9 @@ use Rattle.frame.specs.Head.{fourBytes, headBytes, frameBytes}
 use Rattle.frame.specs.Records.{messageAt, pairAt, actionAt}
 use Rattle.frame.proofs.Meaning.{pairMeaning}
 use Rattle.parser.specs.declared.Rooms.{Rooms}
-use Rattle.writer.specs.Pair.{pairBytes, pairRefusal, newKey, kvRefusal}
-use Rattle.writer.specs.Action.{actionBytes, actionWritable, actionRefusal}
-use Rattle.writer.specs.Message.{nameBytes, messageBytes, messageRefusal}
+use Rattle.writer.specs.Pair.{pairBytes, newKey}
+use Rattle.writer.specs.Action.{actionBytes, actionWritable}
+use Rattle.writer.specs.Message.{nameBytes, messageBytes}
 use Rattle.writer.specs.Frame.{headOf, limited, kvAllowed, kvAnswer, actionsAnswer, notifyAnswer}
 use Rattle.writer.proofs.Joined.{AckCall, ackPayload, actions-joined, acts-in-a-row}
 use Rattle.spop.proofs.AgentBack.{SentBack, agentAnswer, agent-read-back}
@@ -39,8 +39,8 @@ pairs-frame =
     0 ∷ 0 ∷ 0 ∷ 18 ∷ 2 ∷ 0 ∷ 0 ∷ 0 ∷ 1 ∷ 0 ∷ 0 ∷ 0x01 ∷ 0x41 ∷ 0x23 ∷ 0x07 ∷ 0x01 ∷ 0x42 ∷ 0x08 ∷ 0x03 ∷ 0x32 ∷ 0x2E ∷ 0x30 ∷ []
 
 pub pairs-written : kvAnswer (headOf 2 true false 0 0) 18 text two 2 ≡ done pairs-frame 22
-unfolding groups numberBytes rows follow inRange matching rowFor step bySteps isUtf8 lossy sameBytes sameText shape inOrder some firstRefused records joined
-    stringBytes valueBytes fourBytes headBytes frameBytes pairAt pairBytes pairRefusal newKey kvRefusal limited kvAllowed kvAnswer
+unfolding groups numberBytes rows follow inRange matching rowFor step bySteps isUtf8 lossy sameBytes sameText shape inOrder some eachInOrder records joined
+    stringBytes valueBytes fourBytes headBytes frameBytes pairAt pairBytes newKey limited kvAllowed kvAnswer
 pairs-written = refl
 
 pub kv-example : ReadBack (headOf 2 true false 0 0) 22 text [] (records (pairAt two) 0 2) 19 (record { messages = 0; pairs = 2 }) (pairs-frame ++ (0 ∷ 0 ∷ []))
@@ -64,8 +64,8 @@ messages-frame =
     ∷ 0x01 ∷ 0x6E ∷ 0x01 ∷ 0x01 ∷ 0x61 ∷ 0x11 ∷ []
 
 pub messages-written : notifyAnswer (headOf 3 true false 1 2) 24 names both 2 three 3 ≡ done messages-frame 28
-unfolding groups numberBytes rows follow inRange matching rowFor step bySteps isUtf8 shape inOrder some firstRefused records joined
-    stringBytes valueBytes fourBytes headBytes frameBytes messageAt pairAt pairBytes pairRefusal nameBytes messageBytes messageRefusal limited notifyAnswer
+unfolding groups numberBytes rows follow inRange matching rowFor step bySteps isUtf8 shape inOrder some eachInOrder records joined
+    stringBytes valueBytes fourBytes headBytes frameBytes messageAt pairAt pairBytes nameBytes messageBytes limited notifyAnswer
 messages-written = refl
 
 abbrev pub again : Rooms
@@ -104,18 +104,18 @@ both-frame =
     0 ∷ 0 ∷ 0 ∷ 20 ∷ 103 ∷ 0 ∷ 0 ∷ 0 ∷ 1 ∷ 240 ∷ 0 ∷ 3 ∷ 0x01 ∷ 0x03 ∷ 0x02 ∷ 0x01 ∷ 0x61 ∷ 0x03 ∷ 0x07 ∷ 0x02 ∷ 0x02 ∷ 0x01 ∷ 0x01 ∷ 0x62 ∷ []
 
 pub set-written : actionsAnswer (headOf 103 true false 1 1) 20 variables setting 1 ≡ written set-frame
-unfolding groups numberBytes rows follow inRange matching rowFor step bySteps isUtf8 shape inOrder firstRefused records joined
-    stringBytes valueBytes fourBytes headBytes frameBytes actionAt pairBytes actionBytes actionWritable actionRefusal limited actionsAnswer
+unfolding groups numberBytes rows follow inRange matching rowFor step bySteps isUtf8 shape inOrder eachInOrder records joined
+    stringBytes valueBytes fourBytes headBytes frameBytes actionAt pairBytes actionBytes actionWritable limited actionsAnswer
 set-written = refl
 
 pub unset-written : actionsAnswer (headOf 103 true false 1 2) 20 variables unsetting 1 ≡ written unset-frame
-unfolding groups numberBytes rows follow inRange matching rowFor step bySteps isUtf8 shape inOrder firstRefused records joined
-    stringBytes valueBytes fourBytes headBytes frameBytes actionAt pairBytes actionBytes actionWritable actionRefusal limited actionsAnswer
+unfolding groups numberBytes rows follow inRange matching rowFor step bySteps isUtf8 shape inOrder eachInOrder records joined
+    stringBytes valueBytes fourBytes headBytes frameBytes actionAt pairBytes actionBytes actionWritable limited actionsAnswer
 unset-written = refl
 
 pub both-written : actionsAnswer (headOf 103 true false 240 3) 20 variables (setting ++ unsetting) 2 ≡ written both-frame
-unfolding groups numberBytes rows follow inRange matching rowFor step bySteps isUtf8 shape inOrder firstRefused records joined
-    stringBytes valueBytes fourBytes headBytes frameBytes actionAt pairBytes actionBytes actionWritable actionRefusal limited actionsAnswer
+unfolding groups numberBytes rows follow inRange matching rowFor step bySteps isUtf8 shape inOrder eachInOrder records joined
+    stringBytes valueBytes fourBytes headBytes frameBytes actionAt pairBytes actionBytes actionWritable limited actionsAnswer
 both-written = refl
 
 -- a call that writes such a frame over these bytes
@@ -160,8 +160,8 @@ ack-frame =
     0 ∷ 0 ∷ 0 ∷ 19 ∷ 103 ∷ 0 ∷ 0 ∷ 0 ∷ 1 ∷ 1 ∷ 2 ∷ 1 ∷ 3 ∷ 2 ∷ 0x01 ∷ 0x41 ∷ 0x23 ∷ 0x07 ∷ 2 ∷ 2 ∷ 4 ∷ 0x01 ∷ 0x42 ∷ []
 
 pub actions-written : agentAnswer (headOf 103 true false 1 2) 19 text [] 0 acts 2 ≡ done ack-frame 23
-unfolding groups numberBytes rows follow inRange matching rowFor step bySteps isUtf8 lossy sameBytes sameText shape inOrder some firstRefused records joined
-    stringBytes valueBytes fourBytes headBytes frameBytes actionAt pairBytes actionBytes actionWritable actionRefusal limited actionsAnswer
+unfolding groups numberBytes rows follow inRange matching rowFor step bySteps isUtf8 lossy sameBytes sameText shape inOrder some eachInOrder records joined
+    stringBytes valueBytes fourBytes headBytes frameBytes actionAt pairBytes actionBytes actionWritable limited actionsAnswer
 actions-written = refl
 
 pub ack-example : SentBack (headOf 103 true false 1 2) 23 text [] (records (actionAt acts) 0 2) 20 0 2 (ack-frame ++ (0 ∷ 0 ∷ []))

@@ -9,27 +9,28 @@ use lib.Dec.{eqb}
 use lib.ListN.{length, drop, getD, length-drop, List·getD-map}
 use lib.Seq.{drop-drop, drop-append-le}
 use borrow.Author.Tests.{lt-ltb, eq-eqb, ne-eqb, eqb-true, eqb-false}
-use Rattle.answer.specs.Answer.{Answer, done, behind}
-use Rattle.answer.specs.Table.{records, some}
+use Rattle.answer.specs.Answer.{Answer, done}
+use Rattle.answer.specs.Table.{records}
 use Rattle.answer.specs.Inner as inner
 use Rattle.answer.proofs.Cases.{bool-cases, true-false, both-true}
 use Rattle.answer.proofs.Records.{records-none, records-length, record-at}
 use Rattle.frame.specs.declared.Head.{Head}
 use Rattle.frame.specs.declared.Pair.{Pair}
 use Rattle.frame.specs.declared.Message.{Message}
-use Rattle.frame.specs.Records.{pairAt, messageAt, sameKey}
+use Rattle.frame.specs.Records.{pairAt, messageAt}
 use Rattle.frame.proofs.Laws.{Framed}
 use Rattle.frame.proofs.Meaning.{pairMeaning, messageMeaning}
 use Rattle.parser.specs.declared.Rooms.{Rooms}
 use Rattle.parser.specs.Pair.{movedPair}
-use Rattle.parser.specs.Payload.{Contents, payload, movedMessage, movedContents}
+use Rattle.parser.specs.Payload.{Contents, movedMessage, movedContents}
 use Rattle.parser.specs.Frame.{Entry, haproxys, answered, frameRead}
 use Rattle.parser.proofs.Frames.{inFrame, length-map}
 use Rattle.parser.proofs.Back.{metadataOf, Readable, FrameBack, known-low, frame-back}
-use Rattle.writer.specs.Pair.{pairRefusal, kvRefusal}
-use Rattle.writer.specs.Message.{runStart, messageRefusal}
+use Rattle.writer.specs.Pair.{kvChecks}
+use Rattle.writer.specs.Message.{runStart}
+use Rattle.writer.specs.Inner.{pairOrder, messageOrder}
 use Rattle.writer.specs.Frame.{finAlone, kvAllowed, pairsBytes, kvAnswer, messagesBytes, notifyAnswer}
-use Rattle.writer.proofs.Pairs.{formed-at, kv-passed, kv-met}
+use Rattle.writer.proofs.Pairs.{formed-passed, kv-passed, kv-fresh}
 use Rattle.writer.proofs.Messages.{runs-start, runs-inside, last-ends}
 use Rattle.writer.proofs.Answers.{kv-other}
 use Rattle.writer.proofs.Laws.{Wrote, kv-accepted, kv-wrote, notify-accepted, notify-passed-records, notify-wrote}
@@ -170,14 +171,8 @@ module _ (h : Head) (limit : ℕ) (buffer bytes : List ℕ) (n : ℕ) (stream : 
     pub wrote : Wrote h limit list bytes n
     wrote = kv-wrote h limit buffer pairs count bytes n is
 
-    passed : inner.Sound (kvRefusal buffer pairs) count
+    passed : inner.Sound (kvChecks buffer pairs) count
     passed = kv-accepted h limit buffer pairs count bytes n is .2
-
-    fresh : (i : ℕ) → i < count → some (sameKey buffer (pairAt pairs i)) (records (pairAt pairs) 0 i) ≡ false
-    fresh i l =
-        bool-cases (some (sameKey buffer (pairAt pairs i)) (records (pairAt pairs) 0 i))
-        (λ e. let nine = kv-met buffer pairs i (kv-passed buffer pairs i (passed .each i l)) e in absurd (omega (arith, passed .each i l)))
-        (λ e. e)
 
     -- as a KV list, by any entry that reads the frame
     module _ {A : Type 0} (x : Entry A) (ok : Readable (x .agents) h) (kv : Bool) (is-kv : kv ≡ true) where
@@ -186,8 +181,8 @@ module _ (h : Head) (limit : ℕ) (buffer bytes : List ℕ) (n : ℕ) (stream : 
 
       sound : (i : ℕ) → i < count → walk.Sound placed i
       sound i l =
-          let f = formed-at buffer pairs i (kv-passed buffer pairs i (passed .each i l)) in
-          record { fields = f .fields; range = f .range; fresh = λ k. fresh i l }
+          let f = formed-passed buffer (pairAt pairs i) (kv-passed buffer pairs i (passed .each i l)) in
+          record { fields = f .fields; range = f .range; fresh = λ k. kv-fresh buffer pairs i (passed .each i l) }
 
       pub all-read : walk.Reads placed count 0 0 []
       all-read =
@@ -225,10 +220,10 @@ module _ (h : Head) (limit : ℕ) (buffer bytes : List ℕ) (n : ℕ) (stream : 
     abbrev lies : walk.Payload
     lies = placed-so buffer messages pairs h limit list-of-messages bytes n notified small notify-ok higher up rooms t
 
-    messages-passed : inner.Sound (messageRefusal buffer total messages count) count
+    messages-passed : inner.Sound (messageOrder buffer total messages count) count
     messages-passed = notify-passed-records h limit buffer messages count pairs total bytes n is .0
 
-    pairs-passed : inner.Sound (pairRefusal buffer pairs) total
+    pairs-passed : inner.Sound (pairOrder buffer pairs) total
     pairs-passed = notify-passed-records h limit buffer messages count pairs total bytes n is .1
 
     no-list : not (eqb (h .kind) 3) ≡ false
@@ -236,7 +231,7 @@ module _ (h : Head) (limit : ℕ) (buffer bytes : List ℕ) (n : ℕ) (stream : 
 
     sound-arguments : (i : ℕ) → i < total → walk.Sound lies i
     sound-arguments i l =
-        let f = formed-at buffer pairs i (pairs-passed .each i l) in
+        let f = formed-passed buffer (pairAt pairs i) (pairs-passed .each i l) in
         record { fields = f .fields; range = f .range; fresh = λ k. true-false k no-list }
 
     both-read : walk.Reads lies total count 0 []

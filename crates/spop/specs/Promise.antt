@@ -5,7 +5,7 @@ use mathlib.Core.List.{List}
 use Prim.Native.Nat.{ℕ}
 use lib.ListN.{length}
 use Rattle.answer.specs.Answer.{written}
-use Rattle.answer.specs.Order.{first}
+use Rattle.answer.specs.Order.{inOrder}
 use Rattle.varint.specs.Number.{number, numberBytes}
 use Rattle.utf8.specs.Text.{isUtf8, lossy, sameText}
 use Rattle.plain.specs.Promise.{comparison, TextsLeft}
@@ -55,7 +55,7 @@ abbrev pub SpopValueLen : List ℕ → List ℕ → ℕ → Type 0
 SpopValueLen value buffer r = r ≡ lengthOf (valueAnswer buffer (recordIn value))
 
 abbrev pub SpopCheckValue : List ℕ → List ℕ → ℕ → Type 0
-SpopCheckValue value buffer r = r ≡ first (valueChecks buffer (recordIn value))
+SpopCheckValue value buffer r = r ≡ inOrder (valueChecks buffer (recordIn value)) 0
 
 abbrev pub SpopWriteValue : List ℕ → List ℕ → ℕ → ℕ → List ℕ → List ℕ → Type 0
 SpopWriteValue value buffer r at old new = Left (valueAnswer buffer (recordIn value)) r at old new

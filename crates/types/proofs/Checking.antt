@@ -8,9 +8,10 @@ use lib.Dec.{eqb}
 use lib.ListN.{length}
 use borrow.Author.Tests.{le-leb, leb-true, eq-eqb, ne-eqb}
 use Rattle.answer.specs.Answer.{done, written}
-use Rattle.answer.specs.Order.{inOrder, first}
+use Rattle.answer.specs.Order.{inOrder}
+use Rattle.answer.specs.Inner.{Passes}
 use Rattle.answer.proofs.Cases.{bool-cases}
-use Rattle.answer.proofs.Order.{first-fails, first-holds, first-passed}
+use Rattle.answer.proofs.Order.{order-fails, order-holds}
 use Rattle.utf8.specs.Text.{isUtf8}
 use Rattle.types.specs.Value.{Record, value, shape, points, typed}
 use Rattle.types.specs.Form.{part, inside, valueBytes, writableRecord, ranged, valueAnswer}
@@ -22,83 +23,73 @@ use Rattle.types.proofs.Writing.{form-whole}
 -- ---- strings
 
 module _ (buffer : List ℕ) (start len : ℕ) where
-  pub string-outside : inside buffer start len ≡ false → first (stringChecks buffer start len) ≡ 16
+  pub string-outside : inside buffer start len ≡ false → inOrder (stringChecks buffer start len) 0 ≡ 16
   unfolding inOrder
   string-outside h = rw h
 
-  pub string-ill : inside buffer start len ≡ true → isUtf8 (part buffer start len) ≡ false → first (stringChecks buffer start len) ≡ 15
+  pub string-ill : inside buffer start len ≡ true → isUtf8 (part buffer start len) ≡ false → inOrder (stringChecks buffer start len) 0 ≡ 15
   unfolding inOrder
   string-ill h u = rw (h, u)
 
-  pub string-well : inside buffer start len ≡ true → isUtf8 (part buffer start len) ≡ true → first (stringChecks buffer start len) ≡ 0
+  pub string-well : inside buffer start len ≡ true → isUtf8 (part buffer start len) ≡ true → inOrder (stringChecks buffer start len) 0 ≡ 0
   unfolding inOrder
   string-well h u = rw (h, u)
 
-  -- a string that passes lies inside and is UTF-8
-  pub string-passed : first (stringChecks buffer start len) ≡ 0 → (inside buffer start len ≡ true) × (isUtf8 (part buffer start len) ≡ true)
-  string-passed e =
-      let one = first-passed 16 (inside buffer start len) _ (λ z. omega arith) e in
-      let two = first-passed 15 (isUtf8 (part buffer start len)) _ (λ z. omega arith) (one .1) in
-      (one .0, two .0)
-
-  pub string-range : first (stringChecks buffer start len) ≡ 0 → start + len ≤ length buffer
-  string-range e = leb-true (start + len) (length buffer) (string-passed e .0)
+  -- a string that passes lies inside
+  pub string-range : Passes (stringChecks buffer start len) → start + len ≤ length buffer
+  string-range p = leb-true (start + len) (length buffer) (p .0)
 
 -- ---- values
 
 module _ (buffer : List ℕ) (kind a b flags : ℕ) where
   -- of kind 8 it is a string's
-  pub part-string : kind ≡ 8 → first (partChecks buffer (value kind a b flags)) ≡ first (stringChecks buffer a b)
+  pub part-string : kind ≡ 8 → inOrder (partChecks buffer (value kind a b flags)) 0 ≡ inOrder (stringChecks buffer a b) 0
   unfolding inOrder
   part-string e = rw (e, ap points (shape-is .8))
 
-  pub part-outside : ranged buffer (value kind a b flags) ≡ false → first (partChecks buffer (value kind a b flags)) ≡ 16
+  pub part-outside : ranged buffer (value kind a b flags) ≡ false → inOrder (partChecks buffer (value kind a b flags)) 0 ≡ 16
   unfolding inOrder
   part-outside h = rw h
 
-  pub part-within : (kind ≡ 8 → ⊥) → ranged buffer (value kind a b flags) ≡ true → first (partChecks buffer (value kind a b flags)) ≡ 0
+  pub part-within : (kind ≡ 8 → ⊥) → ranged buffer (value kind a b flags) ≡ true → inOrder (partChecks buffer (value kind a b flags)) 0 ≡ 0
   unfolding inOrder
   part-within e h = rw (h, ne-eqb kind 8 e)
 
 module _ (buffer : List ℕ) (v : Record) where
-  pub value-fields : writableRecord v ≡ false → first (valueChecks buffer v) ≡ 14
-  value-fields h = first-fails 14 (writableRecord v) (partChecks buffer v) h
+  pub value-fields : writableRecord v ≡ false → inOrder (valueChecks buffer v) 0 ≡ 14
+  value-fields h = order-fails 14 (writableRecord v) (partChecks buffer v) 0 h
 
-  pub value-part : writableRecord v ≡ true → first (valueChecks buffer v) ≡ first (partChecks buffer v)
-  value-part h = first-holds 14 (writableRecord v) (partChecks buffer v) h
+  pub value-part : writableRecord v ≡ true → inOrder (valueChecks buffer v) 0 ≡ inOrder (partChecks buffer v) 0
+  value-part h = order-holds 14 (writableRecord v) (partChecks buffer v) 0 h
 
 -- past the fields a value is not refused with 14, so that number tells of them
 module _ (buffer : List ℕ) (kind a b flags : ℕ) where
-  not-fields : first (partChecks buffer (value kind a b flags)) ≡ 14 → ⊥
+  not-fields : inOrder (partChecks buffer (value kind a b flags)) 0 ≡ 14 → ⊥
   unfolding inOrder
   not-fields e =
       bool-cases (ranged buffer (value kind a b flags))
       (λ t. bool-cases (not (eqb kind 8) || isUtf8 (part buffer a b)) (λ u. let z = (rw (t, u) at e) in omega arith) (λ u. let z = (rw (t, u) at e) in omega arith))
       (λ t. let z = (rw t at e) in omega arith)
 
-  pub value-unwritable : first (valueChecks buffer (value kind a b flags)) ≡ 14 → writableRecord (value kind a b flags) ≡ false
+  pub value-unwritable : inOrder (valueChecks buffer (value kind a b flags)) 0 ≡ 14 → writableRecord (value kind a b flags) ≡ false
   value-unwritable e =
       bool-cases (writableRecord (value kind a b flags)) (λ t. absurd (not-fields (sym (value-part buffer (value kind a b flags) t) ∙ e))) (λ t. t)
 
-  pub value-writable : (first (valueChecks buffer (value kind a b flags)) ≡ 14 → ⊥) → writableRecord (value kind a b flags) ≡ true
+  pub value-writable : (inOrder (valueChecks buffer (value kind a b flags)) 0 ≡ 14 → ⊥) → writableRecord (value kind a b flags) ≡ true
   value-writable ne = bool-cases (writableRecord (value kind a b flags)) (λ t. t) (λ t. absurd (ne (value-fields buffer (value kind a b flags) t)))
 
 -- Law: what passes the second check is in range, and a string's text is UTF-8.
-pub part-passed : (buffer : List ℕ) (kind a b flags : ℕ) → first (partChecks buffer (value kind a b flags)) ≡ 0
+pub part-passed : (buffer : List ℕ) (kind a b flags : ℕ) → Passes (partChecks buffer (value kind a b flags))
     → (ranged buffer (value kind a b flags) ≡ true) × (kind ≡ 8 → isUtf8 (part buffer a b) ≡ true)
-part-passed buffer kind a b flags e =
-    let one = first-passed 16 (ranged buffer (value kind a b flags)) _ (λ z. omega arith) e in
-    let two = first-passed 15 (not (eqb kind 8) || isUtf8 (part buffer a b)) _ (λ z. omega arith) (one .1) in
-    (one .0, λ k. rw (eq-eqb kind 8 k) at (two .0))
+part-passed buffer kind a b flags p = (p .0, λ k. rw (eq-eqb kind 8 k) at (p .1 .0))
 
 -- Law: a value that passes has its written form, and a string's text is UTF-8.
-pub passed : (buffer : List ℕ) (kind a b flags : ℕ) → first (valueChecks buffer (value kind a b flags)) ≡ 0
+pub passed : (buffer : List ℕ) (kind a b flags : ℕ) → Passes (valueChecks buffer (value kind a b flags))
     → (writableRecord (value kind a b flags) ≡ true) × (ranged buffer (value kind a b flags) ≡ true)
     × (valueAnswer buffer (value kind a b flags) ≡ written (valueBytes buffer (value kind a b flags))) × (kind ≡ 8 → isUtf8 (part buffer a b) ≡ true)
-passed buffer kind a b flags e =
-    let one = first-passed 14 (writableRecord (value kind a b flags)) (partChecks buffer (value kind a b flags)) (λ z. omega arith) e in
-    let two = part-passed buffer kind a b flags (one .1) in
-    (one .0, two .0, form-whole buffer (value kind a b flags) (one .0) (two .0), two .1)
+passed buffer kind a b flags p =
+    let two = part-passed buffer kind a b flags (p .1) in
+    (p .0, two .0, form-whole buffer (value kind a b flags) (p .0) (two .0), two .1)
 
 -- Law: an accepted value is writable, and where it points, points into the bytes that it was read from.
 pub accepted-writable : (s : List ℕ) (v : Record) (used : ℕ) → typed s ≡ done v used → (writableRecord v ≡ true) × (ranged s v ≡ true)

@@ -11,7 +11,7 @@ use lib.ListN.{length, take, drop, length-append, length-take, length-drop}
 use lib.Seq.{length-take-le}
 use borrow.Author.Tests.{le-leb, lt-leb, le-ltb, ne-eqb, leb-true}
 use Rattle.answer.specs.Answer.{refused, written}
-use Rattle.answer.specs.Order.{inOrder, first}
+use Rattle.answer.specs.Order.{inOrder}
 use Rattle.varint.specs.Number.{numberBytes}
 use Rattle.answer.proofs.Cases.{lt-or-le}
 use Rattle.varint.proofs.Writing.{length-most}

@@ -6,7 +6,7 @@ use Prim.Native.Nat.{ℕ, _+_, _*_}
 use lib.Dec.{leb}
 use lib.ListN.{length, take, drop}
 use Rattle.answer.specs.Answer.{Answer, done, refused, written}
-use Rattle.answer.specs.Order.{after}
+use Rattle.answer.specs.Order.{inOrder}
 use Rattle.varint.specs.Number.{numberBytes}
 use Rattle.types.specs.Value.{Shape, nothing, flag, integer, address, text, reserved, shape, Record, value, points, inFields, inFlags}
 
@@ -47,7 +47,7 @@ ranged buffer (value kind a b flags) = cond (points (shape kind)) (inside buffer
 
 -- What writing comes to: 14 where a number is outside its field, 16 where the record points outside, else its bytes.
 unfoldable pub valueAnswer : List ℕ → Record → Answer (List ℕ)
-valueAnswer buffer v = after ((14, writableRecord v) ∷ (16, ranged buffer v) ∷ []) (written (valueBytes buffer v))
+valueAnswer buffer v = inOrder ((refused 14 0, writableRecord v) ∷ (refused 16 0, ranged buffer v) ∷ []) (written (valueBytes buffer v))
 
 -- its length, 0 where there is none
 abbrev pub lengthOf : Answer (List ℕ) → ℕ

@@ -13,7 +13,7 @@ use lib.ListN.{length}
 use Rattle.answer.specs.declared.Written.{Written}
 use Rattle.answer.specs.Answer.{Answer, done, refused, written, within}
 use Rattle.answer.specs.Writes.{Writes}
-use Rattle.answer.specs.Order.{first, after}
+use Rattle.answer.specs.Order.{inOrder, linesAt}
 use Rattle.types.specs.Value.{Span, span, string, Record, value, typed}
 use Rattle.types.specs.Form.{stringBytes, valueBytes, writableRecord, valueAnswer, lengthOf}
 use Rattle.types.specs.Check.{stringChecks, partChecks, valueChecks}
@@ -46,13 +46,13 @@ Writable v r = r ≡ writableRecord (recordOf v)
 
 -- the number that a string is refused with, or a value past 14, or a value; 0 for none
 abbrev pub CheckString : ℕ → ℕ → List ℕ → ℕ → Type 0
-CheckString start len buffer r = r ≡ first (stringChecks buffer start len)
+CheckString start len buffer r = r ≡ inOrder (stringChecks buffer start len) 0
 
 abbrev pub CheckPart : Value → List ℕ → ℕ → Type 0
-CheckPart v buffer r = r ≡ first (partChecks buffer (recordOf v))
+CheckPart v buffer r = r ≡ inOrder (partChecks buffer (recordOf v)) 0
 
 abbrev pub CheckValue : Value → List ℕ → ℕ → Type 0
-CheckValue v buffer r = r ≡ first (valueChecks buffer (recordOf v))
+CheckValue v buffer r = r ≡ inOrder (valueChecks buffer (recordOf v)) 0
 
 abbrev pub ValueLen : Value → List ℕ → ℕ → Type 0
 ValueLen v buffer r = r ≡ lengthOf (valueAnswer buffer (recordOf v))
@@ -60,8 +60,8 @@ ValueLen v buffer r = r ≡ lengthOf (valueAnswer buffer (recordOf v))
 -- both the number and the length, 0 where there is a number
 abbrev pub MeasureValue : Value → List ℕ → Measured → Type 0
 MeasureValue v buffer r =
-    (r .number ≡ first (valueChecks buffer (recordOf v)))
-    × (r .len ≡ lengthOf (after (valueChecks buffer (recordOf v)) (written (valueBytes buffer (recordOf v)))))
+    (r .number ≡ inOrder (valueChecks buffer (recordOf v)) 0)
+    × (r .len ≡ lengthOf (inOrder (linesAt 0 (valueChecks buffer (recordOf v))) (written (valueBytes buffer (recordOf v)))))
 
 -- what is written at the front of old, which is new afterwards
 abbrev pub WriteString : List ℕ → Written → List ℕ → List ℕ → Type 0

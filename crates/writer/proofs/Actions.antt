@@ -1,5 +1,5 @@
 -- Laws about actions: how their checks and their written forms unroll.
-use mathlib.Core.Path.{_≡_, refl, sym, ap, subst, _∙_}
+use mathlib.Core.Path.{_≡_, ap, _∙_}
 use mathlib.Core.Bool.{true, false}
 use mathlib.Core.List.{List, _∷_}
 use Prim.Native.Nat.{ℕ, _+_, _≤_, _<_}
@@ -8,17 +8,17 @@ use lib.Dec.{leb}
 use lib.ListN.{length}
 use borrow.Author.Tests.{le-leb, lt-leb, eq-eqb, ne-eqb, leb-true, leb-false}
 use Rattle.varint.specs.Number.{numberBytes}
-use Rattle.answer.specs.Order.{first}
+use Rattle.answer.specs.Order.{inOrder}
+use Rattle.answer.specs.Inner.{Passes}
 use Rattle.answer.proofs.Cases.{bool-cases, true-false}
-use Rattle.answer.proofs.Order.{first-fails, first-holds, first-passed}
+use Rattle.answer.proofs.Order.{order-fails, order-holds}
 use Rattle.types.specs.Form.{stringBytes}
-use Rattle.types.specs.declared.Measured.{Measured}
 use Rattle.types.specs.Promise.{recordOf}
 use Rattle.frame.specs.declared.Action.{Action}
-use Rattle.frame.specs.Records.{actionAt, keyOf}
+use Rattle.frame.specs.Records.{keyOf}
 use Rattle.writer.specs.Pair.{pairBytes, pairChecks}
-use Rattle.writer.specs.Action.{noValue, actionWritable, actionBytes, actionChecks, actionRefusal}
-use Rattle.writer.specs.Inner.{capped, Measures}
+use Rattle.writer.specs.Action.{noValue, actionWritable, actionBytes, actionChecks}
+use Rattle.writer.specs.Inner.{Formed}
 use Rattle.types.proofs.Writing.{string-long}
 use Rattle.writer.proofs.Pairs.{formed-passed}
 
@@ -44,11 +44,11 @@ module _ (x : Action) where
       bool-cases (leb (x .scope) 4) (λ t. leb-true (x .scope) 4 t) (λ t. true-false e (scope-out (leb-false (x .scope) 4 t)))
 
 module _ (buffer : List ℕ) (x : Action) where
-  pub action-fields : actionWritable x ≡ false → first (actionChecks buffer x) ≡ 14
-  action-fields e = first-fails 14 _ _ e
+  pub action-fields : actionWritable x ≡ false → inOrder (actionChecks buffer x) 0 ≡ 14
+  action-fields e = order-fails 14 _ _ 0 e
 
-  pub action-pair : actionWritable x ≡ true → first (actionChecks buffer x) ≡ first (pairChecks buffer (x .pair))
-  action-pair e = first-holds 14 _ _ e
+  pub action-pair : actionWritable x ≡ true → inOrder (actionChecks buffer x) 0 ≡ inOrder (pairChecks buffer (x .pair)) 0
+  action-pair e = order-holds 14 _ _ 0 e
 
   pub set-bytes : x .verb ≡ 1 → actionBytes buffer x ≡ 1 ∷ 3 ∷ x .scope ∷ pairBytes buffer (x .pair)
   unfolding actionBytes
@@ -59,26 +59,15 @@ module _ (buffer : List ℕ) (x : Action) where
   unset-bytes ne = rw (ne-eqb (x .verb) 1 ne)
 
   -- an action that passes
-  module _ (e : first (actionChecks buffer x) ≡ 0) where
+  module _ (p : Passes (actionChecks buffer x)) where
     pub passed-scope : x .scope ≤ 4
-    passed-scope = writable-scope x (first-passed 14 (actionWritable x) _ (λ z. omega arith) e .0)
+    passed-scope = writable-scope x (p .0)
 
-    pub passed-pair : first (pairChecks buffer (x .pair)) ≡ 0
-    passed-pair = first-passed 14 (actionWritable x) _ (λ z. omega arith) e .1
+    pub passed-form : Formed buffer (x .pair)
+    passed-form = formed-passed buffer (x .pair) (p .1)
 
     pub unset-long : (x .verb ≡ 1 → ⊥) → length (actionBytes buffer x) ≡ 3 + (length (numberBytes (x .pair .len)) + x .pair .len)
-    unset-long ne = ap length (unset-bytes ne) ∙ omega (arith, string-long buffer (x .pair .start) (x .pair .len) (formed-passed buffer (x .pair) passed-pair .key))
+    unset-long ne = ap length (unset-bytes ne) ∙ omega (arith, string-long buffer (x .pair .start) (x .pair .len) (passed-form .key))
 
     pub set-long : x .verb ≡ 1 → length (actionBytes buffer x) ≡ 3 + length (pairBytes buffer (x .pair))
     set-long s = ap length (set-bytes s) ∙ omega arith
-
-pub action-number : (buffer actions : List ℕ) (i : ℕ) → actionRefusal buffer actions i ≡ first (actionChecks buffer (actionAt actions i))
-unfolding actionRefusal
-action-number buffer actions i = refl
-
--- what measuring action i of a table found
-pub measured-action : (buffer actions : List ℕ) (i : ℕ) {most : ℕ} {r : Measured} (x : Action) → x ≡ actionAt actions i → Measures (actionChecks buffer x) most (actionBytes buffer x) r
-    → (actionRefusal buffer actions i ≡ r .number) × (r .number ≡ 0 → r .len ≡ capped most (length (actionBytes buffer (actionAt actions i))))
-measured-action buffer actions i {most} {r} x e m =
-    let there = subst (λ (y : Action). Measures (actionChecks buffer y) most (actionBytes buffer y) r) e m in
-    (action-number buffer actions i ∙ sym (there .number), there .len)

@@ -7,17 +7,16 @@ use native.Mathlib.Omega.{arith}
 use lib.Dec.{eqb}
 use lib.ListN.{length}
 use borrow.Author.Tests.{le-leb, lt-leb, eq-eqb, ne-eqb, eqb-true, eqb-false}
-use Rattle.answer.specs.declared.Refusal.{Refusal}
 use Rattle.answer.specs.Answer.{Answer, refused}
-use Rattle.answer.specs.Order.{inOrder, first, unless, after, firstRefused}
+use Rattle.answer.specs.Order.{Check, inOrder, eachInOrder}
+use Rattle.answer.specs.Inner.{Sound}
 use Rattle.answer.specs.Table.{holds}
 use Rattle.answer.proofs.Cases.{bool-cases, true-false}
-use Rattle.answer.proofs.Order.{unless-refused, unless-none}
+use Rattle.answer.proofs.Order.{each-pass}
 use Rattle.frame.specs.declared.Head.{Head}
 use Rattle.frame.specs.Records.{pairWidth, actionWidth, messageWidth}
-use Rattle.writer.specs.Pair.{pairRefusal, kvRefusal}
-use Rattle.writer.specs.Action.{actionRefusal}
-use Rattle.writer.specs.Message.{messageRefusal}
+use Rattle.writer.specs.Pair.{kvChecks}
+use Rattle.writer.specs.Inner.{pairOrder, actionOrder, messageOrder}
 use Rattle.writer.specs.Frame.{limited, finAlone, agentAllowed, kvAllowed, pairsBytes, kvAnswer, actionsBytes, actionsAnswer, messagesBytes, notifyAnswer}
 
 -- ---- which metadata is writable
@@ -53,46 +52,47 @@ module _ (h : Head) where
       (λ d.
       true-false e (kv-other (eqb-false (h .kind) 1 a) (eqb-false (h .kind) 2 b) (eqb-false (h .kind) 101 c) (eqb-false (h .kind) 102 d))))))
 
--- ---- metadata, a count of records, and then the first record that is refused
+-- ---- metadata, a count of records, and then the records in their order
 
 -- the answer of a list of records: which metadata is allowed, how wide a record is, what refuses one and what comes after
-abbrev pub listAnswer : Bool → ℕ → List ℕ → ℕ → (ℕ → ℕ) → Answer (List ℕ) → Answer (List ℕ)
-listAnswer allowed width table count number a = after ((14, allowed) ∷ (16, holds width table count) ∷ []) (unless (firstRefused number count) a)
+abbrev pub listAnswer : Bool → ℕ → List ℕ → ℕ → (ℕ → List Check) → Answer (List ℕ) → Answer (List ℕ)
+listAnswer allowed width table count checks a =
+    inOrder ((refused 14 0, allowed) ∷ (refused 16 0, holds width table count) ∷ []) (eachInOrder checks 0 count a)
 
-module _ (allowed : Bool) (width : ℕ) (table : List ℕ) (count : ℕ) (number : ℕ → ℕ) (a : Answer (List ℕ)) where
-  pub list-metadata : allowed ≡ false → listAnswer allowed width table count number a ≡ refused 14 0
+module _ (allowed : Bool) (width : ℕ) (table : List ℕ) (count : ℕ) (checks : ℕ → List Check) (a : Answer (List ℕ)) where
+  pub list-metadata : allowed ≡ false → listAnswer allowed width table count checks a ≡ refused 14 0
   unfolding inOrder
   list-metadata e = rw e
 
-  pub list-count : allowed ≡ true → length table < count * width → listAnswer allowed width table count number a ≡ refused 16 0
+  pub list-count : allowed ≡ true → length table < count * width → listAnswer allowed width table count checks a ≡ refused 16 0
   unfolding inOrder
   list-count e l = rw (e, lt-leb (count * width) (length table) l)
 
-  module _ (e : allowed ≡ true) (l : count * width ≤ length table) where
-    held : listAnswer allowed width table count number a ≡ unless (firstRefused number count) a
-    unfolding inOrder
-    held = rw (e, le-leb (count * width) (length table) l)
-
-    pub list-refused : (r : Refusal) → r ≡ firstRefused number count → (r .number ≡ 0 → ⊥) → listAnswer allowed width table count number a ≡ refused (r .number) (r .place)
-    list-refused r is ne = held ∙ rw (← is) (unless-refused r a ne)
-
-    pub list-passed : firstRefused number count .number ≡ 0 → listAnswer allowed width table count number a ≡ a
-    list-passed z = held ∙ unless-none (firstRefused number count) a z
+  pub list-held : allowed ≡ true → count * width ≤ length table → listAnswer allowed width table count checks a ≡ eachInOrder checks 0 count a
+  unfolding inOrder
+  list-held e l = rw (e, le-leb (count * width) (length table) l)
 
 -- both writers of one list have such an answer
 pub kv-list : (h : Head) (limit : ℕ) (buffer pairs : List ℕ) (count : ℕ)
-    → kvAnswer h limit buffer pairs count ≡ listAnswer (kvAllowed h) pairWidth pairs count (kvRefusal buffer pairs) (limited limit h (pairsBytes buffer pairs count))
+    → kvAnswer h limit buffer pairs count ≡ listAnswer (kvAllowed h) pairWidth pairs count (kvChecks buffer pairs) (limited limit h (pairsBytes buffer pairs count))
 unfolding kvAnswer
 kv-list h limit buffer pairs count = refl
 
 pub actions-list : (h : Head) (limit : ℕ) (buffer actions : List ℕ) (count : ℕ)
-    → actionsAnswer h limit buffer actions count ≡ listAnswer (finAlone h) actionWidth actions count (actionRefusal buffer actions) (limited limit h (actionsBytes buffer actions count))
+    → actionsAnswer h limit buffer actions count ≡ listAnswer (finAlone h) actionWidth actions count (actionOrder buffer actions) (limited limit h (actionsBytes buffer actions count))
 unfolding actionsAnswer
 actions-list h limit buffer actions count = refl
 
 -- ---- the NOTIFY writer's answer
 
 module _ (h : Head) (limit : ℕ) (buffer messages : List ℕ) (count : ℕ) (pairs : List ℕ) (total : ℕ) where
+  -- what comes after the lines of the frame, and after the messages
+  abbrev pub notifyArguments : Answer (List ℕ)
+  notifyArguments = eachInOrder (pairOrder buffer pairs) 0 total (limited limit h (messagesBytes buffer messages count pairs))
+
+  abbrev pub notifyRecords : Answer (List ℕ)
+  notifyRecords = eachInOrder (messageOrder buffer total messages count) 0 count notifyArguments
+
   pub notify-metadata : finAlone h ≡ false → notifyAnswer h limit buffer messages count pairs total ≡ refused 14 0
   unfolding notifyAnswer inOrder
   notify-metadata e = rw e
@@ -113,21 +113,14 @@ module _ (h : Head) (limit : ℕ) (buffer messages : List ℕ) (count : ℕ) (pa
         notify-stray s = rw (e, le-leb (count * messageWidth) (length messages) m, le-leb (total * pairWidth) (length pairs) p, s)
 
         module _ (s : not (eqb count 0) || eqb total 0 ≡ true) where
-          held-both : notifyAnswer h limit buffer messages count pairs total
-              ≡ unless (firstRefused (messageRefusal buffer total messages count) count)
-              (unless (firstRefused (pairRefusal buffer pairs) total) (limited limit h (messagesBytes buffer messages count pairs)))
+          pub notify-held : notifyAnswer h limit buffer messages count pairs total ≡ notifyRecords
           unfolding notifyAnswer inOrder
-          held-both = rw (e, le-leb (count * messageWidth) (length messages) m, le-leb (total * pairWidth) (length pairs) p, s)
+          notify-held = rw (e, le-leb (count * messageWidth) (length messages) m, le-leb (total * pairWidth) (length pairs) p, s)
 
-          pub notify-message : (r : Refusal) → r ≡ firstRefused (messageRefusal buffer total messages count) count → (r .number ≡ 0 → ⊥)
-              → notifyAnswer h limit buffer messages count pairs total ≡ refused (r .number) (r .place)
-          notify-message r is ne = held-both ∙ rw (← is) (unless-refused r _ ne)
+          module _ (sound : Sound (messageOrder buffer total messages count) count) where
+            pub notify-named : notifyAnswer h limit buffer messages count pairs total ≡ notifyArguments
+            notify-named = notify-held ∙ each-pass (messageOrder buffer total messages count) notifyArguments count sound
 
-          module _ (z : firstRefused (messageRefusal buffer total messages count) count .number ≡ 0) where
-            pub notify-pair : (r : Refusal) → r ≡ firstRefused (pairRefusal buffer pairs) total → (r .number ≡ 0 → ⊥)
-                → notifyAnswer h limit buffer messages count pairs total ≡ refused (r .number) (r .place)
-            notify-pair r is ne = held-both ∙ unless-none _ _ z ∙ rw (← is) (unless-refused r _ ne)
-
-            pub notify-passed : firstRefused (pairRefusal buffer pairs) total .number ≡ 0
+            pub notify-passed : Sound (pairOrder buffer pairs) total
                 → notifyAnswer h limit buffer messages count pairs total ≡ limited limit h (messagesBytes buffer messages count pairs)
-            notify-passed none = held-both ∙ unless-none _ _ z ∙ unless-none _ _ none
+            notify-passed passed = notify-named ∙ each-pass (pairOrder buffer pairs) (limited limit h (messagesBytes buffer messages count pairs)) total passed

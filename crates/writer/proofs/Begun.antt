@@ -12,7 +12,7 @@ use Rattle.answer.specs.declared.Written.{Written}
 use Rattle.answer.specs.declared.Written.the-variants as w
 use Rattle.answer.specs.Answer.{Answer, done, refused, written, within, tells, leaves}
 use Rattle.answer.specs.Writes.{said, Writes}
-use Rattle.answer.specs.Order.{inOrder, first}
+use Rattle.answer.specs.Order.{inOrder}
 use Rattle.answer.proofs.Cases.{lt-or-le, not-both}
 use Rattle.answer.proofs.Output.{writes-whole}
 use Rattle.answer.proofs.Parts.{both-start, both-room, both-leaves}

@@ -1,28 +1,29 @@
 -- The loop that checks and measures a table's records: those before i pass, and `len` is how many bytes they have as far as it matters.
-use mathlib.Core.Path.{_≡_, sym, ap, _∙_}
+use mathlib.Core.Path.{_≡_, refl, sym, ap, _∙_}
 use mathlib.Core.List.{List, [], _∷_, _++_, append-nil}
 use Prim.Native.Nat.{ℕ, _+_, _≤_, _<_}
 use native.Mathlib.Omega.{arith}
 use lib.ListN.{length, length-append}
 use Rattle.answer.specs.Table.{records, joined}
-use Rattle.answer.specs.Inner.{Sound}
-use Rattle.answer.proofs.Order.{sound-none, sound-on, none-refused, refused-here}
+use Rattle.answer.specs.Order.{Check}
+use Rattle.answer.specs.Inner.{Passes, Sound}
+use Rattle.answer.proofs.Order.{Refuses, sound-none, sound-on, each-refuse}
 use Rattle.answer.proofs.Records.{records-none, records-snoc, joined-none, joined-on, joined-both}
 use Rattle.writer.specs.Inner.{capped, Checks}
 use Rattle.writer.proofs.Capped.{capped-in, capped-most, capped-left, capped-right}
 
-pub record Checking {A : Type 0} (number : ℕ → ℕ) (bytes : A → List ℕ) (at : ℕ → A) (most len i : ℕ) : Type 0 where
-  pub sound : Sound number i
+pub record Checking {A : Type 0} (checks : ℕ → List Check) (bytes : A → List ℕ) (at : ℕ → A) (most len i : ℕ) : Type 0 where
+  pub sound : Sound checks i
   pub measured : len ≡ capped most (length (joined bytes (records at 0 i)))
 
-pub checking-none : {A : Type 0} (number : ℕ → ℕ) (bytes : A → List ℕ) (at : ℕ → A) (most : ℕ) → Checking number bytes at most 0 0
-checking-none number bytes at most =
+pub checking-none : {A : Type 0} (checks : ℕ → List Check) (bytes : A → List ℕ) (at : ℕ → A) (most : ℕ) → Checking checks bytes at most 0 0
+checking-none checks bytes at most =
     record {
       sound = sound-none;
       measured = sym (ap (λ (l : List ℕ). capped most (length l)) (ap (joined bytes) (records-none at 0) ∙ joined-none bytes) ∙ capped-in most 0 (omega arith));
     }
 
-module _ {A : Type 0} {number : ℕ → ℕ} {bytes : A → List ℕ} {at : ℕ → A} {most len i : ℕ} (c : Checking number bytes at most len i) where
+module _ {A : Type 0} {checks : ℕ → List Check} {bytes : A → List ℕ} {at : ℕ → A} {most len i : ℕ} (c : Checking checks bytes at most len i) where
   pub checking-small : len ≤ most + 1
   checking-small = omega (arith, c .measured, capped-most most (length (joined bytes (records at 0 i))))
 
@@ -35,10 +36,10 @@ module _ {A : Type 0} {number : ℕ → ℕ} {bytes : A → List ℕ} {at : ℕ 
       ∙ length-append (joined bytes (records at 0 i)) (bytes (at i))
 
   -- one record more
-  pub checking-on : number i ≡ 0 → (n k : ℕ) → n ≡ capped most (length (bytes (at i))) → k ≡ capped most (len + n) → Checking number bytes at most k (i + 1)
-  checking-on e n k en ek =
+  pub checking-on : Passes (checks i) → (n k : ℕ) → n ≡ capped most (length (bytes (at i))) → k ≡ capped most (len + n) → Checking checks bytes at most k (i + 1)
+  checking-on p n k en ek =
       record {
-        sound = sound-on (c .sound) e;
+        sound = sound-on (c .sound) p;
         measured =
             ek
             ∙ ap (λ (m : ℕ). capped most (len + m)) en
@@ -49,15 +50,21 @@ module _ {A : Type 0} {number : ℕ → ℕ} {bytes : A → List ℕ} {at : ℕ 
       }
 
   -- record i is refused
-  pub checking-here : (count n : ℕ) → i < count → number i ≡ n → (n ≡ 0 → ⊥) → (all : List ℕ)
-      → Checks number count most all (record { refusal = record { number = n; place = i }; len = 0 })
-  checking-here count n h e ne all = record { refusal = sym (refused-here number count i n h (c .sound) e ne); measured = λ z. absurd (ne z) }
+  pub checking-here : (count n : ℕ) → i < count → Refuses (checks i) n → (n ≡ 0 → ⊥) → (all : List ℕ)
+      → Checks checks count most all (record { refusal = record { number = n; place = i }; len = 0 })
+  checking-here count n h r ne all =
+      record {
+        refuses = λ ne a. each-refuse checks a count i n h (c .sound) r;
+        sound = λ z. absurd (ne z);
+        measured = λ z. absurd (ne z);
+      }
 
   -- none is
   pub checking-all : (count : ℕ) → i ≡ count
-      → Checks number count most (joined bytes (records at 0 count)) (record { refusal = record { number = 0; place = 0 }; len = len })
+      → Checks checks count most (joined bytes (records at 0 count)) (record { refusal = record { number = 0; place = 0 }; len = len })
   checking-all count e =
       record {
-        refusal = sym (none-refused number count (rw e at (c .sound)));
+        refuses = λ ne. absurd (ne refl);
+        sound = λ z. rw e at (c .sound);
         measured = λ z. c .measured ∙ ap (λ (k : ℕ). capped most (length (joined bytes (records at 0 k)))) e;
       }

@@ -1,6 +1,6 @@
 -- Payloads joined and told apart, of what accepted calls leave in their output: the payload of two lists joined is the first payload followed by
 -- the second, an empty list gives no byte, and lists with different records never give the same payload. (Spelled says what is different.)
-use mathlib.Core.Path.{_≡_, sym, ap, ap₂, _∙_}
+use mathlib.Core.Path.{_≡_, ap, ap₂, _∙_}
 use mathlib.Core.Bool.{Bool}
 use mathlib.Core.List.{List, [], _++_}
 use Prim.Native.Nat.{ℕ, _+_, _*_, _^_, _≤_, _<_}
@@ -20,8 +20,7 @@ use Rattle.writer.specs.Action.{actionBytes}
 use Rattle.writer.specs.Message.{messageBytes}
 use Rattle.writer.specs.Frame.{headOf, kvAnswer, actionsAnswer, notifyAnswer}
 use Rattle.writer.specs.Promise.{WriteKv, WriteActions, WriteNotify}
-use Rattle.writer.proofs.Pairs.{formed-at, kv-passed}
-use Rattle.writer.proofs.Actions.{action-number}
+use Rattle.writer.proofs.Pairs.{formed-passed, kv-passed}
 use Rattle.writer.proofs.Messages.{all-ready}
 use Rattle.writer.proofs.Laws.{kv-accepted, kv-wrote, actions-accepted, actions-wrote, notify-accepted, notify-passed-records, notify-wrote}
 use Rattle.writer.proofs.Spelled.{Item, itemOf, itemAt, itemBytes, item-bytes, ItemOk, item-ok, item-some, item-front, Act, actOf, actBytes, act-bytes, ActOk, act-ok, act-some, act-front, Say, sayOf, sayBytes, say-bytes, SayOk, say-ok, say-some, say-front}
@@ -71,7 +70,7 @@ module _ (a : AckCall) where
   ack-spelled =
       let sound = actions-accepted (ackHead a) (a .limit) (a .buffer) (a .actions) (a .count) (ack-given .bytes) (a .n) (ack-given .is) .2 in
       spelled (actionBytes (a .buffer)) (actionAt (a .actions)) actBytes ActOk (actAt a) (λ i. act-bytes (a .buffer) (actionAt (a .actions) i)) (a .count)
-      (λ i h l. act-ok (a .buffer) (actionAt (a .actions) i) (sym (action-number (a .buffer) (a .actions) i) ∙ sound .each i h) l)
+      (λ i h l. act-ok (a .buffer) (actionAt (a .actions) i) (sound .each i h) l)
       (ackHead a) (a .limit) (a .small) ack-given
       (actions-wrote (ackHead a) (a .limit) (a .buffer) (a .actions) (a .count) (ack-given .bytes) (a .n) (ack-given .is))
 
@@ -142,7 +141,7 @@ module _ (a : KvCall) where
   kv-spelled =
       let sound = kv-accepted (kvHead a) (a .limit) (a .buffer) (a .pairs) (a .count) (kv-given .bytes) (a .n) (kv-given .is) .2 in
       spelled (pairBytes (a .buffer)) (pairAt (a .pairs)) itemBytes ItemOk (itemAt (a .buffer) (a .pairs)) (λ i. item-bytes (a .buffer) (pairAt (a .pairs) i)) (a .count)
-      (λ i h l. item-ok (a .buffer) (pairAt (a .pairs) i) (formed-at (a .buffer) (a .pairs) i (kv-passed (a .buffer) (a .pairs) i (sound .each i h))) l)
+      (λ i h l. item-ok (a .buffer) (pairAt (a .pairs) i) (formed-passed (a .buffer) (pairAt (a .pairs) i) (kv-passed (a .buffer) (a .pairs) i (sound .each i h))) l)
       (kvHead a) (a .limit) (a .small) kv-given
       (kv-wrote (kvHead a) (a .limit) (a .buffer) (a .pairs) (a .count) (kv-given .bytes) (a .n) (kv-given .is))
 

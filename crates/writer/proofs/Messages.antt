@@ -6,14 +6,14 @@ use mathlib.Core.List.{List, [], _∷_, _++_, append-assoc, append-nil}
 use Prim.Native.Nat.{ℕ, zero, suc, _+_, _-_, _*_, _≤_, _<_}
 use native.Mathlib.Numerals.{add-one}
 use native.Mathlib.Omega.{arith}
-use lib.Dec.{eqb, leb}
+use lib.Dec.{eqb}
 use lib.ListN.{length, length-append}
 use borrow.Author.Tests.{le-leb, lt-leb, eq-eqb, eqb-true, eqb-false, leb-true}
-use Rattle.answer.specs.Order.{inOrder, first}
+use Rattle.answer.specs.Order.{inOrder}
 use Rattle.answer.specs.Table.{records, joined}
-use Rattle.answer.specs.Inner.{Sound}
+use Rattle.answer.specs.Inner.{Passes, Sound}
 use Rattle.answer.proofs.Cases.{bool-cases}
-use Rattle.answer.proofs.Order.{first-fails, first-passed}
+use Rattle.answer.proofs.Order.{order-fails}
 use Rattle.answer.proofs.Records.{records-snoc, records-both, joined-both}
 use Rattle.varint.specs.Number.{numberBytes}
 use Rattle.types.specs.Form.{part, stringBytes}
@@ -21,31 +21,32 @@ use Rattle.types.specs.Check.{stringChecks}
 use Rattle.frame.specs.declared.Pair.{Pair}
 use Rattle.frame.specs.declared.Message.{Message}
 use Rattle.frame.specs.Records.{messageAt, pairWidth, pairAt}
-use Rattle.writer.specs.Pair.{pairBytes, pairRefusal}
-use Rattle.writer.specs.Message.{nameBytes, messageBytes, messageChecks, runStart, messageRefusal}
+use Rattle.writer.specs.Pair.{pairBytes}
+use Rattle.writer.specs.Message.{nameBytes, messageBytes, messageChecks, runStart}
 use Rattle.writer.specs.Frame.{pairsBytes, messagesBytes}
-use Rattle.writer.specs.Inner.{AllReady}
+use Rattle.writer.specs.Inner.{pairOrder, messageOrder, AllReady}
 use Rattle.types.proofs.Writing.{string-long}
 use Rattle.types.proofs.Checking.{string-range}
+use Rattle.writer.proofs.Pairs.{formed-passed}
 
 -- ---- a message's checks, line by line
 
 module _ (buffer : List ℕ) (total from : ℕ) (last : Bool) (m : Message) where
-  pub message-start : eqb (m .first) from ≡ false → first (messageChecks buffer total from last m) ≡ 14
-  message-start h = first-fails 14 _ _ h
+  pub message-start : eqb (m .first) from ≡ false → inOrder (messageChecks buffer total from last m) 0 ≡ 14
+  message-start h = order-fails 14 _ _ 0 h
 
-  pub message-end : eqb (m .first) from ≡ true → last ≡ true → eqb total (m .first + m .count) ≡ false → first (messageChecks buffer total from last m) ≡ 14
+  pub message-end : eqb (m .first) from ≡ true → last ≡ true → eqb total (m .first + m .count) ≡ false → inOrder (messageChecks buffer total from last m) 0 ≡ 14
   unfolding inOrder
   message-end h l e = rw (h, l, e)
 
   pub message-many : eqb (m .first) from ≡ true → (last ≡ true → eqb total (m .first + m .count) ≡ true) → 255 < m .count
-      → first (messageChecks buffer total from last m) ≡ 17
+      → inOrder (messageChecks buffer total from last m) 0 ≡ 17
   unfolding inOrder
   message-many h e l =
       bool-cases last (λ t. rw (h, t, e t, lt-leb (m .count) 255 l)) (λ t. rw (h, t, lt-leb (m .count) 255 l))
 
   pub message-name : eqb (m .first) from ≡ true → (last ≡ true → eqb total (m .first + m .count) ≡ true) → m .count ≤ 255
-      → first (messageChecks buffer total from last m) ≡ first (stringChecks buffer (m .start) (m .len))
+      → inOrder (messageChecks buffer total from last m) 0 ≡ inOrder (stringChecks buffer (m .start) (m .len)) 0
   unfolding inOrder
   message-name h e l =
       bool-cases last (λ t. rw (h, t, e t, le-leb (m .count) 255 l)) (λ t. rw (h, t, le-leb (m .count) 255 l))
@@ -57,32 +58,24 @@ record Passed (buffer : List ℕ) (total from : ℕ) (last : Bool) (m : Message)
   few : m .count ≤ 255
   name : m .start + m .len ≤ length buffer
 
-message-passed : (buffer : List ℕ) (total from : ℕ) (last : Bool) (m : Message) → first (messageChecks buffer total from last m) ≡ 0 → Passed buffer total from last m
-message-passed buffer total from last m z =
-    let one = first-passed 14 (eqb (m .first) from) _ (λ e. omega arith) z in
-    let two = first-passed 14 (not last || eqb total (m .first + m .count)) _ (λ e. omega arith) (one .1) in
-    let three = first-passed 17 (leb (m .count) 255) _ (λ e. omega arith) (two .1) in
+message-passed : (buffer : List ℕ) (total from : ℕ) (last : Bool) (m : Message) → Passes (messageChecks buffer total from last m) → Passed buffer total from last m
+message-passed buffer total from last m p =
     record {
-      starts = eqb-true (m .first) from (one .0);
-      ends = λ l. eqb-true total (m .first + m .count) (rw l at (two .0));
-      few = leb-true (m .count) 255 (three .0);
-      name = string-range buffer (m .start) (m .len) (three .1);
+      starts = eqb-true (m .first) from (p .0);
+      ends = λ l. eqb-true total (m .first + m .count) (rw l at (p .1 .0));
+      few = leb-true (m .count) 255 (p .1 .1 .0);
+      name = string-range buffer (m .start) (m .len) (p .1 .1 .1);
     }
 
 -- ---- message i of a list
-
-pub message-number : (buffer : List ℕ) (total : ℕ) (messages : List ℕ) (count i : ℕ)
-    → messageRefusal buffer total messages count i ≡ first (messageChecks buffer total (runStart messages i) (eqb (i + 1) count) (messageAt messages i))
-unfolding messageRefusal
-message-number buffer total messages count i = refl
 
 pub run-next : (messages : List ℕ) (i : ℕ) → runStart messages (i + 1) ≡ messageAt messages i .first + messageAt messages i .count
 run-next messages i = ap (runStart messages) (add-one i)
 
 -- a list that passes
-module _ (buffer : List ℕ) (total : ℕ) (messages : List ℕ) (count : ℕ) (s : Sound (messageRefusal buffer total messages count) count) where
+module _ (buffer : List ℕ) (total : ℕ) (messages : List ℕ) (count : ℕ) (s : Sound (messageOrder buffer total messages count) count) where
   passes : (i : ℕ) → i < count → Passed buffer total (runStart messages i) (eqb (i + 1) count) (messageAt messages i)
-  passes i h = message-passed buffer total (runStart messages i) (eqb (i + 1) count) (messageAt messages i) (sym (message-number buffer total messages count i) ∙ s .each i h)
+  passes i h = message-passed buffer total (runStart messages i) (eqb (i + 1) count) (messageAt messages i) (s .each i h)
 
   -- Law: each starts where the one before ended.
   pub runs-start : (i : ℕ) → i < count → messageAt messages i .first ≡ runStart messages i
@@ -109,7 +102,7 @@ module _ (buffer : List ℕ) (total : ℕ) (messages : List ℕ) (count : ℕ) (
 
 -- Messages and pairs that pass are ready to be written.
 pub all-ready : (buffer messages pairs : List ℕ) (count total : ℕ) → total * pairWidth ≤ length pairs
-    → Sound (messageRefusal buffer total messages count) count → Sound (pairRefusal buffer pairs) total → AllReady buffer pairs messages count
+    → Sound (messageOrder buffer total messages count) count → Sound (pairOrder buffer pairs) total → AllReady buffer pairs messages count
 all-ready buffer messages pairs count total held ms ps =
     record {
       each = λ i h.
@@ -118,7 +111,7 @@ all-ready buffer messages pairs count total held ms ps =
           record {
             name = p .name;
             few = omega (arith, p .few);
-            run = record { held = omega arith; each = λ j l. ps .each (messageAt messages i .first + j) (omega arith) };
+            run = record { held = omega arith; each = λ j l. formed-passed buffer _ (ps .each (messageAt messages i .first + j) (omega arith)) };
           };
     }
 
@@ -138,10 +131,6 @@ name-length buffer m h =
     ap length (name-bytes buffer m)
     ∙ length-append (stringBytes (part buffer (m .start) (m .len))) (m .count ∷ [])
     ∙ ap (λ (n : ℕ). n + 1) (string-long buffer (m .start) (m .len) h)
-
--- a message that passes has its name inside the buffer
-pub message-range : (buffer : List ℕ) (total from : ℕ) (last : Bool) (m : Message) → first (messageChecks buffer total from last m) ≡ 0 → m .start + m .len ≤ length buffer
-message-range buffer total from last m z = message-passed buffer total from last m z .name
 
 -- ---- the arguments of all messages
 
@@ -163,7 +152,7 @@ gathered-one : {A B : Type 0} (f : A → List B) (x : A) → gathered f (x ∷ [
 unfolding gathered
 gathered-one f x = append-nil (f x)
 
-module _ (buffer : List ℕ) (total : ℕ) (messages : List ℕ) (count : ℕ) (s : Sound (messageRefusal buffer total messages count) count) (pairs : List ℕ) where
+module _ (buffer : List ℕ) (total : ℕ) (messages : List ℕ) (count : ℕ) (s : Sound (messageOrder buffer total messages count) count) (pairs : List ℕ) where
   none-yet : gathered (argumentsOf pairs) (records (messageAt messages) 0 0) ≡ records (pairAt pairs) 0 0
   unfolding gathered records
   none-yet = refl
@@ -209,7 +198,7 @@ parts-length buffer pairs (m ∷ ms) =
     )
 
 -- Law: so the payload has the bytes of all names and of all pairs.
-pub payload-length : (buffer : List ℕ) (total : ℕ) (messages : List ℕ) (count : ℕ) → Sound (messageRefusal buffer total messages count) count → (pairs : List ℕ)
+pub payload-length : (buffer : List ℕ) (total : ℕ) (messages : List ℕ) (count : ℕ) → Sound (messageOrder buffer total messages count) count → (pairs : List ℕ)
     → not (eqb count 0) || eqb total 0 ≡ true
     → length (messagesBytes buffer messages count pairs) ≡ length (joined (nameBytes buffer) (records (messageAt messages) 0 count)) + length (pairsBytes buffer pairs total)
 payload-length buffer total messages count s pairs stray =

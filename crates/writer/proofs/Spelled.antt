@@ -10,10 +10,9 @@ use native.Mathlib.Omega.{arith}
 use lib.Dec.{eqb}
 use lib.ListN.{length, length-append}
 use borrow.Author.Tests.{eqb-true, eqb-false}
-use Rattle.answer.specs.Order.{first}
+use Rattle.answer.specs.Inner.{Passes}
 use Rattle.answer.specs.Table.{records, joined}
 use Rattle.answer.proofs.Cases.{bool-cases, true-false}
-use Rattle.answer.proofs.Order.{first-passed}
 use Rattle.answer.proofs.Records.{records-length, joined-same, one-of-all}
 use Rattle.answer.proofs.Each.{Each, each-record}
 use Rattle.answer.proofs.Apart.{joined-front}
@@ -27,11 +26,11 @@ use Rattle.frame.specs.declared.Action.{Action}
 use Rattle.frame.specs.declared.Message.{Message}
 use Rattle.frame.specs.Records.{pairAt, keyOf}
 use Rattle.writer.specs.Pair.{pairBytes}
-use Rattle.writer.specs.Action.{actionBytes, actionChecks, actionWritable}
+use Rattle.writer.specs.Action.{actionBytes, actionChecks}
 use Rattle.writer.specs.Message.{nameBytes, messageBytes}
 use Rattle.writer.specs.Inner.{Formed, Ready}
-use Rattle.writer.proofs.Pairs.{formed-passed, run-pair}
-use Rattle.writer.proofs.Actions.{passed-pair, passed-scope, writable-other}
+use Rattle.writer.proofs.Pairs.{run-pair}
+use Rattle.writer.proofs.Actions.{passed-scope, passed-form, writable-other}
 use Rattle.writer.proofs.Messages.{message-bytes, name-bytes}
 
 -- ---- a value's bytes
@@ -239,22 +238,17 @@ act-long x =
     (λ t. rw t (omega (arith, string-length (x .name))))
 
 -- An action that passes its checks, and whose name is not too long, is such a one.
-module _ (buffer : List ℕ) (x : Action) (e : first (actionChecks buffer x) ≡ 0) where
-  formed : Formed buffer (x .pair)
-  formed = formed-passed buffer (x .pair) (passed-pair buffer x e)
-
+module _ (buffer : List ℕ) (x : Action) (e : Passes (actionChecks buffer x)) where
   written-verb : ((x .verb ≡ 1) × Valued (actOf buffer x .value)) ⊎ ((x .verb ≡ 2) × (actOf buffer x .value ≡ []))
   written-verb =
       bool-cases (eqb (x .verb) 1)
       (λ s.
-      let v = recordOf (x .pair .value) in
-      inl (eqb-true (x .verb) 1 s, record { buffer = buffer; v = v; fields = formed .fields; range = formed .range; is = rw s }))
+      let f = passed-form buffer x e in
+      inl (eqb-true (x .verb) 1 s, record { buffer = buffer; v = recordOf (x .pair .value); fields = f .fields; range = f .range; is = rw s }))
       (λ s.
       bool-cases (eqb (x .verb) 2)
       (λ u. inr (eqb-true (x .verb) 2 u, rw s))
-      (λ u.
-      let w = first-passed 14 (actionWritable x) _ (λ z. omega arith) e .0 in
-      true-false w (writable-other x (passed-scope buffer x e) (eqb-false (x .verb) 1 s) (eqb-false (x .verb) 2 u))))
+      (λ u. true-false (e .0) (writable-other x (passed-scope buffer x e) (eqb-false (x .verb) 1 s) (eqb-false (x .verb) 2 u))))
 
   pub act-ok : length (actionBytes buffer x) < 2 ^ 64 → ActOk (actOf buffer x)
   act-ok l = record { short = omega (arith, act-long (actOf buffer x), ap length (act-bytes buffer x)); verbs = written-verb }

@@ -12,12 +12,12 @@ use mathlib.Core.Bool.{Bool, cond, _&&_, _||_}
 use mathlib.Core.List.{List, _∷_}
 use Prim.Native.Nat.{ℕ}
 use lib.Dec.{eqb, leb}
-use Rattle.answer.specs.Order.{Check, first}
+use Rattle.answer.specs.Order.{Check}
 use Rattle.types.specs.Value.{Record, value}
 use Rattle.types.specs.Form.{stringBytes}
 use Rattle.types.specs.Promise.{recordOf}
 use Rattle.frame.specs.declared.Action.{Action}
-use Rattle.frame.specs.Records.{actionAt, keyOf}
+use Rattle.frame.specs.Records.{keyOf}
 use Rattle.writer.specs.Pair.{pairBytes, pairChecks}
 
 -- a name and its value, where there is one, are written as a pair's key and value
@@ -38,7 +38,3 @@ actionWritable x = leb (x .scope) 4 && (eqb (x .verb) 1 || (eqb (x .verb) 2 && n
 -- its own numbers, and then as a pair: an unset's numbers are those of a null without flags, which is refused with none
 abbrev pub actionChecks : List ℕ → Action → List Check
 actionChecks buffer x = (14, actionWritable x) ∷ pairChecks buffer (x .pair)
-
--- what action i of a table is refused with; 0 for none
-unfoldable pub actionRefusal : List ℕ → List ℕ → ℕ → ℕ
-actionRefusal buffer actions i = first (actionChecks buffer (actionAt actions i))

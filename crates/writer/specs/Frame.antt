@@ -1,25 +1,25 @@
 -- What each writer answers, its checks in the order of docs/RULES.md. (11, where the output is too short, is answer's `within`.)
 use mathlib.Core.Bool.{Bool, true, false, cond, not, _&&_, _||_}
 use mathlib.Core.List.{List, [], _∷_, _++_}
-use Prim.Native.Nat.{ℕ}
+use Prim.Native.Nat.{ℕ, _+_}
 use lib.Dec.{eqb, leb}
 use lib.ListN.{length}
-use Rattle.answer.specs.Answer.{Answer, written}
-use Rattle.answer.specs.Order.{unless, after, firstRefused}
+use Rattle.answer.specs.Answer.{Answer, refused, written}
+use Rattle.answer.specs.Order.{inOrder, eachInOrder}
 use Rattle.answer.specs.Table.{holds, records, joined}
 use Rattle.frame.specs.declared.Head.{Head}
 use Rattle.frame.specs.Head.{headBytes, frameBytes}
 use Rattle.frame.specs.Records.{messageWidth, messageAt, pairWidth, pairAt, actionWidth, actionAt}
-use Rattle.writer.specs.Pair.{pairBytes, pairRefusal, kvRefusal}
-use Rattle.writer.specs.Action.{actionBytes, actionRefusal}
-use Rattle.writer.specs.Message.{messageBytes, messageRefusal}
+use Rattle.writer.specs.Pair.{pairBytes, pairChecks, kvChecks}
+use Rattle.writer.specs.Action.{actionBytes, actionChecks}
+use Rattle.writer.specs.Message.{messageBytes, messageChecks, runStart}
 
 abbrev pub headOf : ℕ → Bool → Bool → ℕ → ℕ → Head
 headOf kind fin abort stream frame = record { kind = kind; fin = fin; abort = abort; stream = stream; frame = frame }
 
 -- the frame, where what follows its length bytes is within the limit
 unfoldable pub limited : ℕ → Head → List ℕ → Answer (List ℕ)
-limited limit h payload = after ((12, leb (length (headBytes h ++ payload)) limit) ∷ []) (written (frameBytes h payload))
+limited limit h payload = inOrder ((refused 12 0, leb (length (headBytes h ++ payload)) limit) ∷ []) (written (frameBytes h payload))
 
 -- ---- KV frames
 
@@ -42,10 +42,10 @@ pairsBytes buffer pairs count = joined (pairBytes buffer) (records (pairAt pairs
 
 unfoldable pub kvAnswer : Head → ℕ → List ℕ → List ℕ → ℕ → Answer (List ℕ)
 kvAnswer h limit buffer pairs count =
-    after (
-    (14, kvAllowed h)
-    ∷ (16, holds pairWidth pairs count) ∷ [])
-    (unless (firstRefused (kvRefusal buffer pairs) count)
+    inOrder (
+    (refused 14 0, kvAllowed h)
+    ∷ (refused 16 0, holds pairWidth pairs count) ∷ [])
+    (eachInOrder (kvChecks buffer pairs) 0 count
     (limited limit h (pairsBytes buffer pairs count)))
 
 -- ---- ACK frames
@@ -55,10 +55,10 @@ actionsBytes buffer actions count = joined (actionBytes buffer) (records (action
 
 unfoldable pub actionsAnswer : Head → ℕ → List ℕ → List ℕ → ℕ → Answer (List ℕ)
 actionsAnswer h limit buffer actions count =
-    after (
-    (14, finAlone h)
-    ∷ (16, holds actionWidth actions count) ∷ [])
-    (unless (firstRefused (actionRefusal buffer actions) count)
+    inOrder (
+    (refused 14 0, finAlone h)
+    ∷ (refused 16 0, holds actionWidth actions count) ∷ [])
+    (eachInOrder (λ i. actionChecks buffer (actionAt actions i)) 0 count
     (limited limit h (actionsBytes buffer actions count)))
 
 -- ---- NOTIFY frames
@@ -69,11 +69,11 @@ messagesBytes buffer messages count pairs = joined (messageBytes buffer pairs) (
 -- Without a message there is to be no pair.
 unfoldable pub notifyAnswer : Head → ℕ → List ℕ → List ℕ → ℕ → List ℕ → ℕ → Answer (List ℕ)
 notifyAnswer h limit buffer messages count pairs total =
-    after (
-    (14, finAlone h)
-    ∷ (16, holds messageWidth messages count)
-    ∷ (16, holds pairWidth pairs total)
-    ∷ (14, not (eqb count 0) || eqb total 0) ∷ [])
-    (unless (firstRefused (messageRefusal buffer total messages count) count)
-    (unless (firstRefused (pairRefusal buffer pairs) total)
+    inOrder (
+    (refused 14 0, finAlone h)
+    ∷ (refused 16 0, holds messageWidth messages count)
+    ∷ (refused 16 0, holds pairWidth pairs total)
+    ∷ (refused 14 0, not (eqb count 0) || eqb total 0) ∷ [])
+    (eachInOrder (λ i. messageChecks buffer total (runStart messages i) (eqb (i + 1) count) (messageAt messages i)) 0 count
+    (eachInOrder (λ i. pairChecks buffer (pairAt pairs i)) 0 total
     (limited limit h (messagesBytes buffer messages count pairs))))

@@ -6,7 +6,7 @@ use mathlib.Core.Bool.{Bool, not, _||_}
 use mathlib.Core.List.{List, [], _∷_, _++_}
 use Prim.Native.Nat.{ℕ, zero, suc, _+_}
 use lib.Dec.{eqb, leb}
-use Rattle.answer.specs.Order.{Check, first}
+use Rattle.answer.specs.Order.{Check}
 use Rattle.answer.specs.Table.{records, joined}
 use Rattle.types.specs.Form.{part, stringBytes}
 use Rattle.types.specs.Check.{stringChecks}
@@ -34,8 +34,3 @@ messageChecks buffer total from last m =
 abbrev pub runStart : List ℕ → ℕ → ℕ
 runStart messages zero = 0
 runStart messages (suc i) = messageAt messages i .first + messageAt messages i .count
-
--- what message i of `count` is refused with; 0 for none
-unfoldable pub messageRefusal : List ℕ → ℕ → List ℕ → ℕ → ℕ → ℕ
-messageRefusal buffer total messages count i =
-    first (messageChecks buffer total (runStart messages i) (eqb (i + 1) count) (messageAt messages i))

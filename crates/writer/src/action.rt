@@ -23,14 +23,13 @@ ghost use Prim.Native.Nat.{_+_, _*_, _≤_};
 ghost use lib.ListN.{length};
 ghost use Rattle.answer.specs.Answer.{written, within, leaves};
 ghost use Rattle.answer.specs.Writes.{Writes};
-ghost use Rattle.answer.specs.Order.{first as firstOf};
-ghost use Rattle.answer.specs.Inner.{Sound};
+ghost use Rattle.answer.specs.Inner.{Passes, Sound};
 ghost use Rattle.types.specs.Promise.{recordOf};
 ghost use Rattle.frame.specs.Records.{actionWidth, actionAt};
-ghost use Rattle.writer.specs.Action.{noValue, actionWritable, actionBytes, actionChecks, actionRefusal};
+ghost use Rattle.writer.specs.Action.{noValue, actionWritable, actionBytes, actionChecks};
 ghost use Rattle.writer.specs.Frame.{limited, actionsBytes};
 ghost use Rattle.writer.specs.Promise.{WriteActions};
-ghost use Rattle.writer.specs.Inner.{capped, Measures, Checks};
+ghost use Rattle.writer.specs.Inner.{capped, actionOrder, Measures, Checks};
 
 // Record i of a table of actions.
 fn action_at(actions: &[u64], i: usize) -> Action
@@ -119,7 +118,7 @@ fn measure_action(action: Action, buffer: &[u8], most: u32) -> Measured
 // The first action that is refused, or how many bytes all have.
 fn check_actions(actions: &[u64], count: usize, buffer: &[u8], most: u32) -> Checked
     requires { ⌜ count * actionWidth ≤ length (now actions) ⌝ }
-    ensures { λ r. ⌜ Checks (actionRefusal (now (buffer .entry)) (now (actions .entry))) count most (actionsBytes (now (buffer .entry)) (now (actions .entry)) count) r ⌝ }
+    ensures { λ r. ⌜ Checks (actionOrder (now (buffer .entry)) (now (actions .entry))) count most (actionsBytes (now (buffer .entry)) (now (actions .entry)) count) r ⌝ }
 {
     let mut len = 0;
     let mut i = 0;
@@ -157,7 +156,7 @@ fn put_three(a: u8, b: u8, c: u8, out: &mut [u8])
 
 // Writes an action where there is room.
 fn put_action(action: Action, buffer: &[u8], out: &mut [u8]) -> usize
-    requires { ⌜ firstOf (actionChecks (now buffer) action) ≡ 0 ⌝ }
+    requires { ⌜ Passes (actionChecks (now buffer) action) ⌝ }
     requires { ⌜ length (actionBytes (now buffer) action) ≤ length (now out) ⌝ }
     ensures { λ r. ⌜ r ≡ length (actionBytes (now (buffer .entry)) action) ⌝ }
     ensures { λ r. ⌜ now (out .exit) ≡ leaves (written (actionBytes (now (buffer .entry)) action)) (now (out .entry)) ⌝ }
@@ -175,7 +174,7 @@ fn put_action(action: Action, buffer: &[u8], out: &mut [u8]) -> usize
 // Writes the first records of a table, one after the other, where there is room.
 fn put_actions(actions: &[u64], count: usize, buffer: &[u8], out: &mut [u8]) -> usize
     requires { ⌜ count * actionWidth ≤ length (now actions) ⌝ }
-    requires { ⌜ Sound (actionRefusal (now buffer) (now actions)) count ⌝ }
+    requires { ⌜ Sound (actionOrder (now buffer) (now actions)) count ⌝ }
     requires { ⌜ length (actionsBytes (now buffer) (now actions) count) ≤ length (now out) ⌝ }
     ensures { λ r. ⌜ r ≡ length (actionsBytes (now (buffer .entry)) (now (actions .entry)) count) ⌝ }
     ensures { λ r. ⌜ now (out .exit) ≡ leaves (written (actionsBytes (now (buffer .entry)) (now (actions .entry)) count)) (now (out .entry)) ⌝ }
@@ -242,7 +241,7 @@ fn action_frame(
     out: &mut [u8],
 ) -> Written
     requires { ⌜ count * actionWidth ≤ length (now actions) ⌝ }
-    requires { ⌜ Sound (actionRefusal (now buffer) (now actions)) count ⌝ }
+    requires { ⌜ Sound (actionOrder (now buffer) (now actions)) count ⌝ }
     requires { ⌜ len ≡ capped limit (length (actionsBytes (now buffer) (now actions) count)) ⌝ }
     ensures { λ r. ⌜ Writes (within (length (now (out .entry))) (limited limit head (actionsBytes (now (buffer .entry)) (now (actions .entry)) count))) r (now (out .entry)) (now (out .exit)) ⌝ }
 {

@@ -22,10 +22,10 @@ ghost use Rattle.answer.specs.Writes.{Writes};
 ghost use Rattle.answer.specs.Table.{records, some};
 ghost use Rattle.answer.specs.Inner.{Sound};
 ghost use Rattle.frame.specs.Records.{pairWidth, pairAt, sameKey};
-ghost use Rattle.writer.specs.Pair.{pairRefusal, kvRefusal};
+ghost use Rattle.writer.specs.Pair.{kvChecks};
 ghost use Rattle.writer.specs.Frame.{headOf, limited, agentAllowed, kvAllowed, pairsBytes};
 ghost use Rattle.writer.specs.Promise.{WriteKv};
-ghost use Rattle.writer.specs.Inner.{capped, Checks, FormedRun};
+ghost use Rattle.writer.specs.Inner.{capped, pairOrder, Checks, FormedRun};
 
 // Whether two keys are the same text.
 fn same_key(p: Pair, q: Pair, buffer: &[u8]) -> bool
@@ -43,7 +43,7 @@ fn same_key(p: Pair, q: Pair, buffer: &[u8]) -> bool
 // Whether the key of record i is that of an earlier record.
 fn key_met(pairs: &[u64], i: usize, buffer: &[u8]) -> bool
     requires { ⌜ i * pairWidth + pairWidth ≤ length (now pairs) ⌝ }
-    requires { ⌜ Sound (pairRefusal (now buffer) (now pairs)) (i + 1) ⌝ }
+    requires { ⌜ Sound (pairOrder (now buffer) (now pairs)) (i + 1) ⌝ }
     ensures { λ r. ⌜ r ≡ some (sameKey (now (buffer .entry)) (pairAt (now (pairs .entry)) i)) (records (pairAt (now (pairs .entry))) 0 i) ⌝ }
 {
     let pair = pair_at(pairs, i);
@@ -60,7 +60,7 @@ fn key_met(pairs: &[u64], i: usize, buffer: &[u8]) -> bool
 // The first record of a KV list that is refused, or how many bytes the list has.
 fn check_pairs(pairs: &[u64], count: usize, buffer: &[u8], most: u32) -> Checked
     requires { ⌜ count * pairWidth ≤ length (now pairs) ⌝ }
-    ensures { λ r. ⌜ Checks (kvRefusal (now (buffer .entry)) (now (pairs .entry))) count most (pairsBytes (now (buffer .entry)) (now (pairs .entry)) count) r ⌝ }
+    ensures { λ r. ⌜ Checks (kvChecks (now (buffer .entry)) (now (pairs .entry))) count most (pairsBytes (now (buffer .entry)) (now (pairs .entry)) count) r ⌝ }
 {
     let mut len = 0;
     let mut i = 0;

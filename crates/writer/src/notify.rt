@@ -23,14 +23,13 @@ ghost use lib.Dec.{eqb};
 ghost use lib.ListN.{length};
 ghost use Rattle.answer.specs.Answer.{written, within, leaves};
 ghost use Rattle.answer.specs.Writes.{Writes};
-ghost use Rattle.answer.specs.Order.{first as firstOf};
+ghost use Rattle.answer.specs.Order.{inOrder};
 ghost use Rattle.answer.specs.Table.{records, joined};
 ghost use Rattle.frame.specs.Records.{messageWidth, messageAt, pairWidth};
-ghost use Rattle.writer.specs.Pair.{pairRefusal};
-ghost use Rattle.writer.specs.Message.{nameBytes, messageBytes, messageChecks, messageRefusal};
+ghost use Rattle.writer.specs.Message.{nameBytes, messageBytes, messageChecks};
 ghost use Rattle.writer.specs.Frame.{limited, pairsBytes, messagesBytes};
 ghost use Rattle.writer.specs.Promise.{WriteNotify};
-ghost use Rattle.writer.specs.Inner.{capped, Checks, Ready, AllReady};
+ghost use Rattle.writer.specs.Inner.{capped, pairOrder, messageOrder, Checks, Ready, AllReady};
 
 // The most arguments that a count byte can say.
 const MOST_ARGUMENTS: u64 = 255;
@@ -69,7 +68,7 @@ fn check_message(
     total: u64,
     buffer: &[u8],
 ) -> u64
-    ensures { λ r. ⌜ r ≡ firstOf (messageChecks (now (buffer .entry)) «total» («run_first» + «run_count») last message) ⌝ }
+    ensures { λ r. ⌜ r ≡ inOrder (messageChecks (now (buffer .entry)) «total» («run_first» + «run_count») last message) 0 ⌝ }
 {
     if !ends_at(run_first, run_count, message.first) {
         return NOT_WRITABLE;
@@ -88,7 +87,7 @@ fn check_message(
 // The first message that is refused, or how many bytes all names and counts have.
 fn check_messages(messages: &[u64], count: usize, total: u64, buffer: &[u8], most: u32) -> Checked
     requires { ⌜ count * messageWidth ≤ length (now messages) ⌝ }
-    ensures { λ r. ⌜ Checks (messageRefusal (now (buffer .entry)) «total» (now (messages .entry)) count) count most (joined (nameBytes (now (buffer .entry))) (records (messageAt (now (messages .entry))) 0 count)) r ⌝ }
+    ensures { λ r. ⌜ Checks (messageOrder (now (buffer .entry)) «total» (now (messages .entry)) count) count most (joined (nameBytes (now (buffer .entry))) (records (messageAt (now (messages .entry))) 0 count)) r ⌝ }
 {
     let mut run_first = 0;
     let mut run_count = 0;
@@ -124,7 +123,7 @@ fn check_messages(messages: &[u64], count: usize, total: u64, buffer: &[u8], mos
 // The first pair that is refused, or how many bytes all pairs have. Names may be met twice.
 fn check_arguments(pairs: &[u64], count: usize, buffer: &[u8], most: u32) -> Checked
     requires { ⌜ count * pairWidth ≤ length (now pairs) ⌝ }
-    ensures { λ r. ⌜ Checks (pairRefusal (now (buffer .entry)) (now (pairs .entry))) count most (pairsBytes (now (buffer .entry)) (now (pairs .entry)) count) r ⌝ }
+    ensures { λ r. ⌜ Checks (pairOrder (now (buffer .entry)) (now (pairs .entry))) count most (pairsBytes (now (buffer .entry)) (now (pairs .entry)) count) r ⌝ }
 {
     let mut len = 0;
     let mut i = 0;

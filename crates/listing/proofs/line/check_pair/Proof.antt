@@ -3,7 +3,7 @@
 use mathlib.Core.Path.{_≡_, sym, _∙_}
 use mathlib.Core.Bool.{true}
 use borrow.Author.Tests.{not-true, not-false}
-use Rattle.answer.proofs.Order.{first-none, first-fails, first-holds}
+use Rattle.answer.proofs.Order.{order-none, order-fails, order-holds}
 use Rattle.types.specs.Form.{inside, writableRecord}
 use Rattle.types.specs.Promise.{recordOf}
 use Rattle.listing.proofs.Pieces.{pair-plain, pair-pointing, pair-fields, pair-key, pair-rest}
@@ -25,18 +25,18 @@ returns-2 c = let a = c .before .before .before .before .before .args in sym (pa
 
 returns-3 : tie.Need-returns-3
 returns-3 c = let a = c .before .before .before .before .before .before .before .before .args in
-    sym (pair-rest (a .frame .now) (a .pair) (fields (c .before .before .before .before .before)) (key (c .before .before .before)) ∙ first-holds 16 _ _ (pair-plain (a .frame .now) (a .pair) (c .if3 .taken)) ∙ first-none)
+    sym (pair-rest (a .frame .now) (a .pair) (fields (c .before .before .before .before .before)) (key (c .before .before .before)) ∙ order-holds 16 _ _ 0 (pair-plain (a .frame .now) (a .pair) (c .if3 .taken)) ∙ order-none 0)
 
 returns-4 : tie.Need-returns-4
 returns-4 c = let a = c .before .before .before .before .before .before .before .before .before .before .args in
     sym (pair-rest (a .frame .now) (a .pair) (fields (c .before .before .before .before .before .before .before)) (key (c .before .before .before .before .before))
-    ∙ first-fails 16 _ _ (pair-pointing (a .frame .now) (a .pair) (c .before .before .if3 .left) (fields (c .before .before .before .before .before .before .before)) ∙ sym (c .before .is-inside2 .ensures) ∙ not-true _ (c .if4 .taken)))
+    ∙ order-fails 16 _ _ 0 (pair-pointing (a .frame .now) (a .pair) (c .before .before .if3 .left) (fields (c .before .before .before .before .before .before .before)) ∙ sym (c .before .is-inside2 .ensures) ∙ not-true _ (c .if4 .taken)))
 
 returns-5 : tie.Need-returns-5
 returns-5 c = let a = c .before .before .before .before .before .before .before .before .before .before .args in
     sym (pair-rest (a .frame .now) (a .pair) (fields (c .before .before .before .before .before .before .before)) (key (c .before .before .before .before .before))
-    ∙ first-holds 16 _ _ (pair-pointing (a .frame .now) (a .pair) (c .before .before .if3 .left) (fields (c .before .before .before .before .before .before .before)) ∙ sym (c .before .is-inside2 .ensures) ∙ not-false _ (c .if4 .left))
-    ∙ first-none)
+    ∙ order-holds 16 _ _ 0 (pair-pointing (a .frame .now) (a .pair) (c .before .before .if3 .left) (fields (c .before .before .before .before .before .before .before)) ∙ sym (c .before .is-inside2 .ensures) ∙ not-false _ (c .if4 .left))
+    ∙ order-none 0)
 
 pub check-pair-spec : {M : Type 1} → statement M
 check-pair-spec =

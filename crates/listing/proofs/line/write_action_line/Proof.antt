@@ -1,35 +1,36 @@
 -- `listing::line::write_action_line` meets its contract: the action is refused, or `write_valued` writes the line of a set, and `write_named`
 -- that of an unset.
 -- Assumes nothing.
-use mathlib.Core.Path.{_≡_, sym, _∙_}
+use mathlib.Core.Path.{sym, _∙_}
 use Prim.Native.Nat.{_+_, _≤_}
 use native.Mathlib.Omega.{arith}
 use lib.ListN.{length}
 use borrow.Author.Tests.{leb-true}
 use Rattle.answer.specs.Answer.{written}
-use Rattle.answer.specs.Order.{first}
+use Rattle.answer.specs.Inner.{Passes}
+use Rattle.answer.proofs.Order.{passes-zero, lines-refuse, lines-pass}
 use Rattle.answer.proofs.Output.{writes-refusal}
 use Rattle.types.proofs.Writing.{part-lent}
 use Rattle.listing.specs.Lines.{actionLine}
-use Rattle.listing.specs.Check.{actionChecks}
-use Rattle.listing.proofs.Pieces.{after-refused, after-none, pair-passed, action-pair, action-set, action-unset}
+use Rattle.listing.specs.Check.{actionLineChecks}
+use Rattle.listing.proofs.Pieces.{action-set, action-unset}
 use borrow.Author.Needs.{needs}
 use Rattle.listing.proofs.line.write_action_line.Statement.{statement}
 use Rattle.listing.proofs.line.write_action_line.Tie as tie
 
-none : (c : tie.Else1) → let a = c .before .before .before .before .args in first (actionChecks (a .frame .now) (a .action)) ≡ 0
-none c = sym (c .before .check-action .ensures) ∙ c .if1 .left
+none : (c : tie.Else1) → let a = c .before .before .before .before .args in Passes (actionLineChecks (a .frame .now) (a .action))
+none c = passes-zero _ tt (sym (c .before .check-action .ensures) ∙ c .if1 .left)
 
 ends : (c : tie.Else1) → let a = c .before .before .before .before .args in a .action .pair .start + a .action .pair .len ≤ length (a .frame .now)
 ends c = let a = c .before .before .before .before .args in
-    leb-true _ _ (pair-passed (a .frame .now) (a .action .pair) (action-pair (a .frame .now) (a .action) (none c)) .1)
+    leb-true (a .action .pair .start + a .action .pair .len) (length (a .frame .now)) (none c .1 .1 .0)
 
 returns : tie.Need-returns
 returns c = let a = c .before .before .before .before .before .args in
     let f = a .frame .now in
     rw (c .refused .ensures)
     (writes-refusal (length (a .out .now)) (c .before .before .check-action .result) 0 (a .out .now)
-    (after-refused (actionChecks f (a .action)) (written (actionLine (a .index) f (a .action))) _ (c .before .before .check-action .ensures) (c .before .if1 .taken)))
+    (lines-refuse (actionLineChecks f (a .action)) _ (c .before .before .check-action .ensures) (c .before .if1 .taken) 0 (written (actionLine (a .index) f (a .action)))))
 
 add-to : tie.Need-add-to
 add-to c = omega (arith, ends c, c .before .before .before .before .good)
@@ -38,15 +39,13 @@ part-write-valued-end : tie.Need-part-write-valued-end
 part-write-valued-end c = ends (c .before .before .before .before)
 
 write-valued-requires : tie.Need-write-valued-requires
-write-valued-requires c κs = let a = c .before .before .before .before .before .before .before .before .before .before .args in
-    let p = pair-passed (a .frame .now) (a .action .pair) (action-pair (a .frame .now) (a .action) (none (c .before .before .before .before .before .before))) in
-    (omega arith, record { fields = p .0; range = p .2 })
+write-valued-requires c κs = let p = none (c .before .before .before .before .before .before) in (omega arith, record { fields = p .1 .0; range = p .1 .1 .1 .0 })
 
 returns-2 : tie.Need-returns-2
 returns-2 c = let a = c .before .before .before .before .before .before .before .before .before .before .before .before .before .args in
     let f = a .frame .now in
     let x = a .action in
-    rw (after-none (actionChecks f x) (written (actionLine (a .index) f x)) (none (c .before .before .before .before .before .before .before .before .before)), action-set f x (a .index) (c .before .before .before .before .before .before .before .if2 .taken))
+    rw (lines-pass (actionLineChecks f x) (none (c .before .before .before .before .before .before .before .before .before)) 0 (written (actionLine (a .index) f x)), action-set f x (a .index) (c .before .before .before .before .before .before .before .if2 .taken))
     (rw part-lent at (c .before .before .write-valued .ensures))
 
 part-write-named-end : tie.Need-part-write-named-end
@@ -56,7 +55,7 @@ returns-3 : tie.Need-returns-3
 returns-3 c = let a = c .before .before .before .before .before .before .before .before .before .before .before .before .before .before .before .args in
     let f = a .frame .now in
     let x = a .action in
-    rw (after-none (actionChecks f x) (written (actionLine (a .index) f x)) (none (c .before .before .before .before .before .before .before .before .before .before .before)), action-unset f x (a .index) (c .before .before .before .before .before .before .before .before .before .if2 .left))
+    rw (lines-pass (actionLineChecks f x) (none (c .before .before .before .before .before .before .before .before .before .before .before)) 0 (written (actionLine (a .index) f x)), action-unset f x (a .index) (c .before .before .before .before .before .before .before .before .before .if2 .left))
     (rw part-lent at (c .before .before .write-named .ensures))
 
 pub write-action-line-spec : {M : Type 1} → statement M

@@ -2,18 +2,20 @@
 -- Assumes nothing.
 use mathlib.Core.Path.{_≡_, sym, _∙_}
 use mathlib.Core.Bool.{true}
+use mathlib.Core.List.{[]}
 use Prim.Native.Nat.{_+_, _≤_}
 use native.Mathlib.Omega.{arith}
 use lib.ListN.{length}
 use borrow.Author.Tests.{not-true, not-false, leb-true}
-use Rattle.answer.specs.Answer.{written}
+use Rattle.answer.specs.Answer.{refused, written}
+use Rattle.answer.proofs.Order.{order-fails, lines-pass}
 use Rattle.answer.proofs.Output.{writes-refusal}
 use Rattle.types.specs.Form.{part, inside}
 use Rattle.types.proofs.Writing.{part-lent}
 use Rattle.listing.specs.Digits.{decimal, shown}
 use Rattle.listing.specs.Lines.{messageLine}
-use Rattle.listing.specs.Check.{messageChecks}
-use Rattle.listing.proofs.Pieces.{after-refused, after-none, message-parts, message-outside, message-inside}
+use Rattle.listing.specs.Check.{messageLineChecks}
+use Rattle.listing.proofs.Pieces.{message-parts}
 use borrow.Author.Needs.{needs}
 use Rattle.listing.proofs.line.write_message_line.Statement.{statement}
 use Rattle.listing.proofs.line.write_message_line.Tie as tie
@@ -29,8 +31,7 @@ returns c = let a = c .before .before .before .before .before .args in
     let f = a .frame .now in
     rw (c .refused .ensures)
     (writes-refusal (length (a .out .now)) 16 0 (a .out .now)
-    (after-refused (messageChecks f (a .message)) (written (messageLine (a .index) f (a .message))) 16
-    (sym (message-outside f (a .message) (sym (c .before .before .is-inside .ensures) ∙ not-true _ (c .before .if1 .taken)))) (λ z. omega arith)))
+    (order-fails (refused 16 0) _ [] (written (messageLine (a .index) f (a .message))) (sym (c .before .before .is-inside .ensures) ∙ not-true _ (c .before .if1 .taken))))
 
 add-to : tie.Need-add-to
 add-to c = omega (arith, ends c, c .before .before .before .before .good)
@@ -43,7 +44,7 @@ unfolding messageLine
 returns-2 c = let a = c .before .before .before .before .before .before .before .before .before .before .before .before .before .args in
     let f = a .frame .now in
     let m = a .message in
-    rw (after-none (messageChecks f m) (written (messageLine (a .index) f m)) (message-inside f m (named (c .before .before .before .before .before .before .before .before .before))), message-parts (decimal (a .index)) (shown (part f (m .start) (m .len))) (decimal (m .count)))
+    rw (lines-pass (messageLineChecks f m) (named (c .before .before .before .before .before .before .before .before .before), tt) 0 (written (messageLine (a .index) f m)), message-parts (decimal (a .index)) (shown (part f (m .start) (m .len))) (decimal (m .count)))
     (rw part-lent at (c .before .before .write-named .ensures))
 
 pub write-message-line-spec : {M : Type 1} → statement M

@@ -4,12 +4,14 @@ use Prim.Native.Nat.{_+_, _*_}
 use native.Mathlib.Omega.{arith}
 use lib.ListN.{length}
 use borrow.Author.Tests.{le-leb, lt-leb}
-use Rattle.answer.specs.Answer.{written}
+use Rattle.answer.specs.Answer.{refused, written}
+use Rattle.answer.specs.Order.{linesAt}
+use Rattle.answer.proofs.Order.{order-fails, order-holds}
 use Rattle.frame.specs.Records.{messageWidth, messageAt}
 use Rattle.listing.specs.Lines.{messageLine}
-use Rattle.listing.specs.Check.{messageChecks}
+use Rattle.listing.specs.Check.{messageLineChecks}
 use Rattle.listing.specs.Order.{behindMessage}
-use Rattle.listing.proofs.Coming.{comes-line, comes-refused, after-holds, after-fails}
+use Rattle.listing.proofs.Coming.{comes-line, comes-refused}
 use borrow.Author.Needs.{needs}
 use Rattle.listing.proofs.order.write_message_at.Statement.{statement}
 use Rattle.listing.proofs.order.write_message_at.Tie as tie
@@ -19,15 +21,15 @@ returns c = let a = c .before .before .before .before .args in
     let k = a .place .messages in
     let x = messageAt (a .messages .now) k in
     comes-refused 16 _ (a .out .now)
-    (after-fails 16 _ (messageChecks (a .frame .now) x) (written (messageLine k (a .frame .now) x))
-    (lt-leb ((k + 1) * messageWidth) (length (a .messages .now)) (omega (arith, c .if1 .taken))) (λ z. omega arith))
+    (order-fails (refused 16 0) _ (linesAt 0 (messageLineChecks (a .frame .now) x)) (written (messageLine k (a .frame .now) x))
+    (lt-leb ((k + 1) * messageWidth) (length (a .messages .now)) (omega (arith, c .if1 .taken))))
 
 returns-2 : tie.Need-returns-2
 returns-2 c = let a = c .before .before .before .before .before .before .before .before .before .before .args in
     let k = a .place .messages in
     let x = messageAt (a .messages .now) k in
     comes-line {answer = c .before .before .before .write-message-line .result} (behindMessage (a .place) (x .count))
-    (rw (after-holds 16 _ (messageChecks (a .frame .now) x) (written (messageLine k (a .frame .now) x)) (le-leb ((k + 1) * messageWidth) (length (a .messages .now)) (omega (arith, c .before .before .before .before .before .before .if1 .left))))
+    (rw (order-holds (refused 16 0) _ (linesAt 0 (messageLineChecks (a .frame .now) x)) (written (messageLine k (a .frame .now) x)) (le-leb ((k + 1) * messageWidth) (length (a .messages .now)) (omega (arith, c .before .before .before .before .before .before .if1 .left))))
     (rw (c .before .before .before .before .before .message-at .ensures) at (c .before .before .before .write-message-line .ensures)))
     (rw (c .before .before .before .before .before .message-at .ensures) at (c .step .ensures))
 

@@ -6,8 +6,9 @@ use mathlib.Core.Bool.{true}
 use native.Mathlib.Omega.{arith}
 use lib.ListN.{length}
 use Rattle.answer.specs.Answer.{written}
-use Rattle.answer.specs.Order.{first}
-use Rattle.answer.proofs.Order.{unless-refused, unless-none}
+use Rattle.answer.specs.Order.{inOrder}
+use Rattle.answer.specs.Inner.{Passes}
+use Rattle.answer.proofs.Order.{passes-zero, lines-refuse, lines-pass}
 use Rattle.types.specs.Form.{part, valueBytes, writableRecord, ranged, lengthOf}
 use Rattle.types.specs.Check.{valueChecks}
 use Rattle.types.specs.Promise.{recordOf}
@@ -19,14 +20,15 @@ use Rattle.types.proofs.write.measure_value.Tie as tie
 returns : tie.Need-returns
 returns c =
     let a = c .before .before .before .args in
-    let is = c .before .check-value .ensures in (
-      is,
-      sym (ap lengthOf (unless-refused (record { number = first (valueChecks (a .buffer .now) (recordOf (a .value))); place = 0 }) (written (valueBytes (a .buffer .now) (recordOf (a .value)))) (λ z. c .if1 .taken (is ∙ z)))),
-    )
+    let is = c .before .check-value .ensures in
+    (is, sym (ap lengthOf (lines-refuse (valueChecks (a .buffer .now) (recordOf (a .value))) _ is (c .if1 .taken) 0 (written (valueBytes (a .buffer .now) (recordOf (a .value)))))))
 
 -- what the check says
-well : (c : tie.Else1) → let a = c .before .before .before .args in first (valueChecks (a .buffer .now) (recordOf (a .value))) ≡ 0
-well c = sym (c .before .check-value .ensures) ∙ c .if1 .left
+none : (c : tie.Else1) → let a = c .before .before .before .args in inOrder (valueChecks (a .buffer .now) (recordOf (a .value))) 0 ≡ 0
+none c = sym (c .before .check-value .ensures) ∙ c .if1 .left
+
+well : (c : tie.Else1) → let a = c .before .before .before .args in Passes (valueChecks (a .buffer .now) (recordOf (a .value)))
+well c = passes-zero _ tt (none c)
 
 fields : (c : tie.Else1) → writableRecord (recordOf (c .before .before .before .args .value)) ≡ true
 fields c = let a = c .before .before .before .args in
@@ -47,9 +49,9 @@ returns-2 c =
     let e = c .before in
     let a = e .before .before .before .args in
     let v = a .value in (
-      sym (well e),
+      sym (none e),
       c .form-len .ensures (part (a .buffer .now) (v .a) (v .b)) (part-whole (a .buffer .now) (v .kind) (v .a) (v .b) (v .flags) (fields e) (range e))
-          ∙ sym (ap lengthOf (unless-none (record { number = first (valueChecks (a .buffer .now) (recordOf v)); place = 0 }) (written (valueBytes (a .buffer .now) (recordOf v))) (well e)) ∙ ap length (value-bytes (a .buffer .now) (v .kind) (v .a) (v .b) (v .flags))),
+          ∙ sym (ap lengthOf (lines-pass (valueChecks (a .buffer .now) (recordOf v)) (well e) 0 (written (valueBytes (a .buffer .now) (recordOf v)))) ∙ ap length (value-bytes (a .buffer .now) (v .kind) (v .a) (v .b) (v .flags))),
     )
 
 pub measure-value-spec : {M : Type 1} → statement M

@@ -3,19 +3,19 @@
 -- Assumes nothing.
 use borrow.Author.Needs.{needs}
 use mathlib.Core.Path.{_≡_, sym, ap, _∙_}
-use mathlib.Core.Bool.{true}
 use Prim.Native.Nat.{ℕ, _+_, _≤_}
 use native.Mathlib.Omega.{arith}
 use lib.ListN.{length}
 use borrow.Author.Tests.{not-true, not-false}
-use Rattle.answer.specs.Order.{first}
+use Rattle.answer.specs.Order.{inOrder}
+use Rattle.answer.specs.Inner.{Passes}
+use Rattle.answer.proofs.Order.{passes-zero}
 use Rattle.varint.proofs.Writing.{length-most}
 use Rattle.writer.specs.Pair.{pairBytes}
 use Rattle.writer.specs.Action.{actionChecks}
 use Rattle.writer.specs.Inner.{capped}
 use Rattle.writer.proofs.Capped.{capped-right, capped-most}
-use Rattle.writer.proofs.Pairs.{formed-passed}
-use Rattle.writer.proofs.Actions.{action-fields, action-pair, passed-pair, set-long, unset-long}
+use Rattle.writer.proofs.Actions.{action-fields, action-pair, passed-form, set-long, unset-long}
 use Rattle.writer.proofs.action.measure_action.Statement.{statement}
 use Rattle.writer.proofs.action.measure_action.Tie as tie
 
@@ -40,7 +40,7 @@ measure-pair-requires c κs = search needs
 -- past the first test its number is the pair's
 number-is : (m : tie.After-measure-pair)
     → let a = start m .args in
-    m .measure-pair .result .number ≡ first (actionChecks (a .buffer .now) (a .action))
+    m .measure-pair .result .number ≡ inOrder (actionChecks (a .buffer .now) (a .action)) 0
 number-is m =
     let e = m .before in
     let k = e .before in
@@ -52,8 +52,11 @@ returns-2 : tie.Need-returns-2
 returns-2 c = record { number = number-is (c .before .before); len = λ z. absurd (c .if2 .taken z) }
 
 -- past the second it is not refused
-well : (e : tie.Else2) → let a = start (e .before .before) .args in first (actionChecks (a .buffer .now) (a .action)) ≡ 0
-well e = sym (number-is (e .before .before)) ∙ e .if2 .left
+none : (e : tie.Else2) → let a = start (e .before .before) .args in inOrder (actionChecks (a .buffer .now) (a .action)) 0 ≡ 0
+none e = sym (number-is (e .before .before)) ∙ e .if2 .left
+
+well : (e : tie.Else2) → let a = start (e .before .before) .args in Passes (actionChecks (a .buffer .now) (a .action))
+well e = passes-zero _ tt (none e)
 
 length-is : (e : tie.Else2)
     → let m = e .before .before in
@@ -77,7 +80,7 @@ returns-3 c =
     let e = t .before .before in
     let a = start (e .before .before) .args in
     record {
-      number = sym (well e);
+      number = sym (none e);
       len = λ z.
           c .cap .ensures
           ∙ ap (λ (n : ℕ). capped (a .most) (3 + n)) (length-is e)
@@ -88,7 +91,7 @@ returns-3 c =
 -- a name lies in the buffer
 range : (e : tie.Else2) → let a = start (e .before .before) .args in a .action .pair .start + a .action .pair .len ≤ length (a .buffer .now)
 range e = let a = start (e .before .before) .args in
-    formed-passed (a .buffer .now) (a .action .pair) (passed-pair (a .buffer .now) (a .action) (well e)) .key
+    passed-form (a .buffer .now) (a .action) (well e) .key
 
 varint-len-requires : tie.Need-varint-len-requires
 varint-len-requires c κs = search needs
@@ -115,7 +118,7 @@ returns-4 c =
     let e = f .before .before in
     let a = start (e .before .before) .args in
     record {
-      number = sym (well e);
+      number = sym (none e);
       len = λ z.
           c .cap2 .ensures
           ∙ ap (λ (k : ℕ). capped (a .most) (3 + (k + a .action .pair .len))) (n .varint-len .ensures)

@@ -10,8 +10,8 @@ use Rattle.answer.proofs.Parts.{both-start, both-room, both-count, both-leaves}
 use Rattle.types.specs.Form.{stringBytes}
 use Rattle.frame.specs.Records.{keyOf}
 use Rattle.writer.specs.Pair.{pairBytes}
-use Rattle.writer.proofs.Pairs.{formed-passed, string-count, string-leaves}
-use Rattle.writer.proofs.Actions.{passed-scope, passed-pair, set-bytes, unset-bytes}
+use Rattle.writer.proofs.Pairs.{string-count, string-leaves}
+use Rattle.writer.proofs.Actions.{passed-scope, passed-form, set-bytes, unset-bytes}
 use Rattle.writer.proofs.action.put_action.Statement.{statement}
 use Rattle.writer.proofs.action.put_action.Tie as tie
 
@@ -37,7 +37,7 @@ unset-room t = let s = start-2 t in rw (unset-bytes (s .args .buffer .now) (s .a
 range : (c : tie.Start) → let a = c .args in a .action .pair .start + a .action .pair .len ≤ length (a .buffer .now)
 range c =
     let a = c .args in
-    formed-passed (a .buffer .now) (a .action .pair) (passed-pair (a .buffer .now) (a .action) (c .pre .0)) .key
+    passed-form (a .buffer .now) (a .action) (c .pre .0) .key
 
 -- what the name's writer did
 abbrev unset : tie.After-write-string → tie.Else1
@@ -84,7 +84,7 @@ put-pair-requires c κs = let k = c .before .before .before in
     let t = k .before .before .before in
     let s = start t in
     let a = s .args in
-    (formed-passed (a .buffer .now) (a .action .pair) (passed-pair (a .buffer .now) (a .action) (s .pre .0)), both-room (set-start t) (pairBytes (a .buffer .now) (a .action .pair)) (a .out .now) _ 3 refl (k .put-three .ensures) (set-room t))
+    (passed-form (a .buffer .now) (a .action) (s .pre .0), both-room (set-start t) (pairBytes (a .buffer .now) (a .action .pair)) (a .out .now) _ 3 refl (k .put-three .ensures) (set-room t))
 
 add-result : tie.Need-add-result
 add-result c = let p = c .before .before in

@@ -1,7 +1,7 @@
 -- `writer::action::put_actions` meets its contract: the loop writes one record after the other, each into the tail behind the one before.
 -- Assumes nothing.
 use borrow.Author.Needs.{needs}
-use mathlib.Core.Path.{_≡_, sym, ap, _∙_}
+use mathlib.Core.Path.{_≡_, ap, _∙_}
 use Prim.Native.Nat.{_-_}
 use native.Mathlib.Omega.{arith}
 use lib.ListN.{length, take, drop}
@@ -10,7 +10,6 @@ use Rattle.frame.specs.declared.Action.{Action}
 use Rattle.answer.proofs.Loops.{Putting, putting-none, putting-length, putting-start, putting-room, putting-most, putting-on, putting-count, putting-all}
 use Rattle.frame.specs.Records.{actionAt}
 use Rattle.writer.specs.Action.{actionBytes}
-use Rattle.writer.proofs.Actions.{action-number}
 use Rattle.writer.proofs.action.put_actions.Statement.{statement}
 use Rattle.writer.proofs.action.put_actions.Tie as tie
 
@@ -39,9 +38,8 @@ put-action-requires : tie.Need-put-action-requires Inv-loop μ-loop
 put-action-requires c κs =
     let t = c .before .before in
     let s = t .before .before .before .before .before in
-    let i = t .before .loop .i in
     rw (c .before .action-at .ensures) (
-      sym (action-number (s .args .buffer .now) (s .args .actions .now) i) ∙ s .pre .1 .0 .each i (t .loop-test .taken),
+      s .pre .1 .0 .each (t .before .loop .i) (t .loop-test .taken),
       putting-room (t .before .loop .inv) (t .loop-test .taken),
     )
 

@@ -1,23 +1,23 @@
 -- `writer::action::write_actions` meets its contract: the metadata, the count, the records one by one, and then the frame.
 -- Assumes nothing.
 use borrow.Author.Needs.{needs}
-use mathlib.Core.Path.{_≡_, sym, ap, _∙_}
+use mathlib.Core.Path.{_≡_, sym, _∙_}
 use mathlib.Core.Bool.{true}
 use mathlib.Core.List.{List}
 use Prim.Native.Nat.{ℕ, _*_, _≤_}
 use native.Mathlib.Omega.{arith}
 use lib.ListN.{length}
 use borrow.Author.Tests.{not-true, not-false}
-use Rattle.answer.specs.declared.Refusal.{Refusal}
 use Rattle.answer.specs.Answer.{Answer}
 use Rattle.answer.proofs.Output.{writes-refusal}
-use Rattle.answer.proofs.Order.{none-before}
+use Rattle.answer.proofs.Order.{each-pass}
 use Rattle.frame.specs.declared.Head.{Head}
 use Rattle.frame.specs.Records.{actionWidth}
-use Rattle.writer.specs.Action.{actionRefusal}
+use Rattle.writer.specs.Inner.{actionOrder}
 use Rattle.writer.specs.Frame.{headOf, finAlone, limited, actionsBytes, actionsAnswer}
-use Rattle.answer.specs.Order.{firstRefused}
-use Rattle.writer.proofs.Answers.{listAnswer, actions-list, list-metadata, list-count, list-refused, list-passed}
+use Rattle.answer.specs.Order.{Check, eachInOrder}
+use Rattle.answer.specs.Inner.{Sound}
+use Rattle.writer.proofs.Answers.{listAnswer, actions-list, list-metadata, list-count, list-held}
 use Rattle.writer.proofs.action.write_actions.Statement.{statement}
 use Rattle.writer.proofs.action.write_actions.Tie as tie
 
@@ -27,8 +27,8 @@ start c = c .before .before .before .before
 abbrev head : tie.Start → Head
 head s = let a = s .args in headOf 103 (a .fin) (a .abort) (a .stream-id) (a .frame-id)
 
-abbrev number : tie.Start → ℕ → ℕ
-number s = actionRefusal (s .args .buffer .now) (s .args .actions .now)
+abbrev checks : tie.Start → ℕ → List Check
+checks s = actionOrder (s .args .buffer .now) (s .args .actions .now)
 
 abbrev frame : tie.Start → Answer (List ℕ)
 frame s = let a = s .args in limited (a .limit) (head s) (actionsBytes (a .buffer .now) (a .actions .now) (a .action-count))
@@ -36,7 +36,7 @@ frame s = let a = s .args in limited (a .limit) (head s) (actionsBytes (a .buffe
 -- the whole answer is that of a list
 is-list : (s : tie.Start)
     → let a = s .args in
-    actionsAnswer (head s) (a .limit) (a .buffer .now) (a .actions .now) (a .action-count) ≡ listAnswer (finAlone (head s)) actionWidth (a .actions .now) (a .action-count) (number s) (frame s)
+    actionsAnswer (head s) (a .limit) (a .buffer .now) (a .actions .now) (a .action-count) ≡ listAnswer (finAlone (head s)) actionWidth (a .actions .now) (a .action-count) (checks s) (frame s)
 is-list s = let a = s .args in actions-list (head s) (a .limit) (a .buffer .now) (a .actions .now) (a .action-count)
 
 fin-alone-requires : tie.Need-fin-alone-requires
@@ -48,7 +48,7 @@ returns c =
     let a = s .args in
     writes-refusal (length (a .out .now)) 14 0 (a .out .now)
     (is-list s
-    ∙ list-metadata (finAlone (head s)) actionWidth (a .actions .now) (a .action-count) (number s) (frame s) (sym (c .before .fin-alone .ensures) ∙ not-true (c .before .fin-alone .result) (c .if1 .taken)))
+    ∙ list-metadata (finAlone (head s)) actionWidth (a .actions .now) (a .action-count) (checks s) (frame s) (sym (c .before .fin-alone .ensures) ∙ not-true (c .before .fin-alone .result) (c .if1 .taken)))
 
 allowed : (c : tie.Else1) → finAlone (head (start (c .before))) ≡ true
 allowed c = sym (c .before .fin-alone .ensures) ∙ not-false (c .before .fin-alone .result) (c .if1 .left)
@@ -58,11 +58,19 @@ returns-2 c =
     let s = start (c .before .before) in
     let a = s .args in
     writes-refusal (length (a .out .now)) 16 0 (a .out .now)
-    (is-list s ∙ list-count (finAlone (head s)) actionWidth (a .actions .now) (a .action-count) (number s) (frame s) (allowed (c .before)) (omega (arith, c .if2 .taken)))
+    (is-list s ∙ list-count (finAlone (head s)) actionWidth (a .actions .now) (a .action-count) (checks s) (frame s) (allowed (c .before)) (omega (arith, c .if2 .taken)))
 
 -- past the second test the records lie in the table
 held : (c : tie.Else2) → let a = start (c .before .before) .args in a .action-count * actionWidth ≤ length (a .actions .now)
 held c = omega (arith, c .if2 .left)
+
+is-held : (c : tie.Else2)
+    → let s = start (c .before .before) in
+    let a = s .args in
+    actionsAnswer (head s) (a .limit) (a .buffer .now) (a .actions .now) (a .action-count) ≡ eachInOrder (checks s) 0 (a .action-count) (frame s)
+is-held c =
+    let s = start (c .before .before) in
+    is-list s ∙ list-held (finAlone (head s)) actionWidth (s .args .actions .now) (s .args .action-count) (checks s) (frame s) (allowed (c .before)) (held c)
 
 check-actions-requires : tie.Need-check-actions-requires
 check-actions-requires c κs = held c
@@ -75,12 +83,11 @@ returns-3 c =
     let a = s .args in
     let r = k .check-actions .result .refusal in
     writes-refusal (length (a .out .now)) (r .number) (r .place) (a .out .now)
-    (is-list s
-    ∙ list-refused (finAlone (head s)) actionWidth (a .actions .now) (a .action-count) (number s) (frame s) (allowed (e .before)) (held e) r (k .check-actions .ensures .refusal) (c .if3 .taken))
+    (is-held e ∙ k .check-actions .ensures .refuses (c .if3 .taken) (frame s))
 
 -- none is refused
-none : (c : tie.Else3) → let s = start (c .before .before .before .before .before .before) in firstRefused (number s) (s .args .action-count) .number ≡ 0
-none c = let k = c .before .before .before in ap (λ (r : Refusal). r .number) (sym (k .check-actions .ensures .refusal)) ∙ c .if3 .left
+none : (c : tie.Else3) → let s = start (c .before .before .before .before .before .before) in Sound (checks s) (s .args .action-count)
+none c = c .before .before .before .check-actions .ensures .sound (c .if3 .left)
 
 cast-t21 : tie.Need-cast-t21
 cast-t21 c = search needs
@@ -90,7 +97,7 @@ action-frame-requires c κs =
     let f = c .before in
     let k = f .before .before .before in
     let s = start (k .before .before .before) in
-    (held (k .before), (none-before (number s) (s .args .action-count) (none f), k .check-actions .ensures .measured (f .if3 .left)))
+    (held (k .before), (none f, k .check-actions .ensures .measured (f .if3 .left)))
 
 same-length : tie.Need-same-length
 same-length c = search needs
@@ -101,8 +108,7 @@ returns-4 c =
     let f = w .before .before in
     let e = f .before .before .before .before in
     let s = start (e .before .before) in
-    let a = s .args in
-    rw (is-list s ∙ list-passed (finAlone (head s)) actionWidth (a .actions .now) (a .action-count) (number s) (frame s) (allowed (e .before)) (held e) (none f)) (w .action-frame .ensures)
+    rw (is-held e ∙ each-pass (checks s) (frame s) (s .args .action-count) (none f)) (w .action-frame .ensures)
 
 pub write-actions-spec : {M : Type 1} → statement M
 write-actions-spec =

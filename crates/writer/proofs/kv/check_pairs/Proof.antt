@@ -5,19 +5,20 @@ use mathlib.Core.Path.{_≡_, sym, _∙_}
 use Prim.Native.Nat.{_-_, _≤_}
 use native.Mathlib.Omega.{arith}
 use lib.ListN.{length}
-use Rattle.answer.proofs.Order.{sound-on}
+use Rattle.answer.specs.Inner.{Passes}
+use Rattle.answer.proofs.Order.{passes-zero, sound-on}
 use Rattle.frame.specs.Records.{pairAt}
-use Rattle.writer.specs.Pair.{pairBytes, pairRefusal, kvRefusal}
-use Rattle.writer.specs.Inner.{capped}
+use Rattle.writer.specs.Pair.{pairBytes, kvChecks}
+use Rattle.writer.specs.Inner.{capped, pairOrder, Measures}
 use Rattle.writer.proofs.Capped.{capped-most}
-use Rattle.writer.proofs.Pairs.{measured-at, kv-own, kv-met, kv-new, kv-sound}
+use Rattle.writer.proofs.Pairs.{kv-own, kv-met, kv-new, kv-sound}
 use Rattle.writer.proofs.Checking.{Checking, checking-none, checking-small, checking-on, checking-here, checking-all}
 use Rattle.writer.proofs.kv.check_pairs.Statement.{statement}
 use Rattle.writer.proofs.kv.check_pairs.Tie as tie
 
 abbrev Inv-loop : tie.InvT-loop
 Inv-loop pairs count buffer most len₀ i₀ len i =
-    (i ≤ count) × Checking (kvRefusal buffer pairs) (pairBytes buffer) (pairAt pairs) most len i
+    (i ≤ count) × Checking (kvChecks buffer pairs) (pairBytes buffer) (pairAt pairs) most len i
 
 abbrev μ-loop : tie.MeasureT-loop
 μ-loop pairs count buffer most len₀ i₀ len i = count - i
@@ -39,25 +40,22 @@ own : (c : tie.After-measure-pair Inv-loop μ-loop)
     → let t = c .before .before in
     let a = start t .args in
     let i = t .before .loop .i in
-    let r = c .measure-pair .result in
-    (pairRefusal (a .buffer .now) (a .pairs .now) i ≡ r .number) × (r .number ≡ 0 → r .len ≡ capped (a .most) (length (pairBytes (a .buffer .now) (pairAt (a .pairs .now) i))))
-own c =
-    let t = c .before .before in
-    let a = start t .args in
-    measured-at (a .buffer .now) (a .pairs .now) (t .before .loop .i) (c .before .pair-at .result) (c .before .pair-at .ensures) (c .measure-pair .ensures)
+    Measures (pairOrder (a .buffer .now) (a .pairs .now) i) (a .most) (pairBytes (a .buffer .now) (pairAt (a .pairs .now) i)) (c .measure-pair .result)
+own c = rw (c .before .pair-at .ensures) at (c .measure-pair .ensures)
 
 returns : tie.Need-returns Inv-loop μ-loop
 returns c =
     let k = c .before in
     let t = k .before .before in
-    checking-here (t .before .loop .inv .1) _ _ (t .loop-test .taken) (kv-own _ _ _ _ (own k .0) (c .if1 .taken)) (c .if1 .taken) _
+    let a = start t .args in
+    checking-here (t .before .loop .inv .1) _ _ (t .loop-test .taken) (kv-own (a .buffer .now) (a .pairs .now) _ _ (own k .number) (c .if1 .taken)) (c .if1 .taken) _
 
--- past the first test it is not refused on its own, and no record before it is
+-- past the first test it is not refused on its own
 passed : (e : tie.Else1 Inv-loop μ-loop)
     → let t = e .before .before .before in
     let a = start t .args in
-    pairRefusal (a .buffer .now) (a .pairs .now) (t .before .loop .i) ≡ 0
-passed e = own (e .before) .0 ∙ e .if1 .left
+    Passes (pairOrder (a .buffer .now) (a .pairs .now) (t .before .loop .i))
+passed e = passes-zero _ tt (sym (own (e .before) .number) ∙ e .if1 .left)
 
 key-met-requires : tie.Need-key-met-requires Inv-loop μ-loop
 key-met-requires c κs =
@@ -77,7 +75,7 @@ length-is : (c : tie.After-struct-known Inv-loop μ-loop)
     let t = m .before .before in
     let a = start t .args in
     m .measure-pair .result .len ≡ capped (a .most) (length (pairBytes (a .buffer .now) (pairAt (a .pairs .now) (t .before .loop .i))))
-length-is c = let e = c .before .before .before in own (e .before) .1 (e .if1 .left)
+length-is c = let e = c .before .before .before in own (e .before) .len (e .if1 .left)
 
 add-cap : tie.Need-add-cap Inv-loop μ-loop
 add-cap c =

@@ -6,7 +6,7 @@ use lib.ListN.{length}
 use native.Mathlib.Omega.{arith}
 use Rattle.answer.proofs.Loops.{Seeking, seeking-none, seeking-here, seeking-on, seeking-all}
 use Rattle.frame.specs.Records.{pairAt, sameKey}
-use Rattle.writer.proofs.Pairs.{formed-at}
+use Rattle.writer.proofs.Pairs.{formed-passed}
 use Rattle.writer.proofs.kv.key_met.Statement.{statement}
 use Rattle.writer.proofs.kv.key_met.Tie as tie
 
@@ -19,7 +19,7 @@ abbrev μ-loop : tie.MeasureT-loop
 -- a key up to record i lies inside
 inside : (s : tie.Start Inv-loop μ-loop) (j : ℕ) → j < s .args .i + 1
     → let p = pairAt (s .args .pairs .now) j in p .start + p .len ≤ length (s .args .buffer .now)
-inside s j h = formed-at (s .args .buffer .now) (s .args .pairs .now) j (s .pre .1 .each j h) .key
+inside s j h = formed-passed (s .args .buffer .now) (pairAt (s .args .pairs .now) j) (s .pre .1 .each j h) .key
 
 pair-at-requires : tie.Need-pair-at-requires Inv-loop μ-loop
 pair-at-requires c κs = c .before .before .pre .0

@@ -1,24 +1,24 @@
 -- `writer::kv::write_kv` meets its contract: the metadata, the count, the records one by one, and then the frame.
 -- Assumes nothing.
 use borrow.Author.Needs.{needs}
-use mathlib.Core.Path.{_≡_, sym, ap, _∙_}
+use mathlib.Core.Path.{_≡_, sym, _∙_}
 use mathlib.Core.Bool.{true}
 use mathlib.Core.List.{List}
 use Prim.Native.Nat.{ℕ, _*_, _≤_}
 use native.Mathlib.Omega.{arith}
 use lib.ListN.{length}
 use borrow.Author.Tests.{not-true, not-false}
-use Rattle.answer.specs.declared.Refusal.{Refusal}
 use Rattle.answer.specs.Answer.{Answer}
 use Rattle.answer.proofs.Output.{writes-refusal}
-use Rattle.answer.proofs.Order.{none-before}
+use Rattle.answer.proofs.Order.{each-pass}
 use Rattle.frame.specs.declared.Head.{Head}
 use Rattle.frame.specs.Records.{pairWidth}
-use Rattle.answer.specs.Order.{firstRefused}
-use Rattle.writer.specs.Pair.{kvRefusal}
+use Rattle.answer.specs.Order.{Check, eachInOrder}
+use Rattle.answer.specs.Inner.{Sound}
+use Rattle.writer.specs.Pair.{kvChecks}
 use Rattle.writer.specs.Frame.{headOf, limited, kvAllowed, pairsBytes, kvAnswer}
 use Rattle.writer.proofs.Pairs.{kv-sound, run-sound}
-use Rattle.writer.proofs.Answers.{kv-kind, listAnswer, kv-list, list-metadata, list-count, list-refused, list-passed}
+use Rattle.writer.proofs.Answers.{kv-kind, listAnswer, kv-list, list-metadata, list-count, list-held}
 use Rattle.writer.proofs.kv.write_kv.Statement.{statement}
 use Rattle.writer.proofs.kv.write_kv.Tie as tie
 
@@ -28,8 +28,8 @@ start c = c .before .before .before .before
 abbrev head : tie.Start → Head
 head s = let a = s .args in headOf (a .kind) (a .fin) (a .abort) (a .stream-id) (a .frame-id)
 
-abbrev number : tie.Start → ℕ → ℕ
-number s = kvRefusal (s .args .buffer .now) (s .args .pairs .now)
+abbrev checks : tie.Start → ℕ → List Check
+checks s = kvChecks (s .args .buffer .now) (s .args .pairs .now)
 
 abbrev frame : tie.Start → Answer (List ℕ)
 frame s = let a = s .args in limited (a .limit) (head s) (pairsBytes (a .buffer .now) (a .pairs .now) (a .pair-count))
@@ -37,7 +37,7 @@ frame s = let a = s .args in limited (a .limit) (head s) (pairsBytes (a .buffer 
 -- the whole answer is that of a list
 is-list : (s : tie.Start)
     → let a = s .args in
-    kvAnswer (head s) (a .limit) (a .buffer .now) (a .pairs .now) (a .pair-count) ≡ listAnswer (kvAllowed (head s)) pairWidth (a .pairs .now) (a .pair-count) (number s) (frame s)
+    kvAnswer (head s) (a .limit) (a .buffer .now) (a .pairs .now) (a .pair-count) ≡ listAnswer (kvAllowed (head s)) pairWidth (a .pairs .now) (a .pair-count) (checks s) (frame s)
 is-list s = let a = s .args in kv-list (head s) (a .limit) (a .buffer .now) (a .pairs .now) (a .pair-count)
 
 kv-allowed-requires : tie.Need-kv-allowed-requires
@@ -49,7 +49,7 @@ returns c =
     let a = s .args in
     writes-refusal (length (a .out .now)) 14 0 (a .out .now)
     (is-list s
-    ∙ list-metadata (kvAllowed (head s)) pairWidth (a .pairs .now) (a .pair-count) (number s) (frame s) (sym (c .before .kv-allowed .ensures) ∙ not-true (c .before .kv-allowed .result) (c .if1 .taken)))
+    ∙ list-metadata (kvAllowed (head s)) pairWidth (a .pairs .now) (a .pair-count) (checks s) (frame s) (sym (c .before .kv-allowed .ensures) ∙ not-true (c .before .kv-allowed .result) (c .if1 .taken)))
 
 allowed : (c : tie.Else1) → kvAllowed (head (start (c .before))) ≡ true
 allowed c = sym (c .before .kv-allowed .ensures) ∙ not-false (c .before .kv-allowed .result) (c .if1 .left)
@@ -59,11 +59,19 @@ returns-2 c =
     let s = start (c .before .before) in
     let a = s .args in
     writes-refusal (length (a .out .now)) 16 0 (a .out .now)
-    (is-list s ∙ list-count (kvAllowed (head s)) pairWidth (a .pairs .now) (a .pair-count) (number s) (frame s) (allowed (c .before)) (omega (arith, c .if2 .taken)))
+    (is-list s ∙ list-count (kvAllowed (head s)) pairWidth (a .pairs .now) (a .pair-count) (checks s) (frame s) (allowed (c .before)) (omega (arith, c .if2 .taken)))
 
 -- past the second test the records lie in the table
 held : (c : tie.Else2) → let a = start (c .before .before) .args in a .pair-count * pairWidth ≤ length (a .pairs .now)
 held c = omega (arith, c .if2 .left)
+
+is-held : (c : tie.Else2)
+    → let s = start (c .before .before) in
+    let a = s .args in
+    kvAnswer (head s) (a .limit) (a .buffer .now) (a .pairs .now) (a .pair-count) ≡ eachInOrder (checks s) 0 (a .pair-count) (frame s)
+is-held c =
+    let s = start (c .before .before) in
+    is-list s ∙ list-held (kvAllowed (head s)) pairWidth (s .args .pairs .now) (s .args .pair-count) (checks s) (frame s) (allowed (c .before)) (held c)
 
 check-pairs-requires : tie.Need-check-pairs-requires
 check-pairs-requires c κs = held c
@@ -76,12 +84,11 @@ returns-3 c =
     let a = s .args in
     let r = k .check-pairs .result .refusal in
     writes-refusal (length (a .out .now)) (r .number) (r .place) (a .out .now)
-    (is-list s
-    ∙ list-refused (kvAllowed (head s)) pairWidth (a .pairs .now) (a .pair-count) (number s) (frame s) (allowed (e .before)) (held e) r (k .check-pairs .ensures .refusal) (c .if3 .taken))
+    (is-held e ∙ k .check-pairs .ensures .refuses (c .if3 .taken) (frame s))
 
 -- none is refused
-none : (c : tie.Else3) → let s = start (c .before .before .before .before .before .before) in firstRefused (number s) (s .args .pair-count) .number ≡ 0
-none c = let k = c .before .before .before in ap (λ (r : Refusal). r .number) (sym (k .check-pairs .ensures .refusal)) ∙ c .if3 .left
+none : (c : tie.Else3) → let s = start (c .before .before .before .before .before .before) in Sound (checks s) (s .args .pair-count)
+none c = c .before .before .before .check-pairs .ensures .sound (c .if3 .left)
 
 cast-t22 : tie.Need-cast-t22
 cast-t22 c = let e = c .before .before .before .before .before in omega (arith, kv-kind (head (start (e .before))) (allowed e))
@@ -91,7 +98,7 @@ kv-frame-requires c κs =
     let f = c .before in
     let k = f .before .before .before in
     let s = start (k .before .before .before) in
-    (run-sound (s .args .buffer .now) (s .args .pairs .now) (s .args .pair-count) (held (k .before)) (kv-sound (s .args .buffer .now) (s .args .pairs .now) (none-before (number s) (s .args .pair-count) (none f))), k .check-pairs .ensures .measured (f .if3 .left))
+    (run-sound (s .args .buffer .now) (s .args .pairs .now) (s .args .pair-count) (held (k .before)) (kv-sound (s .args .buffer .now) (s .args .pairs .now) (none f)), k .check-pairs .ensures .measured (f .if3 .left))
 
 same-length : tie.Need-same-length
 same-length c = search needs
@@ -102,8 +109,7 @@ returns-4 c =
     let f = w .before .before in
     let e = f .before .before .before .before in
     let s = start (e .before .before) in
-    let a = s .args in
-    rw (is-list s ∙ list-passed (kvAllowed (head s)) pairWidth (a .pairs .now) (a .pair-count) (number s) (frame s) (allowed (e .before)) (held e) (none f)) (w .kv-frame .ensures)
+    rw (is-held e ∙ each-pass (checks s) (frame s) (s .args .pair-count) (none f)) (w .kv-frame .ensures)
 
 pub write-kv-spec : {M : Type 1} → statement M
 write-kv-spec =

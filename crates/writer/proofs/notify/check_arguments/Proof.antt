@@ -1,22 +1,22 @@
 -- `writer::notify::check_arguments` meets its contract: the loop checks and measures one record after the other.
 -- Assumes nothing.
 use borrow.Author.Needs.{needs}
-use mathlib.Core.Path.{_≡_, _∙_}
+use mathlib.Core.Path.{_≡_, sym, _∙_}
 use Prim.Native.Nat.{_-_, _≤_}
 use native.Mathlib.Omega.{arith}
 use lib.ListN.{length}
+use Rattle.answer.proofs.Order.{passes-zero, lines-refuse}
 use Rattle.frame.specs.Records.{pairAt}
-use Rattle.writer.specs.Pair.{pairBytes, pairRefusal}
-use Rattle.writer.specs.Inner.{capped}
+use Rattle.writer.specs.Pair.{pairBytes}
+use Rattle.writer.specs.Inner.{capped, pairOrder, Measures}
 use Rattle.writer.proofs.Capped.{capped-most}
-use Rattle.writer.proofs.Pairs.{measured-at}
 use Rattle.writer.proofs.Checking.{Checking, checking-none, checking-small, checking-on, checking-here, checking-all}
 use Rattle.writer.proofs.notify.check_arguments.Statement.{statement}
 use Rattle.writer.proofs.notify.check_arguments.Tie as tie
 
 abbrev Inv-loop : tie.InvT-loop
 Inv-loop pairs count buffer most len₀ i₀ len i =
-    (i ≤ count) × Checking (pairRefusal buffer pairs) (pairBytes buffer) (pairAt pairs) most len i
+    (i ≤ count) × Checking (pairOrder buffer pairs) (pairBytes buffer) (pairAt pairs) most len i
 
 abbrev μ-loop : tie.MeasureT-loop
 μ-loop pairs count buffer most len₀ i₀ len i = count - i
@@ -38,18 +38,14 @@ own : (c : tie.After-measure-pair Inv-loop μ-loop)
     → let t = c .before .before in
     let a = start t .args in
     let i = t .before .loop .i in
-    let r = c .measure-pair .result in
-    (pairRefusal (a .buffer .now) (a .pairs .now) i ≡ r .number) × (r .number ≡ 0 → r .len ≡ capped (a .most) (length (pairBytes (a .buffer .now) (pairAt (a .pairs .now) i))))
-own c =
-    let t = c .before .before in
-    let a = start t .args in
-    measured-at (a .buffer .now) (a .pairs .now) (t .before .loop .i) (c .before .pair-at .result) (c .before .pair-at .ensures) (c .measure-pair .ensures)
+    Measures (pairOrder (a .buffer .now) (a .pairs .now) i) (a .most) (pairBytes (a .buffer .now) (pairAt (a .pairs .now) i)) (c .measure-pair .result)
+own c = rw (c .before .pair-at .ensures) at (c .measure-pair .ensures)
 
 returns : tie.Need-returns Inv-loop μ-loop
 returns c =
     let k = c .before in
     let t = k .before .before in
-    checking-here (t .before .loop .inv .1) _ _ (t .loop-test .taken) (own k .0) (c .if1 .taken) _
+    checking-here (t .before .loop .inv .1) _ _ (t .loop-test .taken) (lines-refuse _ _ (own k .number) (c .if1 .taken)) (c .if1 .taken) _
 
 -- and how long it is
 length-is : (c : tie.After-struct-known Inv-loop μ-loop)
@@ -57,7 +53,7 @@ length-is : (c : tie.After-struct-known Inv-loop μ-loop)
     let t = m .before .before in
     let a = start t .args in
     m .measure-pair .result .len ≡ capped (a .most) (length (pairBytes (a .buffer .now) (pairAt (a .pairs .now) (t .before .loop .i))))
-length-is c = let e = c .before in own (e .before) .1 (e .if1 .left)
+length-is c = let e = c .before in own (e .before) .len (e .if1 .left)
 
 add-cap : tie.Need-add-cap Inv-loop μ-loop
 add-cap c =
@@ -80,7 +76,7 @@ loop-again c =
     let e = l .before in
     let t = e .before .before .before in (
       omega (arith, t .loop-test .taken),
-      checking-on (t .before .loop .inv .1) (own (e .before) .0 ∙ e .if1 .left) (e .before .measure-pair .result .len) (c .cap .result) (length-is l) (c .cap .ensures),
+      checking-on (t .before .loop .inv .1) (passes-zero _ tt (sym (own (e .before) .number) ∙ e .if1 .left)) (e .before .measure-pair .result .len) (c .cap .result) (length-is l) (c .cap .ensures),
     )
 
 returns-2 : tie.Need-returns-2 Inv-loop μ-loop

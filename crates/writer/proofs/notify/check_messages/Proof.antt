@@ -5,16 +5,18 @@ use borrow.Author.Needs.{needs}
 use mathlib.Core.Path.{_≡_, refl, sym, ap, _∙_}
 use Prim.Native.Nat.{ℕ, _+_, _-_, _≤_}
 use native.Mathlib.Omega.{arith}
-use lib.Dec.{eqb}
 use lib.ListN.{length}
-use Rattle.answer.specs.Order.{first}
+use Rattle.answer.specs.Order.{inOrder}
+use Rattle.answer.specs.Inner.{Passes}
+use Rattle.answer.proofs.Order.{passes-zero, lines-refuse}
 use Rattle.varint.proofs.Writing.{length-most}
+use Rattle.types.proofs.Checking.{string-range}
 use Rattle.frame.specs.declared.Message.{Message}
 use Rattle.frame.specs.Records.{messageAt}
-use Rattle.writer.specs.Message.{nameBytes, messageChecks, runStart, messageRefusal}
-use Rattle.writer.specs.Inner.{capped}
+use Rattle.writer.specs.Message.{nameBytes, runStart}
+use Rattle.writer.specs.Inner.{capped, messageOrder}
 use Rattle.writer.proofs.Capped.{capped-most}
-use Rattle.writer.proofs.Messages.{message-number, message-range, run-next, name-length}
+use Rattle.writer.proofs.Messages.{run-next, name-length}
 use Rattle.writer.proofs.Checking.{Checking, checking-none, checking-small, checking-on, checking-here, checking-all}
 use Rattle.writer.proofs.notify.check_messages.Statement.{statement}
 use Rattle.writer.proofs.notify.check_messages.Tie as tie
@@ -23,7 +25,7 @@ abbrev Inv-loop : tie.InvT-loop
 Inv-loop messages count total buffer most run-first₀ run-count₀ len₀ i₀ run-first run-count len i =
     (i ≤ count)
     × (run-first + run-count ≡ runStart messages i)
-    × Checking (messageRefusal buffer total messages count) (nameBytes buffer) (messageAt messages) most len i
+    × Checking (messageOrder buffer total messages count) (nameBytes buffer) (messageAt messages) most len i
 
 abbrev μ-loop : tie.MeasureT-loop
 μ-loop messages count total buffer most run-first₀ run-count₀ len₀ i₀ run-first run-count len i = count - i
@@ -47,35 +49,31 @@ check-message-requires c κs = search needs
 own : (c : tie.After-check-message Inv-loop μ-loop)
     → let t = c .before .before in
     let a = start t .args in
-    messageRefusal (a .buffer .now) (a .total) (a .messages .now) (a .count) (t .before .loop .i) ≡ c .check-message .result
-own c =
-    let t = c .before .before in
-    let a = start t .args in
-    let l = t .before .loop in
-    let last = eqb (l .i + 1) (a .count) in
-    message-number (a .buffer .now) (a .total) (a .messages .now) (a .count) (l .i)
-    ∙ ap (λ (from : ℕ). first (messageChecks (a .buffer .now) (a .total) from last (messageAt (a .messages .now) (l .i)))) (sym (l .inv .1))
-    ∙ sym (c .check-message .ensures ∙ ap (λ (m : Message). first (messageChecks (a .buffer .now) (a .total) (l .run-first + l .run-count) last m)) (c .before .message-at .ensures))
+    c .check-message .result ≡ inOrder (messageOrder (a .buffer .now) (a .total) (a .messages .now) (a .count) (t .before .loop .i)) 0
+own c = let t = c .before .before in rw (c .before .message-at .ensures, t .before .loop .inv .1) at (c .check-message .ensures)
 
 returns : tie.Need-returns Inv-loop μ-loop
 returns c =
     let k = c .before in
     let t = k .before .before in
-    checking-here (t .before .loop .inv .2) _ _ (t .loop-test .taken) (own k) (c .if1 .taken) _
+    checking-here (t .before .loop .inv .2) _ _ (t .loop-test .taken) (lines-refuse _ _ (own k) (c .if1 .taken)) (c .if1 .taken) _
 
 varint-len-requires : tie.Need-varint-len-requires Inv-loop μ-loop
 varint-len-requires c κs = search needs
 
--- its name lies inside
+-- it passes, and its name lies inside
+passed : (e : tie.Else1 Inv-loop μ-loop)
+    → let t = e .before .before .before in
+    let a = start t .args in
+    Passes (messageOrder (a .buffer .now) (a .total) (a .messages .now) (a .count) (t .before .loop .i))
+passed e = passes-zero _ tt (sym (own (e .before)) ∙ e .if1 .left)
+
 range : (e : tie.Else1 Inv-loop μ-loop)
     → let m = e .before .before .message-at .result in
     m .start + m .len ≤ length (start (e .before .before .before) .args .buffer .now)
 range e =
-    let k = e .before in
-    let t = k .before .before in
-    let a = start t .args in
-    let l = t .before .loop in
-    message-range (a .buffer .now) (a .total) (l .run-first + l .run-count) (eqb (l .i + 1) (a .count)) (k .before .message-at .result) (sym (k .check-message .ensures) ∙ e .if1 .left)
+    let g = e .before .before in
+    rw (g .message-at .ensures) (string-range (start (g .before) .args .buffer .now) _ _ (passed e .1 .1 .1))
 
 small : (v : tie.After-varint-len Inv-loop μ-loop)
     → let m = v .before .before .before .message-at .result in
@@ -127,7 +125,7 @@ loop-again c =
     let t = e .before .before .before in (
       omega (arith, t .loop-test .taken),
       ap (λ (m : Message). m .first + m .count) (e .before .before .message-at .ensures) ∙ sym (run-next (start t .args .messages .now) (t .before .loop .i)),
-      checking-on (t .before .loop .inv .2) (own (e .before) ∙ e .if1 .left) (k .cap .result) (c .cap2 .result) (length-is k) (c .cap2 .ensures),
+      checking-on (t .before .loop .inv .2) (passed e) (k .cap .result) (c .cap2 .result) (length-is k) (c .cap2 .ensures),
     )
 
 returns-2 : tie.Need-returns-2 Inv-loop μ-loop

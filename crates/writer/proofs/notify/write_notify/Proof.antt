@@ -9,21 +9,18 @@ use native.Mathlib.Omega.{arith}
 use lib.Dec.{eqb}
 use lib.ListN.{length}
 use borrow.Author.Tests.{not-true, not-false}
-use Rattle.answer.specs.declared.Refusal.{Refusal}
-use Rattle.answer.specs.Order.{firstRefused}
 use Rattle.answer.specs.Table.{records, joined}
 use Rattle.answer.specs.Inner.{Sound}
 use Rattle.answer.proofs.Output.{writes-refusal}
-use Rattle.answer.proofs.Order.{none-before}
+use Rattle.answer.proofs.Order.{each-pass}
 use Rattle.frame.specs.declared.Head.{Head}
 use Rattle.frame.specs.Records.{messageWidth, messageAt, pairWidth}
-use Rattle.writer.specs.Pair.{pairRefusal}
-use Rattle.writer.specs.Message.{nameBytes, messageRefusal}
-use Rattle.writer.specs.Frame.{headOf, finAlone, pairsBytes}
-use Rattle.writer.specs.Inner.{capped}
+use Rattle.writer.specs.Message.{nameBytes}
+use Rattle.writer.specs.Frame.{headOf, finAlone, pairsBytes, notifyAnswer}
+use Rattle.writer.specs.Inner.{capped, pairOrder, messageOrder}
 use Rattle.writer.proofs.Capped.{capped-left, capped-right, capped-most}
 use Rattle.writer.proofs.Messages.{all-ready, payload-length}
-use Rattle.writer.proofs.Answers.{notify-metadata, notify-messages, notify-pairs, notify-stray, notify-message, notify-pair, notify-passed}
+use Rattle.writer.proofs.Answers.{notifyRecords, notify-metadata, notify-messages, notify-pairs, notify-stray, notify-held}
 use Rattle.writer.proofs.notify.write_notify.Statement.{statement}
 use Rattle.writer.proofs.notify.write_notify.Tie as tie
 
@@ -87,11 +84,18 @@ returns-4 c =
 fourth : (c : tie.Else4) → let a = start (c .before .before .before .before) .args in not (eqb (a .message-count) 0) || eqb (a .pair-count) 0 ≡ true
 fourth c = let a = start (c .before .before .before .before) .args in stray (eqb (a .message-count) 0) (eqb (a .pair-count) 0) ∙ ap not (c .if4 .left)
 
-abbrev messageNumber : tie.Start → ℕ → ℕ
-messageNumber s = let a = s .args in messageRefusal (a .buffer .now) (a .pair-count) (a .messages .now) (a .message-count)
-
-abbrev pairNumber : tie.Start → ℕ → ℕ
-pairNumber s = let a = s .args in pairRefusal (a .buffer .now) (a .pairs .now)
+-- so what is left is the order of the records
+is-held : (c : tie.Else4)
+    → let s = start (c .before .before .before .before) in
+    let a = s .args in
+    notifyAnswer (head s) (a .limit) (a .buffer .now) (a .messages .now) (a .message-count) (a .pairs .now) (a .pair-count)
+    ≡ notifyRecords (head s) (a .limit) (a .buffer .now) (a .messages .now) (a .message-count) (a .pairs .now) (a .pair-count)
+is-held c =
+    let e = c .before in
+    let s = start (e .before .before .before) in
+    let a = s .args in
+    notify-held (head s) (a .limit) (a .buffer .now) (a .messages .now) (a .message-count) (a .pairs .now) (a .pair-count)
+    (allowed (e .before .before)) (messages-held (e .before)) (pairs-held e) (fourth c)
 
 check-messages-requires : tie.Need-check-messages-requires
 check-messages-requires c κs = messages-held (c .before .before)
@@ -100,19 +104,15 @@ returns-5 : tie.Need-returns-5
 returns-5 c =
     let k = c .before .before .before in
     let f = k .before in
-    let e = f .before in
-    let s = start (e .before .before .before) in
-    let a = s .args in
+    let a = start (f .before .before .before .before) .args in
     let r = k .check-messages .result .refusal in
-    writes-refusal (length (a .out .now)) (r .number) (r .place) (a .out .now)
-    (notify-message (head s) (a .limit) (a .buffer .now) (a .messages .now) (a .message-count) (a .pairs .now) (a .pair-count)
-    (allowed (e .before .before)) (messages-held (e .before)) (pairs-held e) (fourth f) r (k .check-messages .ensures .refusal) (c .if5 .taken))
+    writes-refusal (length (a .out .now)) (r .number) (r .place) (a .out .now) (is-held f ∙ k .check-messages .ensures .refuses (c .if5 .taken) _)
 
 -- past the fifth test no message is refused
-no-message : (c : tie.Else5)
-    → let s = start (c .before .before .before .before .before .before .before .before) in
-    firstRefused (messageNumber s) (s .args .message-count) .number ≡ 0
-no-message c = ap (λ (r : Refusal). r .number) (sym (c .before .before .before .check-messages .ensures .refusal)) ∙ c .if5 .left
+sound-messages : (c : tie.Else5)
+    → let a = start (c .before .before .before .before .before .before .before .before) .args in
+    Sound (messageOrder (a .buffer .now) (a .pair-count) (a .messages .now) (a .message-count)) (a .message-count)
+sound-messages c = c .before .before .before .check-messages .ensures .sound (c .if5 .left)
 
 check-arguments-requires : tie.Need-check-arguments-requires
 check-arguments-requires c κs = pairs-held (c .before .before .before .before .before)
@@ -122,13 +122,10 @@ returns-6 c =
     let k = c .before .before .before in
     let g = k .before in
     let f = g .before .before .before .before in
-    let e = f .before in
-    let s = start (e .before .before .before) in
-    let a = s .args in
+    let a = start (f .before .before .before .before) .args in
     let r = k .check-arguments .result .refusal in
     writes-refusal (length (a .out .now)) (r .number) (r .place) (a .out .now)
-    (notify-pair (head s) (a .limit) (a .buffer .now) (a .messages .now) (a .message-count) (a .pairs .now) (a .pair-count)
-    (allowed (e .before .before)) (messages-held (e .before)) (pairs-held e) (fourth f) (no-message g) r (k .check-arguments .ensures .refusal) (c .if6 .taken))
+    (is-held f ∙ each-pass _ _ _ (sound-messages g) ∙ k .check-arguments .ensures .refuses (c .if6 .taken) _)
 
 -- and past the sixth no pair
 abbrev past-messages : tie.Else6 → tie.Else5
@@ -137,11 +134,8 @@ past-messages c = c .before .before .before .before
 abbrev begin : tie.Else6 → tie.Start
 begin c = start (past-messages c .before .before .before .before .before .before .before .before)
 
-no-pair : (c : tie.Else6) → firstRefused (pairNumber (begin c)) (begin c .args .pair-count) .number ≡ 0
-no-pair c = ap (λ (r : Refusal). r .number) (sym (c .before .before .before .check-arguments .ensures .refusal)) ∙ c .if6 .left
-
-sound-messages : (c : tie.Else6) → Sound (messageNumber (begin c)) (begin c .args .message-count)
-sound-messages c = none-before (messageNumber (begin c)) (begin c .args .message-count) (no-message (past-messages c))
+sound-pairs : (c : tie.Else6) → let a = begin c .args in Sound (pairOrder (a .buffer .now) (a .pairs .now)) (a .pair-count)
+sound-pairs c = c .before .before .before .check-arguments .ensures .sound (c .if6 .left)
 
 -- what both loops measured
 names : (c : tie.Else6)
@@ -178,13 +172,13 @@ notify-frame-requires c κs =
     let m = length (pairsBytes (a .buffer .now) (a .pairs .now) (a .pair-count)) in (
       messages-held (f .before .before),
       (
-        all-ready (a .buffer .now) (a .messages .now) (a .pairs .now) (a .message-count) (a .pair-count) (pairs-held (f .before)) (sound-messages e) (none-before (pairNumber s) (a .pair-count) (no-pair e)),
+        all-ready (a .buffer .now) (a .messages .now) (a .pairs .now) (a .message-count) (a .pair-count) (pairs-held (f .before)) (sound-messages (past-messages e)) (sound-pairs e),
         k .cap .ensures
             ∙ ap (λ (x : ℕ). capped (a .limit) (x + e .before .before .before .check-arguments .result .len)) (names e)
             ∙ capped-left (a .limit) n (e .before .before .before .check-arguments .result .len)
             ∙ ap (λ (x : ℕ). capped (a .limit) (n + x)) (given e)
             ∙ capped-right (a .limit) n m
-            ∙ ap (capped (a .limit)) (sym (payload-length (a .buffer .now) (a .pair-count) (a .messages .now) (a .message-count) (sound-messages e) (a .pairs .now) (fourth f))),
+            ∙ ap (capped (a .limit)) (sym (payload-length (a .buffer .now) (a .pair-count) (a .messages .now) (a .message-count) (sound-messages (past-messages e)) (a .pairs .now) (fourth f))),
       ),
     )
 
@@ -195,13 +189,8 @@ returns-7 : tie.Need-returns-7
 returns-7 c =
     let w = c .before .before in
     let e = w .before .before .before .before .before in
-    let s = begin e in
-    let a = s .args in
     let g = past-messages e in
-    let f = g .before .before .before .before in
-    rw (notify-passed (head s) (a .limit) (a .buffer .now) (a .messages .now) (a .message-count) (a .pairs .now) (a .pair-count)
-    (allowed (f .before .before .before)) (messages-held (f .before .before)) (pairs-held (f .before)) (fourth f) (no-message g) (no-pair e))
-    (w .notify-frame .ensures)
+    rw (is-held (g .before .before .before .before) ∙ each-pass _ _ _ (sound-messages g) ∙ each-pass _ _ _ (sound-pairs e)) (w .notify-frame .ensures)
 
 pub write-notify-spec : {M : Type 1} → statement M
 write-notify-spec =

@@ -8,11 +8,11 @@ use Prim.Native.Nat.{ℕ, _+_}
 use native.Mathlib.Omega.{arith}
 use lib.ListN.{length}
 use Rattle.answer.specs.Answer.{written}
-use Rattle.answer.specs.Order.{first}
-use Rattle.answer.proofs.Order.{unless-none}
+use Rattle.answer.specs.Order.{inOrder}
+use Rattle.answer.proofs.Order.{passes-zero, lines-pass}
 use Rattle.varint.proofs.Writing.{length-most}
 use Rattle.types.specs.Form.{valueBytes, writableRecord, lengthOf}
-use Rattle.types.specs.Check.{stringChecks, valueChecks}
+use Rattle.types.specs.Check.{valueChecks}
 use Rattle.types.specs.Promise.{recordOf}
 use Rattle.types.proofs.Checking.{value-part, value-unwritable, value-writable}
 use Rattle.types.proofs.Writing.{value-bound, part-within-buffer}
@@ -55,7 +55,7 @@ returns-2 c =
     let k = c .before in
     let a = start (k .before .before) .args in
     record {
-      number = sym (pair-key (a .buffer .now) (a .pair) (fields (k .before)) _ (sym (k .check-string .ensures)) (c .if2 .taken));
+      number = pair-key (a .buffer .now) (a .pair) (fields (k .before)) _ (k .check-string .ensures) (c .if2 .taken);
       len = λ z. absurd (c .if2 .taken z);
     }
 
@@ -63,7 +63,7 @@ returns-2 c =
 number-is : (e : tie.Else2)
     → let m = e .before .before .before in
     let a = start m .args in
-    m .measure-value .result .number ≡ first (pairChecks (a .buffer .now) (a .pair))
+    m .measure-value .result .number ≡ inOrder (pairChecks (a .buffer .now) (a .pair)) 0
 number-is e =
     let k = e .before in
     let m = k .before .before in
@@ -71,7 +71,7 @@ number-is e =
     let w = fields (k .before) in
     m .measure-value .ensures .0
     ∙ value-part (a .buffer .now) (recordOf (a .pair .value)) w
-    ∙ sym (pair-part (a .buffer .now) (a .pair) w (sym (k .check-string .ensures) ∙ e .if2 .left))
+    ∙ sym (pair-part (a .buffer .now) (a .pair) w (passes-zero _ tt (sym (k .check-string .ensures) ∙ e .if2 .left)))
 
 returns-3 : tie.Need-returns-3
 returns-3 c = record { number = number-is (c .before); len = λ z. absurd (c .if3 .taken z) }
@@ -80,7 +80,7 @@ returns-3 c = record { number = number-is (c .before); len = λ z. absurd (c .if
 formed : (e : tie.Else3)
     → let a = start (e .before .before .before .before) .args in
     Formed (a .buffer .now) (a .pair)
-formed e = formed-passed _ _ (sym (number-is (e .before)) ∙ e .if3 .left)
+formed e = formed-passed _ _ (passes-zero _ tt (sym (number-is (e .before)) ∙ e .if3 .left))
 
 value-is : (e : tie.Else3)
     → let m = e .before .before .before .before in
@@ -91,7 +91,7 @@ value-is e =
     let a = start m .args in
     let v = recordOf (a .pair .value) in
     m .measure-value .ensures .1
-    ∙ ap lengthOf (unless-none (record { number = first (valueChecks (a .buffer .now) v); place = 0 }) (written (valueBytes (a .buffer .now) v)) (sym (m .measure-value .ensures .0) ∙ e .if3 .left))
+    ∙ ap lengthOf (lines-pass (valueChecks (a .buffer .now) v) (passes-zero _ tt (sym (m .measure-value .ensures .0) ∙ e .if3 .left)) 0 (written (valueBytes (a .buffer .now) v)))
 
 varint-len-requires : tie.Need-varint-len-requires
 varint-len-requires c κs = search needs
