@@ -82,12 +82,12 @@ returns-3 c =
 none : (c : tie.Else3) → let s = start (c .before .before .before .before .before .before) in firstRefused (number s) (s .args .action-count) .number ≡ 0
 none c = let k = c .before .before .before in ap (λ (r : Refusal). r .number) (sym (k .check-actions .ensures .refusal)) ∙ c .if3 .left
 
-cast-t21 : tie.Need-cast-t21
-cast-t21 c = search needs
+head-of-requires : tie.Need-head-of-requires
+head-of-requires c κs = search needs
 
 action-frame-requires : tie.Need-action-frame-requires
 action-frame-requires c κs =
-    let f = c .before in
+    let f = c .before .before in
     let k = f .before .before .before in
     let s = start (k .before .before .before) in
     (held (k .before), (none-before (number s) (s .args .action-count) (none f), k .check-actions .ensures .measured (f .if3 .left)))
@@ -98,11 +98,12 @@ same-length c = search needs
 returns-4 : tie.Need-returns-4
 returns-4 c =
     let w = c .before .before in
-    let f = w .before .before in
+    let h = w .before .before in
+    let f = h .before in
     let e = f .before .before .before .before in
     let s = start (e .before .before) in
     let a = s .args in
-    rw (is-list s ∙ list-passed (finAlone (head s)) actionWidth (a .actions .now) (a .action-count) (number s) (frame s) (allowed (e .before)) (held e) (none f)) (w .action-frame .ensures)
+    rw (is-list s ∙ list-passed (finAlone (head s)) actionWidth (a .actions .now) (a .action-count) (number s) (frame s) (allowed (e .before)) (held e) (none f)) (rw (h .head-of .ensures) at (w .action-frame .ensures))
 
 pub write-actions-spec : {M : Type 1} → statement M
 write-actions-spec =
@@ -113,7 +114,7 @@ write-actions-spec =
     returns-2
     check-actions-requires
     returns-3
-    cast-t21
+    head-of-requires
     action-frame-requires
     same-length
     returns-4)

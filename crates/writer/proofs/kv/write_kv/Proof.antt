@@ -83,12 +83,15 @@ returns-3 c =
 none : (c : tie.Else3) → let s = start (c .before .before .before .before .before .before) in firstRefused (number s) (s .args .pair-count) .number ≡ 0
 none c = let k = c .before .before .before in ap (λ (r : Refusal). r .number) (sym (k .check-pairs .ensures .refusal)) ∙ c .if3 .left
 
-cast-t22 : tie.Need-cast-t22
-cast-t22 c = let e = c .before .before .before .before .before in omega (arith, kv-type (head (start (e .before))) (allowed e))
+cast-head-of : tie.Need-cast-head-of
+cast-head-of c = let e = c .before .before .before .before .before in omega (arith, kv-type (head (start (e .before))) (allowed e))
+
+head-of-requires : tie.Need-head-of-requires
+head-of-requires c κs = search needs
 
 kv-frame-requires : tie.Need-kv-frame-requires
 kv-frame-requires c κs =
-    let f = c .before in
+    let f = c .before .before in
     let k = f .before .before .before in
     let s = start (k .before .before .before) in
     (run-sound (s .args .buffer .now) (s .args .pairs .now) (s .args .pair-count) (held (k .before)) (kv-sound (s .args .buffer .now) (s .args .pairs .now) (none-before (number s) (s .args .pair-count) (none f))), k .check-pairs .ensures .measured (f .if3 .left))
@@ -99,11 +102,12 @@ same-length c = search needs
 returns-4 : tie.Need-returns-4
 returns-4 c =
     let w = c .before .before in
-    let f = w .before .before in
+    let h = w .before .before in
+    let f = h .before in
     let e = f .before .before .before .before in
     let s = start (e .before .before) in
     let a = s .args in
-    rw (is-list s ∙ list-passed (kvAllowed (head s)) pairWidth (a .pairs .now) (a .pair-count) (number s) (frame s) (allowed (e .before)) (held e) (none f)) (w .kv-frame .ensures)
+    rw (is-list s ∙ list-passed (kvAllowed (head s)) pairWidth (a .pairs .now) (a .pair-count) (number s) (frame s) (allowed (e .before)) (held e) (none f)) (rw (h .head-of .ensures) at (w .kv-frame .ensures))
 
 pub write-kv-spec : {M : Type 1} → statement M
 write-kv-spec =
@@ -114,7 +118,8 @@ write-kv-spec =
     returns-2
     check-pairs-requires
     returns-3
-    cast-t22
+    cast-head-of
+    head-of-requires
     kv-frame-requires
     same-length
     returns-4)

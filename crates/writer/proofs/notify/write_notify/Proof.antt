@@ -164,12 +164,12 @@ add-cap c =
 cap-requires : tie.Need-cap-requires
 cap-requires c κs = search needs
 
-cast-t29 : tie.Need-cast-t29
-cast-t29 c = search needs
+head-of-requires : tie.Need-head-of-requires
+head-of-requires c κs = search needs
 
 notify-frame-requires : tie.Need-notify-frame-requires
 notify-frame-requires c κs =
-    let k = c .before in
+    let k = c .before .before in
     let e = k .before .before .before in
     let s = begin e in
     let a = s .args in
@@ -194,14 +194,15 @@ same-length c = search needs
 returns-7 : tie.Need-returns-7
 returns-7 c =
     let w = c .before .before in
-    let e = w .before .before .before .before .before in
+    let h = w .before .before in
+    let e = h .before .before .before .before in
     let s = begin e in
     let a = s .args in
     let g = past-messages e in
     let f = g .before .before .before .before in
     rw (notify-passed (head s) (a .limit) (a .buffer .now) (a .messages .now) (a .message-count) (a .pairs .now) (a .pair-count)
     (allowed (f .before .before .before)) (messages-held (f .before .before)) (pairs-held (f .before)) (fourth f) (no-message g) (no-pair e))
-    (w .notify-frame .ensures)
+    (rw (h .head-of .ensures) at (w .notify-frame .ensures))
 
 pub write-notify-spec : {M : Type 1} → statement M
 write-notify-spec =
@@ -218,7 +219,7 @@ write-notify-spec =
     returns-6
     add-cap
     cap-requires
-    cast-t29
+    head-of-requires
     notify-frame-requires
     same-length
     returns-7)
