@@ -5,13 +5,15 @@ use mathlib.Core.List.{List, _++_}
 use Prim.Native.Nat.{ℕ, _+_, _-_, _≤_, _<_}
 use native.Mathlib.Omega.{arith}
 use lib.ListN.{length, take, length-append}
-use lib.Seq.{take-append-le}
+use lib.Seq.{take-append-le, length-take-le}
 use borrow.Author.Tests.{le-leb, lt-leb}
 use Rattle.answer.specs.Answer.{done, refused}
 use Rattle.answer.specs.Order.{inOrder}
 use Rattle.answer.proofs.Cases.{lt-or-le, not-both}
+use Rattle.frame.specs.declared.FrameCut.{FrameCut}
 use Rattle.frame.specs.Head.{fourNumber}
-use Rattle.frame.specs.Read.{Reading, wait, answered, cut}
+use Rattle.frame.specs.Read.{wait, answered, cut}
+use Rattle.frame.specs.Promise.{cutSaid, Cut}
 use Rattle.frame.proofs.Laws.{four-kept}
 use Rattle.frame.proofs.Answers.{done-same, refused-same, wait-same, wait-answered, answered-same}
 
@@ -132,3 +134,10 @@ cut-waits-once limit s t n h e m =
     let all = length-append s t in
     (_, _, cut-whole limit (s ++ t) (omega (arith, all, h)) (rw same (y .1)) (rw same (omega (arith, all, y .3, m)))))
     (cut-waits limit s n .0 e)
+
+-- what a call that says so was given, and how long a frame that was cut out is
+pub cut-said : (limit : ℕ) (s : List ℕ) {r q : FrameCut} → Cut s limit r → r ≡ q → cut limit s ≡ cutSaid s q
+cut-said limit s p e = sym p ∙ ap (cutSaid s) e
+
+pub cut-long : (limit : ℕ) (s : List ℕ) (end : ℕ) → cut limit s ≡ answered (done (take end s) end) → end ≡ length (take end s)
+cut-long limit s end e = sym (length-take-le end s (cut-out limit s e .all))

@@ -12,7 +12,7 @@ use borrow.Author.Tests.{lt-ltb, le-ltb, le-leb, lt-leb, leb-true, eq-eqb, ne-eq
 use Rattle.answer.specs.Answer.{Answer, done, refused, behind}
 use Rattle.answer.specs.Order.{inOrder}
 use Rattle.answer.specs.Table.{some}
-use Rattle.answer.proofs.Cases.{lt-or-le, bool-cases, not-both, true-false}
+use Rattle.answer.proofs.Cases.{lt-or-le, bool-cases, not-both, true-false, both-true}
 use Rattle.answer.proofs.Records.{some-none, some-here, some-later}
 use Rattle.varint.specs.Number.{number}
 use Rattle.varint.proofs.Reading.{accepted, accepted-kept}
@@ -20,7 +20,7 @@ use Rattle.frame.specs.declared.Head.{Head}
 use Rattle.frame.specs.declared.Side.{Side}
 use Rattle.frame.specs.declared.Side.the-variants as side
 use Rattle.frame.specs.Head.{fourNumber}
-use Rattle.frame.specs.Read.{Sender, frameTypes, finSet, sender, still, numberFrom, head}
+use Rattle.frame.specs.Read.{Sender, haproxyTypes, agentTypes, frameTypes, finSet, sender, still, numberFrom, head}
 use Rattle.frame.proofs.Laws.{four-kept}
 use Rattle.frame.proofs.Answers.{done-same, line-passed, next-done}
 
@@ -205,6 +205,21 @@ three n k =
         (λ g. ⊎-elim (λ i. absurd (a (omega arith))) (λ i. ⊎-elim (λ j. absurd (b (omega arith))) (λ j. absurd (c (omega arith))) (lt-or-le k (2 + n))) (lt-or-le k (1 + n)))
         (lt-or-le (2 + n) k))
         (lt-or-le k n)
+
+module _ (n k : ℕ) where
+  pub three-so : n ≤ k → k ≤ 2 + n → some (eqb k) (n ∷ (1 + n) ∷ (2 + n) ∷ []) ≡ true
+  three-so h l = three n k ∙ rw (le-leb n k h, le-leb k (2 + n) l)
+
+  pub three-says : some (eqb k) (n ∷ (1 + n) ∷ (2 + n) ∷ []) ≡ true → (n ≤ k) × (k ≤ 2 + n)
+  three-says e = let b = both-true (leb n k) (leb k (2 + n)) (sym (three n k) ∙ e) in (leb-true n k (b .0), leb-true k (2 + n) (b .1))
+
+-- the types that a side sends are known
+pub own-known : (x : Side) (k : ℕ) → some (eqb k) (sender x .own) ≡ true → some (eqb k) (sender x .known) ≡ true
+own-known side.HAProxy k e = some-both (eqb k) haproxyTypes agentTypes ∙ ap (λ (b : Bool). b || some (eqb k) agentTypes) e
+own-known side.Agents k e =
+    some-both (eqb k) haproxyTypes agentTypes
+    ∙ ap (λ (b : Bool). some (eqb k) haproxyTypes || b) e
+    ∙ bool-cases (some (eqb k) haproxyTypes) (λ t. rw t) (λ t. rw t)
 
 -- each side knows the same types, and the same flags are allowed
 pub sides : (x : Side) → (sender x .known ≡ frameTypes) × (sender x .flags ≡ finSet)
