@@ -9,7 +9,7 @@ use lib.ListN.{length, take, drop}
 use Rattle.answer.specs.Answer.{Answer, done, refused, next}
 use Rattle.answer.proofs.Cases.{not-both}
 use Rattle.answer.proofs.Output.{lent-tail}
-use Rattle.frame.specs.Read.{Reading, wait, answered, thenRead}
+use Rattle.frame.specs.Read.{Reading, wait, answered, onward}
 
 -- what a reader says of `&s[at..]`, which it was lent
 pub lent : {A : Type 0} (reader : List ℕ → Answer A) (s : List ℕ) (at : ℕ) {a b : Answer A} → a ≡ reader (take (length s - at) (drop at s)) → a ≡ b → reader (drop at s) ≡ b
@@ -53,16 +53,16 @@ reading-cases (answered (refused number place)) f g h = g number place refl
 
 -- What is then read of a frame that was cut out: a wait is one of the cut; what is accepted is so of the frame; a refusal is the cut's or the frame's.
 module _ {A B : Type 0} (g : A → Answer B) where
-  pub then-waits : (r : Reading A) (n : ℕ) → thenRead r g ≡ wait n → r ≡ wait n
-  then-waits (wait m) n e = ap wait (wait-same e)
-  then-waits (answered a) n e = wait-answered (sym e)
+  pub onward-waits : (r : Reading A) (n : ℕ) → onward r g ≡ wait n → r ≡ wait n
+  onward-waits (wait m) n e = ap wait (wait-same e)
+  onward-waits (answered a) n e = wait-answered (sym e)
 
-  pub then-done : (r : Reading A) {y : B} {used : ℕ} → thenRead r g ≡ answered (done y used) → (x : A) × (end : ℕ) × (r ≡ answered (done x end)) × (g x ≡ done y used)
-  then-done (wait n) e = wait-answered e
-  then-done (answered a) e = let o = next-done a (λ (x : A) (end : ℕ). g x) (answered-same e) in (o .0, o .1, ap answered (o .2), o .3)
+  pub onward-done : (r : Reading A) {y : B} {used : ℕ} → onward r g ≡ answered (done y used) → (x : A) × (end : ℕ) × (r ≡ answered (done x end)) × (g x ≡ done y used)
+  onward-done (wait n) e = wait-answered e
+  onward-done (answered a) e = let o = next-done a (λ (x : A) (end : ℕ). g x) (answered-same e) in (o .0, o .1, ap answered (o .2), o .3)
 
-  pub then-refused : (r : Reading A) {number place : ℕ} → thenRead r g ≡ answered (refused number place)
+  pub onward-refused : (r : Reading A) {number place : ℕ} → onward r g ≡ answered (refused number place)
       → (r ≡ answered (refused number place)) ⊎ ((x : A) × (end : ℕ) × (r ≡ answered (done x end)) × (g x ≡ refused number place))
-  then-refused (wait n) e = wait-answered e
-  then-refused (answered (done x end)) e = inr (x, end, refl, answered-same e)
-  then-refused (answered (refused number place)) e = inl (ap answered (refused-as (answered-same e)))
+  onward-refused (wait n) e = wait-answered e
+  onward-refused (answered (done x end)) e = inr (x, end, refl, answered-same e)
+  onward-refused (answered (refused number place)) e = inl (ap answered (refused-as (answered-same e)))

@@ -30,7 +30,7 @@ pub record Sendable (sent : Sender) (h : Head) : Type 0 where
   pub frame : h .frame < 2 ^ 64
 
 -- Such a frame, with t behind it: its head is read, its payload stands where that ends, and all of it is cut out.
-pub record HeadBack (sent : Sender) (h : Head) (payload bytes : List ℕ) (limit : ℕ) (t : List ℕ) : Type 0 where
+pub record FrameBack (sent : Sender) (h : Head) (payload bytes : List ℕ) (limit : ℕ) (t : List ℕ) : Type 0 where
   pub start : ℕ
   pub there : drop start bytes ≡ payload
   pub long : start + length payload ≡ length bytes
@@ -93,8 +93,8 @@ module _ (sent : Sender) (h : Head) (limit : ℕ) (p bytes : List ℕ) (f : Fram
       }
 
   -- Law: so it is of every frame that was written, under a limit no lower.
-  pub written-back : (higher : ℕ) → limit ≤ higher → (t : List ℕ) → HeadBack sent h p bytes higher t
-  written-back higher up t =
+  pub frame-back : (higher : ℕ) → limit ≤ higher → (t : List ℕ) → FrameBack sent h p bytes higher t
+  frame-back higher up t =
       let n = long in
       let says : fourNumber bytes ≡ length (drop 4 bytes) = four-front bytes _ (omega (arith, n .0)) (f .says) in
       let same = four-kept bytes t (omega (arith, n .0)) in

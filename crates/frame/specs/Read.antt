@@ -24,9 +24,9 @@ answerOf (wait missing) = refused 1 missing
 answerOf (answered a) = a
 
 -- what is then read of it, where it was accepted
-abbrev pub thenRead : {A B : Type 0} → Reading A → (A → Answer B) → Reading B
-thenRead (wait missing) f = wait missing
-thenRead (answered a) f = answered (next a (λ x end. f x))
+abbrev pub onward : {A B : Type 0} → Reading A → (A → Answer B) → Reading B
+onward (wait missing) f = wait missing
+onward (answered a) f = answered (next a (λ x end. f x))
 
 -- The frame at the front, with its length bytes: these are to be there; its length, within the limit; and its bytes, which are to be there.
 unfoldable pub cut : ℕ → List ℕ → Reading (List ℕ)

@@ -15,7 +15,7 @@ use Rattle.frame.specs.declared.Pair.{Pair}
 use Rattle.frame.specs.declared.Head.{Head}
 use Rattle.frame.specs.Records.{keyOf}
 use Rattle.frame.proofs.Laws.{Framed}
-use Rattle.frame.proofs.Back.{Sendable, written-back}
+use Rattle.frame.proofs.Back.{Sendable, frame-back as written-back}
 use Rattle.frame.proofs.Meaning.{pairMeaning}
 use Rattle.parser.specs.Pair.{pairOf, movedPair, pair}
 use Rattle.frame.specs.Read.{answered}

@@ -15,7 +15,7 @@ use Rattle.frame.specs.declared.Side.the-variants as side
 use Rattle.frame.specs.declared.Pair.{Pair}
 use Rattle.frame.specs.declared.Message.{Message}
 use Rattle.frame.specs.Read.{wait, answered, cut, sender, head}
-use Rattle.frame.proofs.Answers.{then-waits, then-done, then-refused}
+use Rattle.frame.proofs.Answers.{onward-waits, onward-done, onward-refused}
 use Rattle.parser.specs.declared.Rooms.{Rooms}
 use Rattle.parser.specs.Pair.{pairOf, movedPair}
 use Rattle.parser.specs.Payload.{Contents, payload, movedMessage, movedContents}
@@ -66,17 +66,17 @@ module _ {A : Type 0} (x : Entry A) (limit : ℕ) (s : List ℕ) where
 
   pub front-waited : (n : ℕ) → atFront x limit s ≡ wait n → cut limit s ≡ wait n
   unfolding atFront
-  front-waited n e = then-waits (oneFrame x) (cut limit s) n e
+  front-waited n e = onward-waits (oneFrame x) (cut limit s) n e
 
   pub front-done : (y : Head × A) (used : ℕ) → atFront x limit s ≡ answered (done y used)
       → (f : List ℕ) × (end : ℕ) × (cut limit s ≡ answered (done f end)) × (oneFrame x f ≡ done y used)
   unfolding atFront
-  front-done y used e = then-done (oneFrame x) (cut limit s) e
+  front-done y used e = onward-done (oneFrame x) (cut limit s) e
 
   pub front-refused : (n place : ℕ) → atFront x limit s ≡ answered (refused n place)
       → (cut limit s ≡ answered (refused n place)) ⊎ ((f : List ℕ) × (end : ℕ) × (cut limit s ≡ answered (done f end)) × (oneFrame x f ≡ refused n place))
   unfolding atFront
-  front-refused n place e = then-refused (oneFrame x) (cut limit s) e
+  front-refused n place e = onward-refused (oneFrame x) (cut limit s) e
 
 module _ (limit : ℕ) (rooms : Rooms) (s : List ℕ) where
   pub frame-wait : (n : ℕ) → cut limit s ≡ wait n → frameRead limit rooms s ≡ wait n

@@ -12,7 +12,7 @@ use lib.ListN.{drop}
 use Rattle.answer.specs.Answer.{Answer, done, next, behind}
 use Rattle.frame.specs.declared.Head.{Head}
 use Rattle.frame.specs.declared.Side.the-variants as side
-use Rattle.frame.specs.Read.{Reading, thenRead, cut, Sender, sender, head}
+use Rattle.frame.specs.Read.{Reading, onward, cut, Sender, sender, head}
 use Rattle.parser.specs.declared.Rooms.{Rooms}
 use Rattle.parser.specs.Payload.{Contents, payload, movedContents}
 
@@ -33,7 +33,7 @@ oneFrame e f =
 
 -- the frame at the front of some bytes, of a length within the limit
 unfoldable pub atFront : {A : Type 0} → Entry A → ℕ → List ℕ → Reading (Head × A)
-atFront e limit s = thenRead (cut limit s) (oneFrame e)
+atFront e limit s = onward (cut limit s) (oneFrame e)
 
 -- HAProxy's frames: NOTIFY, which is type 3, has messages, and the others have a KV list.
 abbrev pub haproxys : Rooms → Entry Contents
