@@ -30,10 +30,10 @@ use Rattle.writer.specs.Pair.{pairBytes, pairRefusal, kvRefusal}
 use Rattle.writer.specs.Frame.{limited, kvAllowed, pairsBytes, kvAnswer}
 use Rattle.writer.proofs.Pairs.{pair-number, kv-own, kv-new}
 use Rattle.writer.proofs.Answers.{kv-list, list-refused, list-passed}
-use Rattle.inverse.proofs.Plain.{plainPair, wellPair, WellPairs, PlainPairs}
-use Rattle.inverse.proofs.Pair.{Plain, run-form, run-only, pair-refuses}
-use Rattle.inverse.proofs.Payload.{Distinct}
-use Rattle.inverse.proofs.Head.{payload-same}
+use Rattle.roundtrip.proofs.Plain.{plainPair, wellPair, WellPairs, PlainPairs}
+use Rattle.roundtrip.proofs.Pair.{Plain, run-form, run-only, pair-refuses}
+use Rattle.roundtrip.proofs.Payload.{Distinct}
+use Rattle.roundtrip.proofs.Head.{payload-same}
 
 -- 15 is a refusal
 pub fifteen : _≡_ {A = ℕ} 15 0 → ⊥

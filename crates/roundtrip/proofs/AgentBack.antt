@@ -40,8 +40,8 @@ use Rattle.writer.proofs.Pairs.{formed-passed, pair-bytes}
 use Rattle.writer.proofs.Actions.{writable-unset, writable-other, set-bytes, unset-bytes, passed-scope, passed-pair, action-number}
 use Rattle.writer.proofs.Answers.{kv-agent-hello, kv-agent-disconnect}
 use Rattle.writer.proofs.Laws.{Wrote, kv-accepted, actions-accepted, actions-wrote}
-use Rattle.spop.proofs.Walked as walk
-use Rattle.spop.proofs.ReadBack.{map-twice, fin-alone, back, stands, short, list, wrote, placed, all-read}
+use Rattle.roundtrip.proofs.Walked as walk
+use Rattle.roundtrip.proofs.ReadBack.{map-twice, fin-alone, back, stands, short, list, wrote, placed, all-read}
 
 -- ---- an action
 

@@ -27,11 +27,11 @@ use Rattle.writer.specs.Pair.{kvRefusal}
 use Rattle.writer.specs.Frame.{headOf, limited, kvAllowed, pairsBytes, kvAnswer, actionsAnswer}
 use Rattle.writer.specs.Promise.{WriteKv, WriteActions}
 use Rattle.writer.proofs.Answers.{kv-list, list-metadata}
-use Rattle.inverse.proofs.Plain.{plainPair, wellPair, WellPairs, PlainPairs, plainAction, wellAction, WellActions, PlainActions}
+use Rattle.roundtrip.proofs.Plain.{plainPair, wellPair, WellPairs, PlainPairs, plainAction, wellAction, WellActions, PlainActions}
 use Rattle.agent.proofs.Standing.{agent-cut}
-use Rattle.inverse.proofs.Kv.{Kv, list-written, list-ill, list-differs}
-use Rattle.inverse.proofs.Sent.{sent-listed, sent-may, ack-inverse, ack-refuses, ack-differs}
-use Rattle.inverse.proofs.Inverse.{caller-written, caller-refused, caller-other, done-refused, all-both}
+use Rattle.roundtrip.proofs.Kv.{Kv, list-written, list-ill, list-differs}
+use Rattle.roundtrip.proofs.Sent.{sent-listed, sent-may, ack-inverse, ack-refuses, ack-differs}
+use Rattle.roundtrip.proofs.Inverse.{caller-written, caller-refused, caller-other, done-refused, all-both}
 
 -- ---- a frame that `read_agent_frame` accepted
 

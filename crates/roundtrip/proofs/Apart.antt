@@ -37,13 +37,13 @@ use Rattle.writer.specs.Action.{actionBytes}
 use Rattle.writer.specs.Frame.{headOf}
 use Rattle.writer.proofs.Pairs.{pair-bytes}
 use Rattle.writer.proofs.Messages.{name-bytes}
-use Rattle.inverse.proofs.Pair.{Plain, run-form}
-use Rattle.inverse.proofs.Payload.{kv-stands, messages-stand}
-use Rattle.inverse.proofs.Listed.{parts-plain, there-form}
+use Rattle.roundtrip.proofs.Pair.{Plain, run-form}
+use Rattle.roundtrip.proofs.Payload.{kv-stands, messages-stand}
+use Rattle.roundtrip.proofs.Listed.{parts-plain, there-form}
 use Rattle.agent.proofs.Standing.{agent-cut}
-use Rattle.inverse.proofs.Head.{Accepted, entry-accepted, frame-accepted}
-use Rattle.inverse.proofs.Actions.{PlainOf, actions-form}
-use Rattle.inverse.proofs.Sent.{sent-run, sent-actions}
+use Rattle.roundtrip.proofs.Head.{Accepted, entry-accepted, frame-accepted}
+use Rattle.roundtrip.proofs.Actions.{PlainOf, actions-form}
+use Rattle.roundtrip.proofs.Sent.{sent-run, sent-actions}
 
 -- ---- written forms go by meanings
 

@@ -24,8 +24,8 @@ use Rattle.writer.specs.Action.{actionBytes, actionWritable, actionRefusal}
 use Rattle.writer.specs.Message.{nameBytes, messageBytes, messageRefusal}
 use Rattle.writer.specs.Frame.{headOf, limited, kvAllowed, kvAnswer, actionsAnswer, notifyAnswer}
 use Rattle.writer.proofs.Joined.{AckCall, ackPayload, actions-joined, acts-in-a-row}
-use Rattle.spop.proofs.AgentBack.{SentBack, agentAnswer, agent-read-back}
-use Rattle.spop.proofs.ReadBack.{ReadBack, kv-read-back, notify-read-back, argumentOf, notify-arguments}
+use Rattle.roundtrip.proofs.AgentBack.{SentBack, agentAnswer, agent-read-back}
+use Rattle.roundtrip.proofs.ReadBack.{ReadBack, kv-read-back, notify-read-back, argumentOf, notify-arguments}
 
 -- HAPROXY-DISCONNECT with A, which is 7 and has the flags 2, and B, which is the text 2.0
 abbrev pub text : List ℕ

@@ -33,10 +33,10 @@ use Rattle.parser.proofs.Entries.{said-done}
 use Rattle.parser.proofs.Accepted.{frame-cut}
 use Rattle.writer.specs.Frame.{limited, headOf, kvAllowed, kvAnswer, notifyAnswer}
 use Rattle.writer.specs.Promise.{WriteKv, WriteNotify}
-use Rattle.inverse.proofs.Plain.{plainPair, wellPair, wellName, WellPairs, WellNames, PlainPairs}
-use Rattle.inverse.proofs.Head.{frame-accepted}
-use Rattle.inverse.proofs.Kv.{Kv, list-written, list-ill, list-differs}
-use Rattle.inverse.proofs.Again.{kv-listed, kv-may, notify-inverse, notify-refuses-name, notify-refuses-pair, notify-differs}
+use Rattle.roundtrip.proofs.Plain.{plainPair, wellPair, wellName, WellPairs, WellNames, PlainPairs}
+use Rattle.roundtrip.proofs.Head.{frame-accepted}
+use Rattle.roundtrip.proofs.Kv.{Kv, list-written, list-ill, list-differs}
+use Rattle.roundtrip.proofs.Again.{kv-listed, kv-may, notify-inverse, notify-refuses-name, notify-refuses-pair, notify-differs}
 
 -- ---- what a writer's caller learns
 

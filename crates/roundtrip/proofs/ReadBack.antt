@@ -33,7 +33,7 @@ use Rattle.writer.proofs.Pairs.{formed-at, kv-passed, kv-met}
 use Rattle.writer.proofs.Messages.{runs-start, runs-inside, last-ends}
 use Rattle.writer.proofs.Answers.{kv-other}
 use Rattle.writer.proofs.Laws.{Wrote, kv-accepted, kv-wrote, notify-accepted, notify-passed-records, notify-wrote}
-use Rattle.spop.proofs.Walked as walk
+use Rattle.roundtrip.proofs.Walked as walk
 
 -- These bytes are accepted as a frame of n bytes with this head, and its messages and pairs mean what those of a buffer mean, in the same order.
 pub record ReadBack (h : Head) (n : ℕ) (buffer : List ℕ) (messages : List Message) (pairs : List Pair) (limit : ℕ) (rooms : Rooms) (input : List ℕ) : Type 0 where

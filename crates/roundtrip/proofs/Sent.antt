@@ -33,12 +33,12 @@ use Rattle.writer.specs.Action.{actionBytes, actionRefusal}
 use Rattle.writer.specs.Frame.{headOf, limited, finAlone, kvAllowed, actionsBytes, actionsAnswer}
 use Rattle.writer.proofs.Actions.{action-number}
 use Rattle.writer.proofs.Answers.{kv-agent-hello, kv-agent-disconnect, actions-list, list-refused, list-passed}
-use Rattle.inverse.proofs.Plain.{plainAction, wellAction, WellActions, PlainActions}
-use Rattle.inverse.proofs.Actions.{PlainOf, Refuses, actions-form, actions-only, actions-refuse}
+use Rattle.roundtrip.proofs.Plain.{plainAction, wellAction, WellActions, PlainActions}
+use Rattle.roundtrip.proofs.Actions.{PlainOf, Refuses, actions-form, actions-only, actions-refuse}
 use Rattle.agent.proofs.Standing.{ActionRun, actions-stand, of-actions, of-pairs, agent-cut}
-use Rattle.inverse.proofs.Head.{kinds-above, payload-same, Accepted, entry-accepted}
-use Rattle.inverse.proofs.Payload.{Distinct, kv-distinct, kv-stands}
-use Rattle.inverse.proofs.Kv.{fifteen, limited-whole, Kv, table-in}
+use Rattle.roundtrip.proofs.Head.{kinds-above, payload-same, Accepted, entry-accepted}
+use Rattle.roundtrip.proofs.Payload.{Distinct, kv-distinct, kv-stands}
+use Rattle.roundtrip.proofs.Kv.{fifteen, limited-whole, Kv, table-in}
 
 -- ---- an accepted frame
 

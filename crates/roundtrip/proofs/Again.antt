@@ -35,11 +35,11 @@ use Rattle.writer.specs.Message.{messageBytes, runStart, messageRefusal}
 use Rattle.writer.specs.Frame.{headOf, limited, kvAllowed, messagesBytes, notifyAnswer}
 use Rattle.writer.proofs.Messages.{message-name, message-number}
 use Rattle.writer.proofs.Answers.{kv-haproxy-hello, kv-haproxy-disconnect, notify-message, notify-pair, notify-passed}
-use Rattle.inverse.proofs.Plain.{plainPair, wellPair, wellName, WellPairs, WellNames, PlainPairs}
-use Rattle.inverse.proofs.Payload.{kv-distinct, kv-stands, messages-stand}
-use Rattle.inverse.proofs.Listed.{messages-form, messages-only, Runs, runs-stand, no-stray}
-use Rattle.inverse.proofs.Head.{kinds-below, payload-same, Accepted, frame-accepted}
-use Rattle.inverse.proofs.Kv.{fifteen, limited-whole, each-plain, plain-each, pair-well, pair-ill, Kv, table-in}
+use Rattle.roundtrip.proofs.Plain.{plainPair, wellPair, wellName, WellPairs, WellNames, PlainPairs}
+use Rattle.roundtrip.proofs.Payload.{kv-distinct, kv-stands, messages-stand}
+use Rattle.roundtrip.proofs.Listed.{messages-form, messages-only, Runs, runs-stand, no-stray}
+use Rattle.roundtrip.proofs.Head.{kinds-below, payload-same, Accepted, frame-accepted}
+use Rattle.roundtrip.proofs.Kv.{fifteen, limited-whole, each-plain, plain-each, pair-well, pair-ill, Kv, table-in}
 
 -- ---- an accepted frame, and the tables that the reader left
 
