@@ -1,11 +1,11 @@
 -- What is written for HAProxy is read back by the entry for agents' frames: one statement for all three types.
 use mathlib.Core.Path.{_≡_, refl, sym, ap, ap₂, subst, _∙_}
-use mathlib.Core.Bool.{Bool, true, false, cond, _&&_, _||_}
+use mathlib.Core.Bool.{true, cond}
 use mathlib.Core.Logic.{⊎-elim}
 use mathlib.Core.List.{List, [], _∷_, _++_, map}
 use Prim.Native.Nat.{ℕ, _+_, _^_, _≤_, _<_}
 use native.Mathlib.Omega.{arith}
-use lib.Dec.{leb, eqb}
+use lib.Dec.{eqb}
 use lib.ListN.{length, drop, length-append}
 use borrow.Author.Tests.{le-leb, eq-eqb, ne-eqb, eqb-true, eqb-false}
 use Rattle.answer.specs.Answer.{Answer, done, next, behind}
@@ -27,15 +27,13 @@ use Rattle.frame.proofs.Meaning.{pairMeaning, actionMeaning}
 use Rattle.parser.specs.declared.Rooms.{Rooms}
 use Rattle.parser.specs.declared.Metadata.{Metadata}
 use Rattle.parser.specs.Pair.{movedPair}
-use Rattle.parser.specs.Payload.{Contents, payload}
 use Rattle.parser.specs.Frame.{answered}
 use Rattle.parser.proofs.Back.{pair-moved, metadataOf, Readable, known-high}
 use Rattle.agent.specs.Action.{actions, movedAction}
 use Rattle.agent.specs.Frame.{Sent, ofPairs, ofActions, movedSent, sentOf, agents, agentRead}
 use Rattle.agent.proofs.Back.{ActionBack, set-back, unset-back, actions-back}
-use Rattle.writer.specs.Pair.{pairBytes, pairChecks}
 use Rattle.writer.specs.Action.{noValue, actionWritable, actionBytes, actionChecks, actionRefusal}
-use Rattle.writer.specs.Frame.{finAlone, kvAllowed, kvAnswer, actionsBytes, actionsAnswer}
+use Rattle.writer.specs.Frame.{finAlone, kvAnswer, actionsBytes, actionsAnswer}
 use Rattle.writer.proofs.Pairs.{formed-passed, pair-bytes}
 use Rattle.writer.proofs.Actions.{writable-unset, writable-other, set-bytes, unset-bytes, passed-scope, passed-pair, action-number}
 use Rattle.writer.proofs.Answers.{kv-agent-hello, kv-agent-disconnect}

@@ -2,42 +2,32 @@
 -- bytes, where its texts are UTF-8 and its values plain; 15 at the first record with another text; and else other bytes.
 use mathlib.Core.Path.{_≡_, refl, sym, ap, _∙_}
 use mathlib.Core.Bool.{true, false, cond}
-use mathlib.Core.List.{List, [], _∷_, _++_, append-nil}
+use mathlib.Core.List.{List, [], _∷_, _++_}
 use Prim.Native.Nat.{ℕ, zero, suc, _+_, _*_, _≤_, _<_}
 use native.Mathlib.Omega.{arith}
-use lib.ListN.{length, drop, length-append, drop-of-length-le}
-use borrow.Author.Tests.{le-leb}
-use Rattle.answer.specs.Answer.{refused, written}
-use Rattle.answer.specs.Order.{inOrder}
-use Rattle.answer.specs.declared.Refusal.{Refusal}
+use lib.ListN.{length, drop, length-append}
 use Rattle.answer.specs.Table.{records, joined, some}
-use Rattle.answer.proofs.Cases.{true-false}
-use Rattle.answer.proofs.Order.{none-refused, refused-here}
+use Rattle.answer.proofs.Cases.{bool-cases}
 use Rattle.answer.proofs.Records.{records-none, records-snoc}
 use Rattle.varint.proofs.Reading.{Bytes}
 use Rattle.frame.specs.declared.Head.{Head}
 use Rattle.frame.specs.declared.Pair.{Pair}
-use Rattle.frame.specs.Head.{fourBytes, headBytes, frameBytes}
+use Rattle.frame.specs.Head.{frameBytes}
 use Rattle.frame.specs.Records.{pairWidth, pairAt, pairNumbers, sameKey}
-use Rattle.frame.proofs.Laws.{four-long}
 use Rattle.parser.specs.Inner.{Run}
 use Rattle.parser.proofs.Runs.{from-next}
 use Rattle.parser.proofs.Filling.{joined-width}
-use Rattle.answer.proofs.Each.{Each, each-record, each-at}
+use Rattle.answer.proofs.Each.{Each}
 use Rattle.listing.proofs.Accepted.{Whole, pair-there}
 use Rattle.listing.proofs.Tables.{table-pairs}
 use Rattle.writer.specs.Pair.{pairBytes, pairRefusal, kvRefusal}
-use Rattle.writer.specs.Frame.{limited, kvAllowed, pairsBytes, kvAnswer}
+use Rattle.writer.specs.Frame.{kvAllowed, kvAnswer}
 use Rattle.writer.proofs.Pairs.{pair-number, kv-own, kv-new}
-use Rattle.writer.proofs.Answers.{kv-list, list-refused, list-passed}
-use Rattle.roundtrip.proofs.Plain.{plainPair, wellPair, WellPairs, PlainPairs}
-use Rattle.roundtrip.proofs.Pair.{Plain, run-form, run-only, pair-refuses}
+use Rattle.writer.proofs.Answers.{kv-list}
+use Rattle.roundtrip.proofs.Plain.{plainPair, wellPair}
+use Rattle.roundtrip.proofs.Pair.{run-form, run-only, pair-refuses}
 use Rattle.roundtrip.proofs.Payload.{Distinct}
-use Rattle.roundtrip.proofs.Head.{payload-same}
-
--- 15 is a refusal
-pub fifteen : _≡_ {A = ℕ} 15 0 → ⊥
-fifteen z = omega arith
+use Rattle.roundtrip.proofs.Rewritten.{Rewrites, fifteen, held-each, list-rewrites}
 
 -- ---- by index
 
@@ -52,43 +42,12 @@ distinct-at f at (suc n) j d (suc i) h =
     let more : records at 0 j ++ (at j ∷ []) ≡ records at 0 (suc j) = sym (records-snoc at j) ∙ ap (records at 0) (sym one) in
     rw on (distinct-at f at n (suc j) (rw more at (d .1)) i (omega arith))
 
--- ---- what a writer answers to bytes within the limit
-
--- a frame's length, and one that is these bytes and within the limit
-frame-long : (h : Head) (p : List ℕ) → length (frameBytes h p) ≡ 4 + length (headBytes h ++ p)
-unfolding frameBytes
-frame-long h p = length-append (fourBytes (length (headBytes h ++ p))) (headBytes h ++ p) ∙ ap (λ (n : ℕ). n + length (headBytes h ++ p)) (four-long (length (headBytes h ++ p)))
-
-pub limited-whole : (limit : ℕ) (h : Head) (p f : List ℕ) → frameBytes h p ≡ f → length f ≤ 4 + limit → limited limit h p ≡ written f
-unfolding limited inOrder
-limited-whole limit h p f is l =
-    let fits : length (headBytes h ++ p) ≤ limit = omega (arith, frame-long h p, ap length is) in
-    rw (le-leb (length (headBytes h ++ p)) limit fits) (ap written is)
-
 -- ---- pairs of a table
 
--- A table that holds these pairs, of which each lies in the buffer.
-module _ (f pairs : List ℕ) (ps : List Pair) (hold : records (pairAt pairs) 0 (length ps) ≡ ps) (whole : Each (Whole (length f)) ps) where
-  abbrev many : ℕ
-  many = length ps
-
-  pub each-plain : PlainPairs f pairs many → Each (Plain f) ps
-  each-plain p = rw hold at (each-record (Plain f) (pairAt pairs) many 0 (λ i g l. p i (omega arith)))
-
-  pub plain-each : Each (Plain f) ps → PlainPairs f pairs many
-  plain-each g i l = let here : 0 + i ≡ i = omega arith in rw here at (each-at (Plain f) (pairAt pairs) many 0 (rw hold g) i l)
-
-  -- a pair's own checks are its texts'
-  pair-says : (i : ℕ) → i < many → pairRefusal f pairs i ≡ cond (wellPair f (pairAt pairs i)) 0 15
-  pair-says i l =
-      let here : 0 + i ≡ i = omega arith in
-      pair-number f pairs i ∙ pair-refuses f (pairAt pairs i) (rw here at (each-at (Whole (length f)) (pairAt pairs) many 0 (rw hold whole) i l))
-
-  pub pair-well : (i : ℕ) → i < many → wellPair f (pairAt pairs i) ≡ true → pairRefusal f pairs i ≡ 0
-  pair-well i l w = pair-says i l ∙ rw w
-
-  pub pair-ill : (i : ℕ) → i < many → wellPair f (pairAt pairs i) ≡ false → pairRefusal f pairs i ≡ 15
-  pair-ill i l w = pair-says i l ∙ rw w
+-- Of a table that holds these pairs, of which each lies in the buffer, a pair's own checks are its texts'.
+pub pair-says : (f pairs : List ℕ) (ps : List Pair) → records (pairAt pairs) 0 (length ps) ≡ ps → Each (Whole (length f)) ps
+    → (i : ℕ) → i < length ps → pairRefusal f pairs i ≡ cond (wellPair f (pairAt pairs i)) 0 15
+pair-says f pairs ps hold whole i l = pair-number f pairs i ∙ pair-refuses f (pairAt pairs i) (held-each (Whole (length f)) (pairAt pairs) ps hold whole i l)
 
 -- pairs that stand one behind the other lie in the bytes
 run-whole : (f : List ℕ) (at : ℕ) (ps : List Pair) (end : ℕ) → Run f at ps end → Each (Whole (length f)) ps
@@ -121,55 +80,23 @@ module _ (limit : ℕ) (f : List ℕ) (small : Bytes f) (h : Head) (pairs : List
   whole : Each (Whole (length f)) ps
   whole = run-whole f (x .start) ps (length f) (x .run)
 
-  -- behind the frame there is nothing
-  over : drop (length f) f ≡ []
-  over = drop-of-length-le f {i = length f} (omega arith)
-
   fresh : (i : ℕ) → i < total → some (sameKey f (pairAt pairs i)) (records (pairAt pairs) 0 i) ≡ false
   fresh i l =
       let here : 0 + i ≡ i = omega arith in
       let none : Distinct f (records (pairAt pairs) 0 0) (records (pairAt pairs) 0 total) = rw (records-none (pairAt pairs) 0, x .hold) (x .distinct) in
       rw here at (distinct-at f (pairAt pairs) total 0 none i l)
 
-  kv-well : (i : ℕ) → i < total → wellPair f (pairAt pairs i) ≡ true → kvRefusal f pairs i ≡ 0
-  kv-well i l w = kv-new f pairs i (pair-well f pairs ps (x .hold) whole i l w) (fresh i l)
+  kv-says : (i : ℕ) → i < total → kvRefusal f pairs i ≡ cond (wellPair f (pairAt pairs i)) 0 15
+  kv-says i l =
+      let own = pair-says f pairs ps (x .hold) whole i l in
+      bool-cases (wellPair f (pairAt pairs i))
+      (λ t. kv-new f pairs i (own ∙ rw t) (fresh i l) ∙ rw t)
+      (λ t. kv-own f pairs i 15 (own ∙ rw t) fifteen ∙ rw t)
 
-  kv-bytes : pairsBytes f pairs total ≡ joined (pairBytes f) ps
-  kv-bytes = ap (joined (pairBytes f)) (x .hold)
-
-  kv-payload : PlainPairs f pairs total → pairsBytes f pairs total ≡ drop (x .start) f
-  kv-payload p =
-      kv-bytes
-      ∙ sym (run-form f small (x .start) ps (length f) (x .run) (each-plain f pairs ps (x .hold) whole p) ∙ ap (λ (l : List ℕ). joined (pairBytes f) ps ++ l) over ∙ append-nil (joined (pairBytes f) ps))
-
-  kv-plain : frameBytes h (pairsBytes f pairs total) ≡ f → PlainPairs f pairs total
-  kv-plain is =
-      plain-each f pairs ps (x .hold) whole
-      (run-only f small (x .start) ps (length f) (x .run) []
-      (append-nil (joined (pairBytes f) ps) ∙ sym kv-bytes ∙ payload-same h (pairsBytes f pairs total) (drop (x .start) f) (is ∙ x .form)) .0)
-
-  kv-taken : WellPairs f pairs total → kvAnswer h limit f pairs total ≡ limited limit h (pairsBytes f pairs total)
-  kv-taken w =
-      kv-list h limit f pairs total
-      ∙ list-passed (kvAllowed h) pairWidth pairs total (kvRefusal f pairs) (limited limit h (pairsBytes f pairs total)) allowed (x .room)
-      (ap (λ (r : Refusal). r .number) (none-refused (kvRefusal f pairs) total (record { each = λ i l. kv-well i l (w i l) })))
-
-  -- Law: the writer writes exactly the frame's bytes where all texts are UTF-8 and all values plain.
-  pub list-written : WellPairs f pairs total → PlainPairs f pairs total → kvAnswer h limit f pairs total ≡ written f
-  list-written w p =
-      kv-taken w
-      ∙ limited-whole limit h (pairsBytes f pairs total) f (ap (frameBytes h) (kv-payload p) ∙ sym (x .form)) (x .fits)
-
-  -- Law: where a pair has a text that is not UTF-8, and none before it has, the writer refuses with 15 and the pair's index.
-  pub list-ill : (i : ℕ) → i < total → wellPair f (pairAt pairs i) ≡ false → WellPairs f pairs i → kvAnswer h limit f pairs total ≡ refused 15 i
-  list-ill i l ill w =
-      kv-list h limit f pairs total
-      ∙ list-refused (kvAllowed h) pairWidth pairs total (kvRefusal f pairs) (limited limit h (pairsBytes f pairs total)) allowed (x .room)
-      (record { number = 15; place = i })
-      (sym (refused-here (kvRefusal f pairs) total i 15 l (record { each = λ k b. kv-well k (omega arith) (w k b) }) (kv-own f pairs i 15 (pair-ill f pairs ps (x .hold) whole i l ill) fifteen) fifteen))
-      fifteen
-
-  -- Law: where all texts are UTF-8 and a value is not plain, the writer writes another frame, if that is within the limit.
-  pub list-differs : WellPairs f pairs total → (i : ℕ) → i < total → plainPair f (pairAt pairs i) ≡ false
-      → (kvAnswer h limit f pairs total ≡ limited limit h (pairsBytes f pairs total)) × (frameBytes h (pairsBytes f pairs total) ≡ f → ⊥)
-  list-differs w i l p = (kv-taken w, λ is. true-false (kv-plain is i l) p)
+  -- Law: the writer writes the frame again, by its pairs.
+  pub kv-rewrites : Rewrites limit f h (kvAnswer h limit f pairs total) total (λ i. wellPair f (pairAt pairs i)) (λ i. plainPair f (pairAt pairs i))
+  kv-rewrites =
+      rw (kv-list h limit f pairs total)
+      (list-rewrites limit f h (x .start) (x .form) (x .fits) (pairBytes f) (wellPair f) (plainPair f) (pairAt pairs) ps (x .hold)
+      (run-form f small (x .start) ps (length f) (x .run)) (λ is. run-only f small (x .start) ps (length f) (x .run) [] is .0)
+      (kvAllowed h) allowed pairWidth pairs (x .room) (kvRefusal f pairs) kv-says)

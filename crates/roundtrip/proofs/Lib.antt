@@ -7,6 +7,7 @@ pub mod Actions
 pub mod Payload
 pub mod Listed
 pub mod Head
+pub mod Rewritten
 pub mod Kv
 pub mod Again
 pub mod Sent

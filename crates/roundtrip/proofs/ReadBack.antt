@@ -9,7 +9,7 @@ use lib.Dec.{eqb}
 use lib.ListN.{length, drop, getD, length-drop, List·getD-map}
 use lib.Seq.{drop-drop, drop-append-le}
 use borrow.Author.Tests.{lt-ltb, eq-eqb, ne-eqb, eqb-true, eqb-false}
-use Rattle.answer.specs.Answer.{Answer, done, behind}
+use Rattle.answer.specs.Answer.{Answer, done}
 use Rattle.answer.specs.Table.{records, some}
 use Rattle.answer.specs.Inner as inner
 use Rattle.answer.proofs.Cases.{bool-cases, true-false, both-true}
@@ -22,7 +22,7 @@ use Rattle.frame.proofs.Laws.{Framed}
 use Rattle.frame.proofs.Meaning.{pairMeaning, messageMeaning}
 use Rattle.parser.specs.declared.Rooms.{Rooms}
 use Rattle.parser.specs.Pair.{movedPair}
-use Rattle.parser.specs.Payload.{Contents, payload, movedMessage, movedContents}
+use Rattle.parser.specs.Payload.{Contents, movedMessage, movedContents}
 use Rattle.parser.specs.Frame.{Entry, haproxys, answered, frameRead}
 use Rattle.parser.proofs.Frames.{inFrame, length-map}
 use Rattle.parser.proofs.Back.{metadataOf, Readable, FrameBack, known-low, frame-back}
