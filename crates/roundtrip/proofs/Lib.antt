@@ -17,5 +17,4 @@ pub mod Agents
 pub mod Walked
 pub mod ReadBack
 pub mod AgentBack
-pub mod BackExamples
 pub mod Examples
