@@ -12,9 +12,9 @@ use Rattle.frame.specs.declared.Action.{Action}
 use Rattle.agent.proofs.Standing.{stands, ActionRun}
 use Rattle.answer.proofs.Each.{Each}
 use Rattle.writer.specs.Action.{actionBytes, actionChecks}
-use Rattle.inverse.proofs.Plain.{plainAction, wellAction}
-use Rattle.inverse.proofs.Pair.{cancel}
-use Rattle.inverse.proofs.Action.{action-at-form, action-at-only, action-refuses}
+use Rattle.roundtrip.proofs.Plain.{plainAction, wellAction}
+use Rattle.roundtrip.proofs.Pair.{cancel}
+use Rattle.roundtrip.proofs.Action.{action-at-form, action-at-only, action-refuses}
 
 -- ---- their bytes
 

@@ -2,17 +2,15 @@
 -- are written as go by their meaning alone, and are the frame's.
 use mathlib.Core.Path.{_≡_, refl, sym, ap, ap₂, _∙_}
 use mathlib.Core.Bool.{Bool, true, false, cond, not}
-use mathlib.Core.List.{List, [], _∷_, _++_, map, append-assoc, append-nil, map-append}
+use mathlib.Core.List.{List, [], _∷_, _++_, map, append-assoc, map-append}
 use Prim.Native.Nat.{ℕ, _+_}
-use native.Mathlib.Omega.{arith}
 use lib.Dec.{eqb}
-use lib.ListN.{length, take, drop, drop-of-length-le}
+use lib.ListN.{length, take, drop}
 use lib.Seq.{take-at, drop-at}
 use borrow.Author.Tests.{eqb-true, eqb-false}
 use Rattle.answer.specs.Answer.{done}
 use Rattle.answer.specs.Table.{joined}
 use Rattle.answer.proofs.Cases.{bool-cases}
-use Rattle.answer.proofs.Records.{joined-none, joined-on}
 use Rattle.varint.proofs.Reading.{Bytes}
 use Rattle.types.specs.Value.{Shape, nothing, flag, integer, address, text, reserved, shape, Record, value, points}
 use Rattle.types.specs.Form.{part, stringBytes, dataBytes, typeOf, valueBytes}
@@ -37,13 +35,14 @@ use Rattle.writer.specs.Action.{actionBytes}
 use Rattle.writer.specs.Frame.{headOf}
 use Rattle.writer.proofs.Pairs.{pair-bytes}
 use Rattle.writer.proofs.Messages.{name-bytes}
-use Rattle.inverse.proofs.Pair.{Plain, run-form}
-use Rattle.inverse.proofs.Payload.{kv-stands, messages-stand}
-use Rattle.inverse.proofs.Listed.{parts-plain, there-form}
+use Rattle.roundtrip.proofs.Pair.{Plain, run-form}
+use Rattle.roundtrip.proofs.Listed.{parts-plain, there-form}
 use Rattle.agent.proofs.Standing.{agent-cut}
-use Rattle.inverse.proofs.Head.{Accepted, entry-accepted, frame-accepted}
-use Rattle.inverse.proofs.Actions.{PlainOf, actions-form}
-use Rattle.inverse.proofs.Sent.{sent-run, sent-actions}
+use Rattle.roundtrip.proofs.Head.{Accepted, entry-accepted, frame-accepted}
+use Rattle.roundtrip.proofs.Actions.{PlainOf, actions-form}
+use Rattle.roundtrip.proofs.Rewritten.{frame-same}
+use Rattle.roundtrip.proofs.Again.{frame-run, frame-laid}
+use Rattle.roundtrip.proofs.Sent.{sent-run, sent-actions}
 
 -- ---- written forms go by meanings
 
@@ -72,10 +71,13 @@ value-meant f (value kind a b flags) = value-bytes f kind a b flags ∙ by-shape
 pair-meant : (f : List ℕ) (p : Pair) → pairBytes f p ≡ pairForm (pairMeaning f p)
 pair-meant f p = pair-bytes f p ∙ ap (λ (l : List ℕ). stringBytes (part f (p .start) (p .len)) ++ l) (value-meant f (recordOf (p .value)))
 
+joined-as : {A B : Type 0} (bytes : A → List ℕ) (form : B → List ℕ) (g : A → B) → ((x : A) → bytes x ≡ form (g x)) → (xs : List A) → joined bytes xs ≡ joined form (map g xs)
+unfolding joined
+joined-as bytes form g same [] = refl
+joined-as bytes form g same (x ∷ xs) = ap₂ _++_ (same x) (joined-as bytes form g same xs)
+
 pairs-meant : (f : List ℕ) (ps : List Pair) → joined (pairBytes f) ps ≡ joined pairForm (map (pairMeaning f) ps)
-pairs-meant f [] = joined-none (pairBytes f) ∙ sym (joined-none pairForm)
-pairs-meant f (p ∷ ps) =
-    joined-on (pairBytes f) p ps ∙ ap₂ _++_ (pair-meant f p) (pairs-meant f ps) ∙ sym (joined-on pairForm (pairMeaning f p) (map (pairMeaning f) ps))
+pairs-meant f = joined-as (pairBytes f) pairForm (pairMeaning f) (pair-meant f)
 
 -- ---- a payload goes by them
 
@@ -124,32 +126,24 @@ module _ (limit : ℕ) (rooms : Rooms) (s : List ℕ) (m : Metadata) (c : Conten
   x : Accepted (haproxys rooms) limit s m c used
   x = frame-accepted limit rooms s m c used small e
 
-  over : drop used f ≡ []
-  over = drop-of-length-le f {i = used} (omega (arith, x .long))
+  abbrev ms : List (List ℕ × ℕ × ℕ)
+  ms = map (messageMeaning f) (c .messages)
 
-  payload-meant : drop (x .start) f ≡ payloadForm (not (eqb (m .kind) 3)) (map (messageMeaning f) (c .messages)) (map (pairMeaning f) (c .pairs))
+  abbrev ps : List (List ℕ × Meaning)
+  ps = map (pairMeaning f) (c .pairs)
+
+  payload-meant : drop (x .start) f ≡ payloadForm (not (eqb (m .kind) 3)) ms ps ++ drop (length f) f
   payload-meant =
-      bool-cases (not (eqb (m .kind) 3))
+      bool-cases (eqb (m .kind) 3)
+      (λ t. rw t (messages-meant f small (x .start) 0 (c .messages) (c .pairs) (length f) (frame-laid rooms limit s m c used x (eqb-true (m .kind) 3 t)) plain))
       (λ t.
-      let o = kv-stands rooms f (x .start) (x .contents) (x .end) (rw t at (x .read)) in
-      let same = ap (λ (d : Contents). d .pairs) (x .moved) in
       rw t
-      (run-form f small (x .start) (c .pairs) used (rw (same, x .ends) at o) plain
-      ∙ ap₂ _++_ (pairs-meant f (c .pairs)) over
-      ∙ append-nil (joined pairForm (map (pairMeaning f) (c .pairs)))))
-      (λ t.
-      let o = messages-stand rooms f (x .start) (x .there) (x .contents) (x .end) (rw t at (x .read)) in
-      let ms = ap (λ (d : Contents). d .messages) (x .moved) in
-      let ps = ap (λ (d : Contents). d .pairs) (x .moved) in
-      let all = listForm (map (messageMeaning f) (c .messages)) (map (pairMeaning f) (c .pairs)) in
-      rw t
-      (messages-meant f small (x .start) 0 (c .messages) (c .pairs) used (rw (ms, ps, x .ends) at o) plain
-      ∙ ap (λ (l : List ℕ). all ++ l) over
-      ∙ append-nil all))
+      (run-form f small (x .start) (c .pairs) (length f) (frame-run rooms limit s m c used x (eqb-false (m .kind) 3 t) .0) plain
+      ∙ ap (λ (l : List ℕ). l ++ drop (length f) f) (pairs-meant f (c .pairs))))
 
   -- a frame whose values are plain is the bytes that go by its type, its ids and its meanings
-  frame-meant : f ≡ frameForm m (map (messageMeaning f) (c .messages)) (map (pairMeaning f) (c .pairs))
-  frame-meant = x .form ∙ ap (frameBytes (headOf (m .kind) true false (m .stream) (m .frame))) payload-meant
+  frame-meant : f ≡ frameForm m ms ps
+  frame-meant = sym (frame-same f _ (x .start) (x .form) (payloadForm (not (eqb (m .kind) 3)) ms ps) payload-meant)
 
 -- Law: so two accepted frames whose values are plain, of one type and with the same ids and the same meanings, are the same bytes.
 pub frames-apart : (limit other : ℕ) (rooms others : Rooms) (s t : List ℕ) (m k : Metadata) (c d : Contents) (used taken : ℕ)
@@ -179,11 +173,6 @@ action-meant : (f : List ℕ) (x : Action) → actionBytes f x ≡ actionForm (a
 unfolding actionBytes
 action-meant f x = bool-cases (eqb (x .verb) 1) (λ t. rw t (ap (λ (l : List ℕ). 1 ∷ 3 ∷ x .scope ∷ l) (pair-meant f (x .pair)))) (λ t. rw t refl)
 
-actions-meant : (f : List ℕ) (xs : List Action) → joined (actionBytes f) xs ≡ joined actionForm (map (actionMeaning f) xs)
-actions-meant f [] = joined-none (actionBytes f) ∙ sym (joined-none actionForm)
-actions-meant f (x ∷ xs) =
-    joined-on (actionBytes f) x xs ∙ ap₂ _++_ (action-meant f x) (actions-meant f xs) ∙ sym (joined-on actionForm (actionMeaning f x) (map (actionMeaning f) xs))
-
 module _ (limit pairs room : ℕ) (s : List ℕ) (m : Metadata) (c : Sent) (used : ℕ) (small : Bytes (take used s))
     (e : agentRead limit pairs room s ≡ answered (done (m, c) used)) (plain : Each (Plain (take used s)) (c .pairs)) (acts : Each (PlainOf (take used s)) (c .actions)) where
   abbrev g : List ℕ
@@ -192,25 +181,26 @@ module _ (limit pairs room : ℕ) (s : List ℕ) (m : Metadata) (c : Sent) (used
   y : Accepted (agents pairs room) limit s m c used
   y = entry-accepted small (agent-cut limit pairs room s m c used e)
 
-  done-there : drop (length g) g ≡ []
-  done-there = drop-of-length-le g {i = length g} (omega arith)
+  abbrev qs : List (List ℕ × Meaning)
+  qs = map (pairMeaning g) (c .pairs)
 
-  sent-payload : drop (y .start) g ≡ cond (eqb (m .kind) 103) (joined actionForm (map (actionMeaning g) (c .actions))) (joined pairForm (map (pairMeaning g) (c .pairs)))
+  abbrev xs : List (ℕ × ℕ × (List ℕ × Meaning))
+  xs = map (actionMeaning g) (c .actions)
+
+  sent-payload : drop (y .start) g ≡ cond (eqb (m .kind) 103) (joined actionForm xs) (joined pairForm qs) ++ drop (length g) g
   sent-payload =
       bool-cases (eqb (m .kind) 103)
       (λ t.
       rw t
       (actions-form g small (y .start) (c .actions) (length g) (sent-actions pairs room limit s m c used y (eqb-true (m .kind) 103 t)) acts
-      ∙ ap₂ _++_ (actions-meant g (c .actions)) done-there
-      ∙ append-nil (joined actionForm (map (actionMeaning g) (c .actions)))))
+      ∙ ap (λ (l : List ℕ). l ++ drop (length g) g) (joined-as (actionBytes g) actionForm (actionMeaning g) (action-meant g) (c .actions))))
       (λ t.
       rw t
       (run-form g small (y .start) (c .pairs) (length g) (sent-run pairs room limit s m c used y (eqb-false (m .kind) 103 t) .0) plain
-      ∙ ap₂ _++_ (pairs-meant g (c .pairs)) done-there
-      ∙ append-nil (joined pairForm (map (pairMeaning g) (c .pairs)))))
+      ∙ ap (λ (l : List ℕ). l ++ drop (length g) g) (pairs-meant g (c .pairs))))
 
-  sent-meant : g ≡ sentForm m (map (pairMeaning g) (c .pairs)) (map (actionMeaning g) (c .actions))
-  sent-meant = y .form ∙ ap (frameBytes (headOf (m .kind) true false (m .stream) (m .frame))) sent-payload
+  sent-meant : g ≡ sentForm m qs xs
+  sent-meant = sym (frame-same g _ (y .start) (y .form) (cond (eqb (m .kind) 103) (joined actionForm xs) (joined pairForm qs)) sent-payload)
 
 -- Law: so two accepted frames of agents whose values are plain, of one type and with the same ids and the same meanings, are the same bytes.
 pub agents-apart : (limit pairs room other others rooms : ℕ) (s t : List ℕ) (m k : Metadata) (c d : Sent) (used taken : ℕ)

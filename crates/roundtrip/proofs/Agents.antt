@@ -27,11 +27,11 @@ use Rattle.writer.specs.Pair.{kvRefusal}
 use Rattle.writer.specs.Frame.{headOf, limited, kvAllowed, pairsBytes, kvAnswer, actionsAnswer}
 use Rattle.writer.specs.Promise.{WriteKv, WriteActions}
 use Rattle.writer.proofs.Answers.{kv-list, list-metadata}
-use Rattle.inverse.proofs.Plain.{plainPair, wellPair, WellPairs, PlainPairs, plainAction, wellAction, WellActions, PlainActions}
+use Rattle.roundtrip.proofs.Plain.{plainPair, wellPair, WellPairs, PlainPairs, plainAction, wellAction, WellActions, PlainActions}
 use Rattle.agent.proofs.Standing.{agent-cut}
-use Rattle.inverse.proofs.Kv.{Kv, list-written, list-ill, list-differs}
-use Rattle.inverse.proofs.Sent.{sent-listed, sent-may, ack-inverse, ack-refuses, ack-differs}
-use Rattle.inverse.proofs.Inverse.{caller-written, caller-refused, caller-other, done-refused, all-both}
+use Rattle.roundtrip.proofs.Rewritten.{Rewrites, caller-refused, done-refused, wrote-back, wrote-none, wrote-other, wrote-only}
+use Rattle.roundtrip.proofs.Kv.{kv-rewrites}
+use Rattle.roundtrip.proofs.Sent.{sent-listed, sent-may, ack-rewrites}
 
 -- ---- a frame that `read_agent_frame` accepted
 
@@ -70,52 +70,33 @@ module _ (limit : ℕ) (s : List ℕ) (small : Bytes s) (r : AgentRead) (oldPair
   -- and is written by `write_actions`
   module _ (ack : m .kind ≡ 103) (out : Written) (old new : List ℕ)
       (writes : WriteActions true false (m .stream) (m .frame) limit f newActions rows out old new) where
-    -- the answer that it promises, of as many actions as were read
-    told : actionsAnswer (headOf 103 true false (m .stream) (m .frame)) limit f newActions rows ≡ actionsAnswer head limit f newActions (length (c .actions))
-    told =
-        ap (λ (k : ℕ). actionsAnswer (headOf k true false (m .stream) (m .frame)) limit f newActions rows) (sym ack)
-        ∙ ap (actionsAnswer head limit f newActions) (sym row-count)
+    r-ack : Rewrites limit f (headOf 103 true false (m .stream) (m .frame)) (actionsAnswer (headOf 103 true false (m .stream) (m .frame)) limit f newActions rows) rows
+        (λ i. wellAction f (actionAt newActions i)) (λ i. plainAction f (actionAt newActions i))
+    r-ack = rw (row-count, ack) at (ack-rewrites limit s oldPairs newPairs oldActions newActions m c used bytes (found .1) (reads .fills) ack)
 
     -- Law: with room for the frame, where all texts are UTF-8 and all values plain, exactly the frame's bytes are written.
     pub ack-back : WellActions f newActions rows → PlainActions f newActions rows → used ≤ length old → (out ≡ w.Done used) × (new ≡ f ++ drop used old)
-    ack-back ws ps room =
-        caller-written writes f used long
-        (told ∙ ack-inverse limit s oldPairs newPairs oldActions newActions m c used bytes (found .1) (reads .fills) ack (rw (sym row-count) at ws) (rw (sym row-count) at ps))
-        room
+    ack-back = wrote-back r-ack writes used long
 
     -- Law: where an action has a text that is not UTF-8, and none before it has, it is 15 with the action's index, and no byte is written.
     pub ack-text : (i : ℕ) → i < rows → wellAction f (actionAt newActions i) ≡ false → WellActions f newActions i
         → (out ≡ w.Refused (record { number = 15; place = i })) × (new ≡ old)
-    ack-text i l ill ws =
-        caller-refused writes 15 i
-        (told ∙ ack-refuses limit s oldPairs newPairs oldActions newActions m c used bytes (found .1) (reads .fills) ack i (rw (sym row-count) at l) ill ws)
+    ack-text = wrote-none r-ack writes
 
     -- Law: where all texts are UTF-8 and a value is not plain, what is written, if anything is, is another frame.
     pub ack-other : WellActions f newActions rows → (i : ℕ) → i < rows → plainAction f (actionAt newActions i) ≡ false
         → (n : ℕ) → out ≡ w.Done n → take n new ≡ f → ⊥
-    ack-other ws i l differs n =
-        let d = ack-differs limit s oldPairs newPairs oldActions newActions m c used bytes (found .1) (reads .fills) ack (rw (sym row-count) at ws) i (rw (sym row-count) at l) differs in
-        caller-other writes limit head _ f (told ∙ d .0) (d .1) n
+    ack-other = wrote-other r-ack writes
 
     -- Law: so the frame's bytes are written only where all texts are UTF-8 and all values plain.
     pub ack-only : (n : ℕ) → out ≡ w.Done n → take n new ≡ f → WellActions f newActions rows × PlainActions f newActions rows
-    ack-only n so same =
-        all-both (λ (i : ℕ). wellAction f (actionAt newActions i)) (λ (i : ℕ). plainAction f (actionAt newActions i)) rows
-        (λ i l ill ws. done-refused so (ack-text i l ill ws .0))
-        (λ ws i l differs. ack-other ws i l differs n so same)
+    ack-only = wrote-only r-ack writes
 
   -- ---- of type 101 or 102
 
   -- and is written by `write_kv`
   module _ (kv : m .kind ≡ 103 → ⊥) (out : Written) (old new : List ℕ)
       (writes : WriteKv true false (m .stream) (m .frame) limit f (m .kind) newPairs total out old new) where
-    -- the answer that it promises, of as many pairs as were read
-    listed : kvAnswer head limit f newPairs total ≡ kvAnswer head limit f newPairs (length (c .pairs))
-    listed = ap (kvAnswer head limit f newPairs) (sym pair-count)
-
-    x : Kv limit f head newPairs (c .pairs)
-    x = sent-listed limit s oldPairs newPairs oldActions newActions m c used bytes (found .1) (reads .fills) kv
-
     may : kvAllowed head ≡ eqb (m .stream) 0 && eqb (m .frame) 0
     may = sent-may limit s oldPairs newPairs oldActions newActions m c used bytes (found .1) (reads .fills) kv
 
@@ -137,30 +118,29 @@ module _ (limit : ℕ) (s : List ℕ) (small : Bytes s) (r : AgentRead) (oldPair
       allowed : kvAllowed head ≡ true
       allowed = may ∙ rw (eq-eqb (m .stream) 0 stream, eq-eqb (m .frame) 0 frame)
 
+      r-kv : Rewrites limit f head (kvAnswer head limit f newPairs total) total (λ i. wellPair f (pairAt newPairs i)) (λ i. plainPair f (pairAt newPairs i))
+      r-kv =
+          rw pair-count at
+          (kv-rewrites limit f bytes head newPairs (c .pairs) (sent-listed limit s oldPairs newPairs oldActions newActions m c used bytes (found .1) (reads .fills) kv) allowed)
+
       -- Law: with room for the frame, where all texts are UTF-8 and all values plain, exactly the frame's bytes are written.
       pub agent-kv-back : WellPairs f newPairs total → PlainPairs f newPairs total → used ≤ length old → (out ≡ w.Done used) × (new ≡ f ++ drop used old)
-      agent-kv-back ws ps room =
-          caller-written writes f used long
-          (listed ∙ list-written limit f bytes head newPairs (c .pairs) x allowed (rw (sym pair-count) at ws) (rw (sym pair-count) at ps))
-          room
+      agent-kv-back = wrote-back r-kv writes used long
 
       -- Law: where a pair has a text that is not UTF-8, and none before it has, it is 15 with the pair's index, and no byte is written.
       pub agent-kv-text : (i : ℕ) → i < total → wellPair f (pairAt newPairs i) ≡ false → WellPairs f newPairs i
           → (out ≡ w.Refused (record { number = 15; place = i })) × (new ≡ old)
-      agent-kv-text i l ill ws =
-          caller-refused writes 15 i (listed ∙ list-ill limit f bytes head newPairs (c .pairs) x allowed i (rw (sym pair-count) at l) ill ws)
+      agent-kv-text = wrote-none r-kv writes
 
       -- Law: where all texts are UTF-8 and a value is not plain, what is written, if anything is, is another frame.
       pub agent-kv-other : WellPairs f newPairs total → (i : ℕ) → i < total → plainPair f (pairAt newPairs i) ≡ false
           → (n : ℕ) → out ≡ w.Done n → take n new ≡ f → ⊥
-      agent-kv-other ws i l differs n =
-          let d = list-differs limit f bytes head newPairs (c .pairs) x allowed (rw (sym pair-count) at ws) i (rw (sym pair-count) at l) differs in
-          caller-other writes limit head _ f (listed ∙ d .0) (d .1) n
+      agent-kv-other = wrote-other r-kv writes
 
     -- Law: so the frame's bytes are written only where both ids are 0, all texts UTF-8 and all values plain.
     pub agent-kv-only : (n : ℕ) → out ≡ w.Done n → take n new ≡ f
         → ((m .stream ≡ 0) × (m .frame ≡ 0)) × (WellPairs f newPairs total × PlainPairs f newPairs total)
-    agent-kv-only n so same = (zero, both)
+    agent-kv-only n so same = (zero, wrote-only (r-kv (zero .0) (zero .1)) writes n so same)
       where
         zero : (m .stream ≡ 0) × (m .frame ≡ 0)
         zero =
@@ -170,9 +150,3 @@ module _ (limit : ℕ) (s : List ℕ) (small : Bytes s) (r : AgentRead) (oldPair
             (λ u. (eqb-true (m .stream) 0 t, eqb-true (m .frame) 0 u))
             (λ u. absurd (done-refused so (agent-kv-ids (λ i j. eqb-false (m .frame) 0 u j) .0))))
             (λ t. absurd (done-refused so (agent-kv-ids (λ i j. eqb-false (m .stream) 0 t i) .0)))
-
-        both : WellPairs f newPairs total × PlainPairs f newPairs total
-        both =
-            all-both (λ (i : ℕ). wellPair f (pairAt newPairs i)) (λ (i : ℕ). plainPair f (pairAt newPairs i)) total
-            (λ i l ill ws. done-refused so (agent-kv-text (zero .0) (zero .1) i l ill ws .0))
-            (λ ws i l differs. agent-kv-other (zero .0) (zero .1) ws i l differs n so same)

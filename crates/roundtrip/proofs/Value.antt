@@ -22,7 +22,7 @@ use Rattle.types.proofs.Exact.{string-exact}
 use Rattle.parser.proofs.Pairs.{done-same}
 use Rattle.parser.proofs.Exact.{bytes-drop}
 use Rattle.parser.proofs.Back.{part-moved}
-use Rattle.inverse.proofs.Plain.{plainData, plainValue}
+use Rattle.roundtrip.proofs.Plain.{plainData, plainValue}
 
 -- ---- a form at the front of some bytes
 

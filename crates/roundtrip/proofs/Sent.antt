@@ -2,20 +2,17 @@
 -- HAProxy's frames. A KV list is to have both ids 0 as well, for the writer takes no other of an agent's.
 use mathlib.Core.Path.{_≡_, refl, sym, ap, _∙_}
 use mathlib.Core.Bool.{true, false, cond, _&&_}
-use mathlib.Core.List.{List, [], _++_, map, append-nil}
+use mathlib.Core.List.{List, [], _++_, map}
 use Prim.Native.Nat.{ℕ, _+_, _*_, _/_, _≤_, _<_}
 use native.Mathlib.Omega.{arith}
 use lib.Dec.{eqb}
-use lib.ListN.{length, take, drop, length-append, drop-of-length-le}
+use lib.ListN.{length, take, drop, length-append}
 use borrow.Author.Tests.{eq-eqb, ne-eqb, eqb-true, eqb-false, leb-true}
-use Rattle.answer.specs.Answer.{done, refused, written}
-use Rattle.answer.specs.declared.Refusal.{Refusal}
+use Rattle.answer.specs.Answer.{done}
 use Rattle.answer.specs.Table.{records, joined}
-use Rattle.answer.proofs.Cases.{bool-cases, true-false}
-use Rattle.answer.proofs.Order.{none-refused, refused-here}
+use Rattle.answer.proofs.Cases.{bool-cases}
 use Rattle.varint.proofs.Reading.{Bytes}
 use Rattle.frame.specs.declared.Head.{Head}
-use Rattle.frame.specs.Head.{frameBytes}
 use Rattle.frame.specs.Records.{pairWidth, actionWidth, actionAt, actionNumbers}
 use Rattle.parser.specs.declared.Metadata.{Metadata}
 use Rattle.parser.specs.declared.Rooms.{Rooms}
@@ -27,18 +24,18 @@ use Rattle.parser.proofs.Filling.{joined-width}
 use Rattle.agent.specs.Action.{actions}
 use Rattle.agent.specs.Frame.{Sent, agents}
 use Rattle.agent.specs.Promise.{sentRead, readInto, Fills}
-use Rattle.answer.proofs.Each.{Each, each-record, each-at}
 use Rattle.listing.proofs.Sent.{sent-actions-held}
 use Rattle.writer.specs.Action.{actionBytes, actionRefusal}
-use Rattle.writer.specs.Frame.{headOf, limited, finAlone, kvAllowed, actionsBytes, actionsAnswer}
+use Rattle.writer.specs.Frame.{headOf, finAlone, kvAllowed, actionsAnswer}
 use Rattle.writer.proofs.Actions.{action-number}
-use Rattle.writer.proofs.Answers.{kv-agent-hello, kv-agent-disconnect, actions-list, list-refused, list-passed}
-use Rattle.inverse.proofs.Plain.{plainAction, wellAction, WellActions, PlainActions}
-use Rattle.inverse.proofs.Actions.{PlainOf, Refuses, actions-form, actions-only, actions-refuse}
+use Rattle.writer.proofs.Answers.{kv-agent-hello, kv-agent-disconnect, actions-list}
+use Rattle.roundtrip.proofs.Plain.{plainAction, wellAction}
+use Rattle.roundtrip.proofs.Actions.{Refuses, actions-form, actions-only, actions-refuse}
 use Rattle.agent.proofs.Standing.{ActionRun, actions-stand, of-actions, of-pairs, agent-cut}
-use Rattle.inverse.proofs.Head.{kinds-above, payload-same, Accepted, entry-accepted}
-use Rattle.inverse.proofs.Payload.{Distinct, kv-distinct, kv-stands}
-use Rattle.inverse.proofs.Kv.{fifteen, limited-whole, Kv, table-in}
+use Rattle.roundtrip.proofs.Head.{kinds-above, Accepted, entry-accepted}
+use Rattle.roundtrip.proofs.Payload.{Distinct, kv-distinct, kv-stands}
+use Rattle.roundtrip.proofs.Rewritten.{Rewrites, held-each, list-rewrites}
+use Rattle.roundtrip.proofs.Kv.{Kv, table-in}
 
 -- ---- an accepted frame
 
@@ -122,67 +119,18 @@ module _ (limit : ℕ) (s oldPairs newPairs oldActions newActions : List ℕ) (m
     actions-room =
         omega (arith, ap length (in-actions .1), length-append (joined actionNumbers (c .actions)) (in-actions .0), joined-width actionNumbers actionWidth (λ p. refl) (c .actions))
 
-    over : drop (length f) f ≡ []
-    over = drop-of-length-le f {i = length f} (omega arith)
-
     stand : ActionRun f (x .start) (c .actions) (length f)
     stand = sent-actions (length oldPairs / pairWidth) room limit s m c used x ack
 
-    each-plain : PlainActions f newActions rows → Each (PlainOf f) (c .actions)
-    each-plain p = rw hold-actions at (each-record (PlainOf f) (actionAt newActions) rows 0 (λ i g l. p i (omega arith)))
-
-    plain-each : Each (PlainOf f) (c .actions) → PlainActions f newActions rows
-    plain-each g i l = let here : 0 + i ≡ i = omega arith in rw here at (each-at (PlainOf f) (actionAt newActions) rows 0 (rw hold-actions g) i l)
-
     action-says : (i : ℕ) → i < rows → actionRefusal f newActions i ≡ cond (wellAction f (actionAt newActions i)) 0 15
     action-says i l =
-        let here : 0 + i ≡ i = omega arith in
         action-number f newActions i
-        ∙ rw here at (each-at (Refuses f) (actionAt newActions) rows 0 (rw hold-actions (actions-refuse f small (x .start) (c .actions) (length f) stand)) i l)
+        ∙ held-each (Refuses f) (actionAt newActions) (c .actions) hold-actions (actions-refuse f small (x .start) (c .actions) (length f) stand) i l
 
-    action-well : (i : ℕ) → i < rows → wellAction f (actionAt newActions i) ≡ true → actionRefusal f newActions i ≡ 0
-    action-well i l w = action-says i l ∙ rw w
-
-    action-ill : (i : ℕ) → i < rows → wellAction f (actionAt newActions i) ≡ false → actionRefusal f newActions i ≡ 15
-    action-ill i l w = action-says i l ∙ rw w
-
-    abbrev bytes : List ℕ
-    bytes = actionsBytes f newActions rows
-
-    ack-bytes : bytes ≡ joined (actionBytes f) (c .actions)
-    ack-bytes = ap (joined (actionBytes f)) hold-actions
-
-    ack-payload : PlainActions f newActions rows → bytes ≡ drop (x .start) f
-    ack-payload p =
-        let all = joined (actionBytes f) (c .actions) in
-        ack-bytes ∙ sym (actions-form f small (x .start) (c .actions) (length f) stand (each-plain p) ∙ ap (λ (l : List ℕ). all ++ l) over ∙ append-nil all)
-
-    ack-plain : frameBytes h bytes ≡ f → PlainActions f newActions rows
-    ack-plain is =
-        let all = joined (actionBytes f) (c .actions) in
-        plain-each
-        (actions-only f small (x .start) (c .actions) (length f) stand [] (append-nil all ∙ sym ack-bytes ∙ payload-same h bytes (drop (x .start) f) (is ∙ x .form)))
-
-    ack-taken : WellActions f newActions rows → actionsAnswer h limit f newActions rows ≡ limited limit h bytes
-    ack-taken w =
-        actions-list h limit f newActions rows
-        ∙ list-passed (finAlone h) actionWidth newActions rows (actionRefusal f newActions) (limited limit h bytes) refl actions-room
-        (ap (λ (r : Refusal). r .number) (none-refused (actionRefusal f newActions) rows (record { each = λ i l. action-well i l (w i l) })))
-
-    -- Law: the writer writes exactly the frame's bytes where all texts are UTF-8 and all values plain.
-    pub ack-inverse : WellActions f newActions rows → PlainActions f newActions rows → actionsAnswer h limit f newActions rows ≡ written f
-    ack-inverse w p = ack-taken w ∙ limited-whole limit h bytes f (ap (frameBytes h) (ack-payload p) ∙ sym (x .form)) (omega (arith, x .long, x .fits))
-
-    -- Law: where an action has a text that is not UTF-8, and none before it has, the writer refuses with 15 and the action's index.
-    pub ack-refuses : (i : ℕ) → i < rows → wellAction f (actionAt newActions i) ≡ false → WellActions f newActions i → actionsAnswer h limit f newActions rows ≡ refused 15 i
-    ack-refuses i l ill w =
-        actions-list h limit f newActions rows
-        ∙ list-refused (finAlone h) actionWidth newActions rows (actionRefusal f newActions) (limited limit h bytes) refl actions-room
-        (record { number = 15; place = i })
-        (sym (refused-here (actionRefusal f newActions) rows i 15 l (record { each = λ k b. action-well k (omega arith) (w k b) }) (action-ill i l ill) fifteen))
-        fifteen
-
-    -- Law: where all texts are UTF-8 and a value is not plain, the writer writes another frame, if that is within the limit.
-    pub ack-differs : WellActions f newActions rows → (i : ℕ) → i < rows → plainAction f (actionAt newActions i) ≡ false
-        → (actionsAnswer h limit f newActions rows ≡ limited limit h bytes) × (frameBytes h bytes ≡ f → ⊥)
-    ack-differs w i l p = (ack-taken w, λ is. true-false (ack-plain is i l) p)
+    -- Law: the writer writes the frame again, by its actions.
+    pub ack-rewrites : Rewrites limit f h (actionsAnswer h limit f newActions rows) rows (λ i. wellAction f (actionAt newActions i)) (λ i. plainAction f (actionAt newActions i))
+    ack-rewrites =
+        rw (actions-list h limit f newActions rows)
+        (list-rewrites limit f h (x .start) (x .form) (omega (arith, x .long, x .fits)) (actionBytes f) (wellAction f) (plainAction f) (actionAt newActions) (c .actions) hold-actions
+        (actions-form f small (x .start) (c .actions) (length f) stand) (actions-only f small (x .start) (c .actions) (length f) stand [])
+        (finAlone h) refl actionWidth newActions actions-room (actionRefusal f newActions) action-says)

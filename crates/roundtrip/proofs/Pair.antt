@@ -36,8 +36,8 @@ use Rattle.writer.specs.Pair.{pairBytes, pairChecks}
 use Rattle.writer.specs.Message.{nameBytes}
 use Rattle.writer.proofs.Pairs.{pair-bytes}
 use Rattle.writer.proofs.Messages.{name-bytes}
-use Rattle.inverse.proofs.Plain.{plainValue, plainPair, wellPair}
-use Rattle.inverse.proofs.Value.{form-rest, string-form, value-form-moved, value-form, value-only}
+use Rattle.roundtrip.proofs.Plain.{plainValue, plainPair, wellPair}
+use Rattle.roundtrip.proofs.Value.{form-rest, string-form, value-form-moved, value-form, value-only}
 
 -- what stands behind the same form is the same
 pub cancel : (form t r : List ℕ) → form ++ t ≡ form ++ r → t ≡ r

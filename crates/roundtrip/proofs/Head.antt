@@ -26,8 +26,8 @@ use Rattle.parser.proofs.Frames.{last-refused, last-other, last-done, ids-refus
 use Rattle.parser.proofs.Exact.{bytes-drop}
 use Rattle.parser.proofs.Accepted.{Cut, frame-cut}
 use Rattle.writer.specs.Frame.{headOf}
-use Rattle.inverse.proofs.Value.{form-rest}
-use Rattle.inverse.proofs.Pair.{cancel}
+use Rattle.roundtrip.proofs.Value.{form-rest}
+use Rattle.roundtrip.proofs.Pair.{cancel}
 
 -- ---- four bytes
 

@@ -16,7 +16,7 @@ use Rattle.answer.proofs.Each.{Each, each-both, each-parts}
 use Rattle.writer.specs.Pair.{pairBytes}
 use Rattle.writer.specs.Message.{nameBytes, messageBytes, runStart}
 use Rattle.writer.proofs.Messages.{message-bytes}
-use Rattle.inverse.proofs.Pair.{Plain, cancel, run-form, run-only, name-at-form}
+use Rattle.roundtrip.proofs.Pair.{Plain, cancel, run-form, run-only, name-at-form}
 
 -- ---- lists
 

@@ -1,14 +1,14 @@
 -- What is written for HAProxy is read back by the entry for agents' frames: one statement for all three types.
 use mathlib.Core.Path.{_≡_, refl, sym, ap, ap₂, subst, _∙_}
-use mathlib.Core.Bool.{Bool, true, false, cond, _&&_, _||_}
+use mathlib.Core.Bool.{true, cond}
 use mathlib.Core.Logic.{⊎-elim}
-use mathlib.Core.List.{List, [], _∷_, _++_, map}
+use mathlib.Core.List.{List, [], _∷_, _++_, map, map-map}
 use Prim.Native.Nat.{ℕ, _+_, _^_, _≤_, _<_}
 use native.Mathlib.Omega.{arith}
-use lib.Dec.{leb, eqb}
+use lib.Dec.{eqb}
 use lib.ListN.{length, drop, length-append}
 use borrow.Author.Tests.{le-leb, eq-eqb, ne-eqb, eqb-true, eqb-false}
-use Rattle.answer.specs.Answer.{Answer, done, next, behind}
+use Rattle.answer.specs.Answer.{Answer, done}
 use Rattle.answer.specs.Order.{first}
 use Rattle.answer.specs.Table.{records}
 use Rattle.answer.specs.Inner as inner
@@ -25,23 +25,20 @@ use Rattle.frame.specs.declared.Action.{Action}
 use Rattle.frame.specs.Records.{pairAt, actionAt, keyOf}
 use Rattle.frame.proofs.Meaning.{pairMeaning, actionMeaning}
 use Rattle.parser.specs.declared.Rooms.{Rooms}
-use Rattle.parser.specs.declared.Metadata.{Metadata}
 use Rattle.parser.specs.Pair.{movedPair}
-use Rattle.parser.specs.Payload.{Contents, payload}
 use Rattle.parser.specs.Frame.{answered}
 use Rattle.parser.proofs.Back.{pair-moved, metadataOf, Readable, known-high}
 use Rattle.agent.specs.Action.{actions, movedAction}
-use Rattle.agent.specs.Frame.{Sent, ofPairs, ofActions, movedSent, sentOf, agents, agentRead}
+use Rattle.agent.specs.Frame.{Sent, ofPairs, ofActions, agents, agentRead}
 use Rattle.agent.proofs.Back.{ActionBack, set-back, unset-back, actions-back}
-use Rattle.writer.specs.Pair.{pairBytes, pairChecks}
 use Rattle.writer.specs.Action.{noValue, actionWritable, actionBytes, actionChecks, actionRefusal}
-use Rattle.writer.specs.Frame.{finAlone, kvAllowed, kvAnswer, actionsBytes, actionsAnswer}
+use Rattle.writer.specs.Frame.{finAlone, kvAnswer, actionsBytes, actionsAnswer}
 use Rattle.writer.proofs.Pairs.{formed-passed, pair-bytes}
 use Rattle.writer.proofs.Actions.{writable-unset, writable-other, set-bytes, unset-bytes, passed-scope, passed-pair, action-number}
 use Rattle.writer.proofs.Answers.{kv-agent-hello, kv-agent-disconnect}
-use Rattle.writer.proofs.Laws.{Wrote, kv-accepted, actions-accepted, actions-wrote}
-use Rattle.spop.proofs.Walked as walk
-use Rattle.spop.proofs.ReadBack.{map-twice, fin-alone, back, stands, short, list, wrote, placed, all-read}
+use Rattle.writer.proofs.Laws.{kv-accepted, actions-accepted, actions-wrote}
+use Rattle.roundtrip.proofs.Walked as walk
+use Rattle.roundtrip.proofs.ReadBack.{Placed, placed, fin-alone, kv-placed, kv-walked, all-read}
 
 -- ---- an action
 
@@ -110,10 +107,6 @@ map-each : {A B : Type 0} (f g : A → B) → ((x : A) → f x ≡ g x) → (xs 
 map-each f g same [] = refl
 map-each f g same (x ∷ xs) = ap₂ (λ (y : _) (l : List _). y ∷ l) (same x) (map-each f g same xs)
 
--- the payload of an agent's frame, in its frame
-abbrev inFrame : Metadata → ℕ → Answer Sent → Answer (Metadata × Sent)
-inFrame m start a = next (behind movedSent start a) (λ (c : Sent) (end : ℕ). done (m, c) end)
-
 -- A frame of n bytes that was written, of a type that agents send. It is read under a limit no lower, and with any bytes t behind it.
 module _ (h : Head) (limit : ℕ) (buffer bytes : List ℕ) (n : ℕ) (stream : h .stream < 2 ^ 64) (frame : h .frame < 2 ^ 64) (small : limit < 2 ^ 32)
     (higher : ℕ) (up : limit ≤ higher) (pairRoom room : ℕ) (t : List ℕ) (agent : 101 ≤ h .kind) where
@@ -133,50 +126,36 @@ module _ (h : Head) (limit : ℕ) (buffer bytes : List ℕ) (n : ℕ) (stream : 
     abbrev p : List ℕ
     p = actionsBytes buffer rows j
 
-    w : Wrote h limit p bytes n
-    w = actions-wrote h limit buffer rows j bytes n is
-
     ack-ok : Readable true h
     ack-ok = sendable (actions-accepted h limit buffer rows j bytes n is .0) (omega (arith, ack))
 
     passed : inner.Sound (actionRefusal buffer rows) j
     passed = actions-accepted h limit buffer rows j bytes n is .2
 
-    abbrev start : ℕ
-    start = back (agents pairRoom room) h limit p bytes n w small ack-ok higher up t .start
+    z : Placed (agents pairRoom room) h p n higher (bytes ++ t) t
+    z = placed (agents pairRoom room) h limit p bytes n (actions-wrote h limit buffer rows j bytes n is) small ack-ok higher up t
 
-    here : drop start (bytes ++ t) ≡ p ++ t
-    here =
-        let none : start ≡ start + 0 = omega arith in
-        ap (λ (k : ℕ). drop k (bytes ++ t)) none ∙ stands (agents pairRoom room) h limit p bytes n w small ack-ok higher up t 0 (omega arith)
+    here : drop (z .start) (bytes ++ t) ≡ p ++ t
+    here = let none : z .start ≡ z .start + 0 = omega arith in ap (λ (k : ℕ). drop k (bytes ++ t)) none ∙ z .stands 0 (omega arith)
 
     read : (xs : List Action) × (actions room p ≡ done xs (length p)) × (map (actionMeaning (p ++ t)) xs ≡ map (actionMeaning buffer) (records (actionAt rows) 0 j))
     read =
         actions-back room buffer (actionBytes buffer) (actionAt rows) j p t refl fits
-        (λ i l r u long.
-        action-back buffer (actionAt rows i) (sym (action-number buffer rows i) ∙ passed .each i l) r u
-        (omega (arith, long, short (agents pairRoom room) h limit p bytes n w small ack-ok higher up t)))
+        (λ i l r u long. action-back buffer (actionAt rows i) (sym (action-number buffer rows i) ∙ passed .each i l) r u (omega (arith, long, z .short)))
 
-    moved-means : (x : Action) → actionMeaning (bytes ++ t) (movedAction start x) ≡ actionMeaning (p ++ t) x
+    moved-means : (x : Action) → actionMeaning (bytes ++ t) (movedAction (z .start) x) ≡ actionMeaning (p ++ t) x
     moved-means x =
-        ap (λ (m : List ℕ × Meaning). (x .verb, x .scope, m)) (pair-moved (bytes ++ t) start (x .pair) ∙ ap (λ (l : List ℕ). pairMeaning l (x .pair)) here)
-
-    holds : sentOf pairRoom room (h .kind) p ≡ done (record { pairs = []; actions = read .0 }) (length p)
-    holds = rw (eq-eqb (h .kind) 103 ack) (ap ofActions (read .1))
+        ap (λ (m : List ℕ × Meaning). (x .verb, x .scope, m)) (pair-moved (bytes ++ t) (z .start) (x .pair) ∙ ap (λ (l : List ℕ). pairMeaning l (x .pair)) here)
 
     ack-back : SentBack h n buffer [] (records (actionAt rows) 0 j) higher pairRoom room (bytes ++ t)
     ack-back =
-        let b = back (agents pairRoom room) h limit p bytes n w small ack-ok higher up t in
         record {
-          sent = record { pairs = []; actions = map (movedAction start) (read .0) };
-          accepted =
-              b .reads
-              ∙ ap (λ (a : Answer Sent). answered (inFrame (metadataOf h) start a)) holds
-              ∙ ap (λ (m : ℕ). answered (done (metadataOf h, record { pairs = []; actions = map (movedAction start) (read .0) }) m)) (b .long ∙ sym (w .count));
+          sent = record { pairs = []; actions = map (movedAction (z .start)) (read .0) };
+          accepted = z .reads (record { pairs = []; actions = read .0 }) (rw (eq-eqb (h .kind) 103 ack) (ap ofActions (read .1)));
           pairs-same = refl;
           actions-same =
-              map-twice (actionMeaning (bytes ++ t)) (movedAction start) (read .0)
-              ∙ map-each (λ (x : Action). actionMeaning (bytes ++ t) (movedAction start x)) (actionMeaning (p ++ t)) moved-means (read .0)
+              map-map (actionMeaning (bytes ++ t)) (movedAction (z .start)) (read .0)
+              ∙ map-each (λ (x : Action). actionMeaning (bytes ++ t) (movedAction (z .start) x)) (actionMeaning (p ++ t)) moved-means (read .0)
               ∙ read .2;
         }
 
@@ -196,30 +175,19 @@ module _ (h : Head) (limit : ℕ) (buffer bytes : List ℕ) (n : ℕ) (stream : 
     abbrev rooms : Rooms
     rooms = record { messages = 0; pairs = pairRoom }
 
-    abbrev q : List ℕ
-    q = list h limit buffer bytes n stream frame small higher up rooms t pairs i is fits
-
     abbrev lies : walk.Payload
-    lies = placed h limit buffer bytes n stream frame small higher up rooms t pairs i is fits (agents pairRoom room) kv-ok true refl
+    lies = kv-walked h limit buffer bytes n stream frame small higher up rooms t pairs i is fits (agents pairRoom room) kv-ok true refl
 
     r : walk.Reads lies i 0 0 []
     r = all-read h limit buffer bytes n stream frame small higher up rooms t pairs i is fits (agents pairRoom room) kv-ok true refl
 
-    list-holds : sentOf pairRoom room (h .kind) q ≡ done (record { pairs = r .contents .pairs; actions = [] }) (length q)
-    list-holds = rw (ne-eqb (h .kind) 103 (λ z. omega (arith, z, kv))) (ap ofPairs (walk.reads-end lies i 0 r))
-
     kv-back : SentBack h n buffer (records (pairAt pairs) 0 i) [] higher pairRoom room (bytes ++ t)
     kv-back =
-        let v = wrote h limit buffer bytes n stream frame small higher up rooms t pairs i is fits in
-        let b = back (agents pairRoom room) h limit q bytes n v small kv-ok higher up t in
-        let moved = map (movedPair (b .start)) (r .contents .pairs) in
+        let z = kv-placed h limit buffer bytes n stream frame small higher up rooms t pairs i is fits (agents pairRoom room) kv-ok true refl in
         record {
-          sent = record { pairs = moved; actions = [] };
-          accepted =
-              b .reads
-              ∙ ap (λ (a : Answer Sent). answered (inFrame (metadataOf h) (b .start) a)) list-holds
-              ∙ ap (λ (m : ℕ). answered (done (metadataOf h, record { pairs = moved; actions = [] }) m)) (b .long ∙ sym (v .count));
-          pairs-same = map-twice (pairMeaning (bytes ++ t)) (movedPair (b .start)) (r .contents .pairs) ∙ r .arguments;
+          sent = record { pairs = map (movedPair (z .start)) (r .contents .pairs); actions = [] };
+          accepted = z .reads (record { pairs = r .contents .pairs; actions = [] }) (rw (ne-eqb (h .kind) 103 (λ z. omega (arith, z, kv))) (ap ofPairs (walk.reads-end lies i 0 r)));
+          pairs-same = map-map (pairMeaning (bytes ++ t)) (movedPair (z .start)) (r .contents .pairs) ∙ r .arguments;
           actions-same = refl;
         }
 

@@ -2,14 +2,14 @@
 -- (Walked), record by record as they were written.
 use mathlib.Core.Path.{_≡_, refl, sym, ap, _∙_}
 use mathlib.Core.Bool.{Bool, true, false, not, _||_}
-use mathlib.Core.List.{List, [], _∷_, _++_, map, append-nil}
+use mathlib.Core.List.{List, [], _∷_, _++_, map, map-map, append-nil}
 use Prim.Native.Nat.{ℕ, zero, suc, _+_, _-_, _^_, _≤_, _<_}
 use native.Mathlib.Omega.{arith}
 use lib.Dec.{eqb}
-use lib.ListN.{length, drop, getD, length-drop, List·getD-map}
+use lib.ListN.{length, drop, getD, length-drop, length-map, List·getD-map}
 use lib.Seq.{drop-drop, drop-append-le}
-use borrow.Author.Tests.{lt-ltb, eq-eqb, ne-eqb, eqb-true, eqb-false}
-use Rattle.answer.specs.Answer.{Answer, done, behind}
+use borrow.Author.Tests.{not-true, lt-ltb, eq-eqb, ne-eqb, eqb-true, eqb-false}
+use Rattle.answer.specs.Answer.{Answer, done, next, behind}
 use Rattle.answer.specs.Table.{records, some}
 use Rattle.answer.specs.Inner as inner
 use Rattle.answer.proofs.Cases.{bool-cases, true-false, both-true}
@@ -18,14 +18,12 @@ use Rattle.frame.specs.declared.Head.{Head}
 use Rattle.frame.specs.declared.Pair.{Pair}
 use Rattle.frame.specs.declared.Message.{Message}
 use Rattle.frame.specs.Records.{pairAt, messageAt, sameKey}
-use Rattle.frame.proofs.Laws.{Framed}
 use Rattle.frame.proofs.Meaning.{pairMeaning, messageMeaning}
 use Rattle.parser.specs.declared.Rooms.{Rooms}
 use Rattle.parser.specs.Pair.{movedPair}
-use Rattle.parser.specs.Payload.{Contents, payload, movedMessage, movedContents}
-use Rattle.parser.specs.Frame.{Entry, haproxys, answered, frameRead}
-use Rattle.parser.proofs.Frames.{inFrame, length-map}
-use Rattle.parser.proofs.Back.{metadataOf, Readable, FrameBack, known-low, frame-back}
+use Rattle.parser.specs.Payload.{Contents, movedMessage, movedContents}
+use Rattle.parser.specs.Frame.{Entry, haproxys, answered, front, frameRead}
+use Rattle.parser.proofs.Back.{metadataOf, Readable, known-low, frame-back}
 use Rattle.writer.specs.Pair.{pairRefusal, kvRefusal}
 use Rattle.writer.specs.Message.{runStart, messageRefusal}
 use Rattle.writer.specs.Frame.{finAlone, kvAllowed, pairsBytes, kvAnswer, messagesBytes, notifyAnswer}
@@ -33,7 +31,7 @@ use Rattle.writer.proofs.Pairs.{formed-at, kv-passed, kv-met}
 use Rattle.writer.proofs.Messages.{runs-start, runs-inside, last-ends}
 use Rattle.writer.proofs.Answers.{kv-other}
 use Rattle.writer.proofs.Laws.{Wrote, kv-accepted, kv-wrote, notify-accepted, notify-passed-records, notify-wrote}
-use Rattle.spop.proofs.Walked as walk
+use Rattle.roundtrip.proofs.Walked as walk
 
 -- These bytes are accepted as a frame of n bytes with this head, and its messages and pairs mean what those of a buffer mean, in the same order.
 pub record ReadBack (h : Head) (n : ℕ) (buffer : List ℕ) (messages : List Message) (pairs : List Pair) (limit : ℕ) (rooms : Rooms) (input : List ℕ) : Type 0 where
@@ -42,63 +40,62 @@ pub record ReadBack (h : Head) (n : ℕ) (buffer : List ℕ) (messages : List Me
   pub messages-same : map (messageMeaning input) (contents .messages) ≡ map (messageMeaning buffer) messages
   pub pairs-same : map (pairMeaning input) (contents .pairs) ≡ map (pairMeaning buffer) pairs
 
-pub map-twice : {A B C : Type 0} (f : B → C) (g : A → B) (xs : List A) → map f (map g xs) ≡ map (λ x. f (g x)) xs
-map-twice f g [] = refl
-map-twice f g (x ∷ xs) = ap (λ (l : List _). f (g x) ∷ l) (map-twice f g xs)
-
--- A frame that was written, and is read by an entry x: where its payload stands.
-module _ {A : Type 0} (x : Entry A) (h : Head) (limit : ℕ) (p bytes : List ℕ) (n : ℕ) (w : Wrote h limit p bytes n) (small : limit < 2 ^ 32)
-    (ok : Readable (x .agents) h) (higher : ℕ) (up : limit ≤ higher) (t : List ℕ) where
-  framed : Framed h limit p bytes
-  framed = w .parts small
-
-  pub back : FrameBack x h p bytes higher t
-  back = frame-back x h limit p bytes framed ok higher up t
-
-  pub stands : (i : ℕ) → i ≤ length p → drop (back .start + i) (bytes ++ t) ≡ drop i p ++ t
-  stands i l =
-      drop-append-le (back .start + i) bytes t (omega (arith, back .long))
-      ∙ ap (λ (y : List ℕ). y ++ t) (sym (drop-drop i (back .start) bytes) ∙ ap (drop i) (back .there))
-
+-- A frame of n bytes with this head and this payload, which is read by an entry x under a limit, with t behind it: where its payload stands in the input, and that
+-- the frame is read where the payload is.
+pub record Placed {A : Type 0} (x : Entry A) (h : Head) (p : List ℕ) (n limit : ℕ) (input t : List ℕ) : Type 0 where
+  pub start : ℕ
+  pub stands : (i : ℕ) → i ≤ length p → drop (start + i) input ≡ drop i p ++ t
   pub short : length p < 2 ^ 64
-  short = omega (arith, back .long, framed .fits, length-drop 4 bytes)
+  pub reads : (held : A) → x .payloadOf (h .kind) p ≡ done held (length p) → front x limit input ≡ answered (done (metadataOf h, x .moved start held) n)
 
-  -- a KV list, or messages, with rooms
-  abbrev pub walked : Bool → Rooms → List ℕ → List ℕ → List ℕ → walk.Payload
-  walked kv rooms buffer messages pairs =
-      record {
-        buffer = buffer;
-        messages = messages;
-        pairs = pairs;
-        kv = kv;
-        rooms = rooms;
-        s = p;
-        short = short;
-        input = bytes ++ t;
-        base = back .start;
-        t = t;
-        stands = stands;
-      }
+-- Law: a frame that was written is so, by any entry that reads it.
+pub placed : {A : Type 0} (x : Entry A) (h : Head) (limit : ℕ) (p bytes : List ℕ) (n : ℕ) → Wrote h limit p bytes n → limit < 2 ^ 32 → Readable (x .agents) h
+    → (higher : ℕ) → limit ≤ higher → (t : List ℕ) → Placed x h p n higher (bytes ++ t) t
+placed {A} x h limit p bytes n w small ok higher up t =
+    let f = w .parts small in
+    let b = frame-back x h limit p bytes f ok higher up t in
+    record {
+      start = b .start;
+      stands = λ i l.
+          drop-append-le (b .start + i) bytes t (omega (arith, b .long))
+          ∙ ap (λ (y : List ℕ). y ++ t) (sym (drop-drop i (b .start) bytes) ∙ ap (drop i) (b .there));
+      short = omega (arith, b .long, f .fits, length-drop 4 bytes);
+      reads = λ held e.
+          b .reads
+          ∙ ap (λ (a : Answer A). answered (next (behind (x .moved) (b .start) a) (λ (c : A) (end : ℕ). done (metadataOf h, c) end))) e
+          ∙ ap (λ (m : ℕ). answered (done (metadataOf h, x .moved (b .start) held) m)) (b .long ∙ sym (w .count));
+    }
 
--- What it holds reads back, and so does the frame.
-module _ (buffer messages pairs : List ℕ) (h : Head) (limit : ℕ) (p bytes : List ℕ) (n : ℕ) (w : Wrote h limit p bytes n) (small : limit < 2 ^ 32)
-    (ok : Readable false h) (higher : ℕ) (up : limit ≤ higher) (rooms : Rooms) (t : List ℕ) where
-  abbrev placed-so : walk.Payload
-  placed-so = walked (haproxys rooms) h limit p bytes n w small ok higher up t (not (eqb (h .kind) 3)) rooms buffer messages pairs
+-- its payload, as a KV list or as messages, with rooms
+abbrev pub walked : {A : Type 0} {x : Entry A} {h : Head} {p : List ℕ} {n limit : ℕ} {input t : List ℕ} → Placed x h p n limit input t
+    → Bool → Rooms → List ℕ → List ℕ → List ℕ → walk.Payload
+walked {p = p} {input = input} {t = t} z kv rooms buffer messages pairs =
+    record {
+      buffer = buffer;
+      messages = messages;
+      pairs = pairs;
+      kv = kv;
+      rooms = rooms;
+      s = p;
+      short = z .short;
+      input = input;
+      base = z .start;
+      t = t;
+      stands = z .stands;
+    }
 
-  read-back : (i j : ℕ) → walk.Reads placed-so i j 0 [] → ReadBack h n buffer (records (messageAt messages) 0 j) (records (pairAt pairs) 0 i) higher rooms (bytes ++ t)
-  unfolding frameRead
-  read-back i j r =
-      let b = back (haproxys rooms) h limit p bytes n w small ok higher up t in
-      record {
-        contents = movedContents (b .start) (r .contents);
-        accepted =
-            b .reads
-            ∙ ap (λ (x : Answer Contents). answered (inFrame (metadataOf h) (b .start) x)) (walk.reads-end placed-so i j r)
-            ∙ ap (λ (m : ℕ). answered (done (metadataOf h, movedContents (b .start) (r .contents)) m)) (b .long ∙ sym (w .count));
-        messages-same = map-twice (messageMeaning (bytes ++ t)) (movedMessage (b .start)) (r .contents .messages) ∙ r .names;
-        pairs-same = map-twice (pairMeaning (bytes ++ t)) (movedPair (b .start)) (r .contents .pairs) ∙ r .arguments;
-      }
+-- Where what it holds reads back, so does the frame.
+read-back : (buffer messages pairs : List ℕ) {h : Head} {p : List ℕ} {n limit : ℕ} {input t : List ℕ} (rooms : Rooms) (z : Placed (haproxys rooms) h p n limit input t)
+    → (i j : ℕ) → walk.Reads (walked z (not (eqb (h .kind) 3)) rooms buffer messages pairs) i j 0 []
+    → ReadBack h n buffer (records (messageAt messages) 0 j) (records (pairAt pairs) 0 i) limit rooms input
+unfolding frameRead
+read-back buffer messages pairs {h = h} {input = input} rooms z i j r =
+    record {
+      contents = movedContents (z .start) (r .contents);
+      accepted = z .reads (r .contents) (walk.reads-end (walked z (not (eqb (h .kind) 3)) rooms buffer messages pairs) i j r);
+      messages-same = map-map (messageMeaning input) (movedMessage (z .start)) (r .contents .messages) ∙ r .names;
+      pairs-same = map-map (pairMeaning input) (movedPair (z .start)) (r .contents .pairs) ∙ r .arguments;
+    }
 
 -- ---- by index
 
@@ -127,7 +124,7 @@ record-same f g at d n xs e i h =
     let here : 0 + i ≡ i = omega arith in
     sym (List·getD-map f xs i d)
     ∙ ap (λ (l : List _). getD l i (f d)) e
-    ∙ there (map g (records at 0 n)) i (f d) (g d) (omega (arith, length-map g (records at 0 n), records-length at n 0))
+    ∙ there (map g (records at 0 n)) i (f d) (g d) (omega (arith, length-map (records at 0 n) g, records-length at n 0))
     ∙ List·getD-map g (records at 0 n) i d
     ∙ ap g (record-at at n 0 i d h ∙ ap at here)
 
@@ -135,11 +132,7 @@ record-same f g at d n xs e i h =
 
 -- what finAlone says
 pub fin-alone : (h : Head) → finAlone h ≡ true → (h .fin ≡ true) × (h .abort ≡ false)
-fin-alone h e = let b = both-true (h .fin) (not (h .abort)) e in (b .0, turned (h .abort) (b .1))
-  where
-    turned : (x : Bool) → not x ≡ true → x ≡ false
-    turned true e = sym e
-    turned false e = refl
+fin-alone h e = let b = both-true (h .fin) (not (h .abort)) e in (b .0, not-true (h .abort) (b .1))
 
 -- the types of KV frames below 101 are 1 and 2
 kv-kinds : (h : Head) → kvAllowed h ≡ true → h .kind < 101 → (1 ≤ h .kind) × (h .kind ≤ 2)
@@ -181,30 +174,33 @@ module _ (h : Head) (limit : ℕ) (buffer bytes : List ℕ) (n : ℕ) (stream : 
 
     -- as a KV list, by any entry that reads the frame
     module _ {A : Type 0} (x : Entry A) (ok : Readable (x .agents) h) (kv : Bool) (is-kv : kv ≡ true) where
-      abbrev pub placed : walk.Payload
-      placed = walked x h limit list bytes n wrote small ok higher up t kv rooms buffer [] pairs
+      abbrev pub kv-placed : Placed x h list n higher (bytes ++ t) t
+      kv-placed = placed x h limit list bytes n wrote small ok higher up t
 
-      sound : (i : ℕ) → i < count → walk.Sound placed i
+      abbrev pub kv-walked : walk.Payload
+      kv-walked = walked kv-placed kv rooms buffer [] pairs
+
+      sound : (i : ℕ) → i < count → walk.Sound kv-walked i
       sound i l =
           let f = formed-at buffer pairs i (kv-passed buffer pairs i (passed .each i l)) in
           record { fields = f .fields; range = f .range; fresh = λ k. fresh i l }
 
-      pub all-read : walk.Reads placed count 0 0 []
+      pub all-read : walk.Reads kv-walked count 0 0 []
       all-read =
           let here : 0 + count ≡ count = omega arith in
           let none : 0 - count ≡ 0 = omega arith in
-          walk.reads-as placed here refl none refl
-          (walk.reads-run placed count sound room count 0 0 0 [] (omega arith) (λ k. true-false is-kv k)
-          (walk.reads-as placed refl refl refl (sym (append-nil list)) (walk.reads-none placed)))
+          walk.reads-as kv-walked here refl none refl
+          (walk.reads-run kv-walked count sound room count 0 0 0 [] (omega arith) (λ k. true-false is-kv k)
+          (walk.reads-as kv-walked refl refl refl (sym (append-nil list)) (walk.reads-none kv-walked)))
 
     -- Law: each KV frame of type 1 or 2 with FIN alone that `write_kv` writes reads back, with room for its pairs.
     pub kv-read-back : h .kind < 101 → finAlone h ≡ true → ReadBack h n buffer [] (records (pairAt pairs) 0 count) higher rooms (bytes ++ t)
     kv-read-back below fin =
         let kinds = kv-kinds h (kv-accepted h limit buffer pairs count bytes n is .0) below in
         let ok = readable fin (kinds .0) (omega (arith, kinds .1)) in
+        let kv : not (eqb (h .kind) 3) ≡ true = rw (ne-eqb (h .kind) 3 (λ z. omega (arith, kinds .1))) in
         rw (sym (records-none (messageAt []) 0))
-        (read-back buffer [] pairs h limit list bytes n wrote small ok higher up rooms t count 0
-        (all-read (haproxys rooms) ok (not (eqb (h .kind) 3)) (rw (ne-eqb (h .kind) 3 (λ z. omega (arith, kinds .1))))))
+        (read-back buffer [] pairs rooms (kv-placed (haproxys rooms) ok (not (eqb (h .kind) 3)) kv) count 0 (all-read (haproxys rooms) ok (not (eqb (h .kind) 3)) kv))
 
   -- ---- NOTIFY frames
 
@@ -219,11 +215,11 @@ module _ (h : Head) (limit : ℕ) (buffer bytes : List ℕ) (n : ℕ) (stream : 
     notify-ok : Readable false h
     notify-ok = readable (accepted-so .0) (omega (arith, notify)) (omega (arith, notify))
 
-    notified : Wrote h limit list-of-messages bytes n
-    notified = notify-wrote h limit buffer messages count pairs total bytes n is
+    notified : Placed (haproxys rooms) h list-of-messages n higher (bytes ++ t) t
+    notified = placed (haproxys rooms) h limit list-of-messages bytes n (notify-wrote h limit buffer messages count pairs total bytes n is) small notify-ok higher up t
 
     abbrev lies : walk.Payload
-    lies = placed-so buffer messages pairs h limit list-of-messages bytes n notified small notify-ok higher up rooms t
+    lies = walked notified (not (eqb (h .kind) 3)) rooms buffer messages pairs
 
     messages-passed : inner.Sound (messageRefusal buffer total messages count) count
     messages-passed = notify-passed-records h limit buffer messages count pairs total bytes n is .0
@@ -249,7 +245,7 @@ module _ (h : Head) (limit : ℕ) (buffer bytes : List ℕ) (n : ℕ) (stream : 
 
     -- Law: so does each NOTIFY frame that `write_notify` writes, with room for its messages and its pairs.
     pub notify-read-back : ReadBack h n buffer (records (messageAt messages) 0 count) (records (pairAt pairs) 0 total) higher rooms (bytes ++ t)
-    notify-read-back = read-back buffer messages pairs h limit list-of-messages bytes n notified small notify-ok higher up rooms t total count both-read
+    notify-read-back = read-back buffer messages pairs rooms notified total count both-read
 
     -- Law: argument j of message i of what was written is argument j of message i of what is read, and the message has its name, its first pair and its
     -- count.

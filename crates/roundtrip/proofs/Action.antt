@@ -17,8 +17,8 @@ use Rattle.agent.proofs.Standing.{Stands, by-verb}
 use Rattle.listing.proofs.Sent.{action-acts}
 use Rattle.writer.specs.Action.{actionWritable, actionBytes, actionChecks}
 use Rattle.writer.proofs.Actions.{writable-set, writable-unset, action-pair, set-bytes, unset-bytes}
-use Rattle.inverse.proofs.Plain.{plainPair, plainAction, wellPair}
-use Rattle.inverse.proofs.Pair.{pair-at-form, pair-at-only, string-at-form, pair-refuses}
+use Rattle.roundtrip.proofs.Plain.{plainPair, plainAction, wellPair}
+use Rattle.roundtrip.proofs.Pair.{pair-at-form, pair-at-only, string-at-form, pair-refuses}
 
 module _ (f : List ℕ) (at : ℕ) (x : Action) (next : ℕ) (small : Bytes f) (z : Stands f at x next) where
   -- a set's value is plain where the action is
