@@ -14,10 +14,11 @@ use Rattle.varint.specs.Number.{number, numberBytes}
 use Rattle.varint.proofs.Reading.{accepted, reads-back}
 use Rattle.frame.specs.declared.Head.{Head}
 use Rattle.frame.specs.Head.{fourNumber}
-use Rattle.frame.specs.Read.{Sender, answered, cut, head}
+use Rattle.frame.specs.declared.Side.{Side}
+use Rattle.frame.specs.Read.{Sender, finSet, sender, answered, cut, head}
 use Rattle.frame.proofs.Laws.{four-says, four-kept, Framed}
 use Rattle.frame.proofs.Cutting.{cut-whole}
-use Rattle.frame.proofs.Heads.{head-so}
+use Rattle.frame.proofs.Heads.{head-so, own-known, sides}
 
 -- a head that a side may send: a type of its own that is known, flags that are allowed and fit, without ABORT, and two numbers of 64 bits
 pub record Sendable (sent : Sender) (h : Head) : Type 0 where
@@ -111,3 +112,18 @@ module _ (sent : Sender) (h : Head) (limit : ℕ) (p bytes : List ℕ) (f : Fram
             ∙ ap (λ (k : ℕ). answered (done (take k (bytes ++ t)) k)) end
             ∙ ap (λ (l : List ℕ). answered (done l (length bytes))) (take-at bytes t (length bytes) refl);
       }
+
+-- a head of a type that a side sends, with FIN alone, may be sent
+pub sendable : (from : Side) (h : Head) → some (eqb (h .«frame_type»)) (sender from .own) ≡ true → h .flags ≡ 1 → h .stream < 2 ^ 64 → h .frame < 2 ^ 64
+    → Sendable (sender from) h
+unfolding some
+sendable from h own one stream frame =
+    record {
+      known = own-known from (h .«frame_type») own;
+      own = own;
+      allowed = ap (some (eqb (h .flags))) (sides from .1) ∙ ap (λ (n : ℕ). some (eqb n) finSet) one;
+      whole = ap (λ (n : ℕ). n / 2 % 2) one;
+      small = omega (arith, one);
+      stream = stream;
+      frame = frame;
+    }

@@ -40,7 +40,13 @@ ghost use Rattle.listing.specs.Inner.{Listed, namedText, valuedText};
 pub fn write_frame_line(index: u64, head: Head, bytes: u64, out: &mut [u8]) -> Written
     ensures { λ r. ⌜ WriteFrameLine index head bytes r (now (out .entry)) (now (out .exit)) ⌝ }
 {
-    let numbers = [index, head.frame_type as u64, head.stream, head.frame, bytes];
+    let numbers = [
+        index,
+        head.frame_type as u64,
+        head.stream,
+        head.frame,
+        bytes,
+    ];
     let form = b"frame # type # stream # id # bytes #\n";
     if out.len() < filled_len(form, &numbers) {
         return refused(NO_ROOM);

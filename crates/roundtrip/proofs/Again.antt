@@ -7,7 +7,7 @@ use Prim.Native.Nat.{ℕ, _+_, _*_, _≤_, _<_}
 use native.Mathlib.Omega.{arith}
 use lib.Dec.{eqb}
 use lib.ListN.{length, take, length-append}
-use borrow.Author.Tests.{le-leb, ltb-true, eq-eqb, ne-eqb, eqb-true, eqb-false}
+use borrow.Author.Tests.{le-leb, eq-eqb, ne-eqb, eqb-true, eqb-false}
 use Rattle.answer.specs.Answer.{done, refused}
 use Rattle.answer.specs.Order.{first, firstRefused}
 use Rattle.answer.specs.Table.{records, joined}
@@ -16,10 +16,11 @@ use Rattle.varint.proofs.Reading.{Bytes}
 use Rattle.types.proofs.Checking.{string-ill, string-well}
 use Rattle.frame.specs.declared.Head.{Head}
 use Rattle.frame.specs.Records.{messageWidth, messageAt, messageNumbers, pairWidth, pairAt}
-use Rattle.parser.specs.declared.Metadata.{Metadata}
 use Rattle.parser.specs.declared.Rooms.{Rooms}
 use Rattle.parser.specs.Payload.{Contents}
-use Rattle.parser.specs.Frame.{answered, haproxys, frameRead}
+use Rattle.frame.specs.Read.{answered}
+use Rattle.frame.proofs.Heads.{three-says}
+use Rattle.parser.specs.Frame.{haproxys, frameRead}
 use Rattle.parser.specs.Promise.{roomsOf, contentsRead, Fills}
 use Rattle.parser.specs.Inner.{Run}
 use Rattle.parser.proofs.Filling.{joined-width}
@@ -35,42 +36,42 @@ use Rattle.writer.proofs.Answers.{kv-haproxy-hello, kv-haproxy-disconnect, noti
 use Rattle.roundtrip.proofs.Plain.{plainPair, wellPair, wellName, WellNames}
 use Rattle.roundtrip.proofs.Payload.{Distinct, kv-distinct, kv-stands, messages-stand}
 use Rattle.roundtrip.proofs.Listed.{messages-form, messages-only, Runs, runs-stand, no-stray}
-use Rattle.roundtrip.proofs.Head.{kinds-below, Accepted, frame-accepted}
+use Rattle.roundtrip.proofs.Head.{Accepted, frame-accepted}
 use Rattle.roundtrip.proofs.Pair.{Plain}
 use Rattle.roundtrip.proofs.Rewritten.{Rewrites, fifteen, none-ill, first-ill, each-held, held-each, frame-same, frame-only}
 use Rattle.roundtrip.proofs.Kv.{pair-says, Kv, table-in}
 
 -- ---- an accepted frame
 
-module _ (rooms : Rooms) (limit : ℕ) (s : List ℕ) (m : Metadata) (c : Contents) (used : ℕ) (x : Accepted (haproxys rooms) limit s m c used) where
+module _ (rooms : Rooms) (limit : ℕ) (s : List ℕ) (m : Head) (c : Contents) (used : ℕ) (x : Accepted (haproxys rooms) limit s m c used) where
   ends : x .start + x .end ≡ length (take used s)
   ends = x .ends ∙ sym (x .long)
 
   -- Law: a list's pairs stand one behind the other up to its end, and no key is met twice; and so do a NOTIFY's messages.
-  pub frame-run : (m .kind ≡ 3 → ⊥) → Run (take used s) (x .start) (c .pairs) (length (take used s)) × Distinct (take used s) [] (c .pairs)
+  pub frame-run : (m .«frame_type» ≡ 3 → ⊥) → Run (take used s) (x .start) (c .pairs) (length (take used s)) × Distinct (take used s) [] (c .pairs)
   frame-run kv =
       let f = take used s in
-      let is = rw (ap not (ne-eqb (m .kind) 3 kv)) at (x .read) in
+      let is = rw (ap not (ne-eqb (m .«frame_type») 3 kv)) at (x .read) in
       let same = ap (λ (d : Contents). d .pairs) (x .moved) in
       (rw (same, ends) at (kv-stands rooms f (x .start) (x .contents) (x .end) is), rw same at (kv-distinct rooms f (x .start) (x .contents) (x .end) is))
 
-  pub frame-laid : m .kind ≡ 3 → Laid (take used s) (x .start) 0 (c .messages) (c .pairs) (length (take used s))
+  pub frame-laid : m .«frame_type» ≡ 3 → Laid (take used s) (x .start) 0 (c .messages) (c .pairs) (length (take used s))
   frame-laid notify =
-      let o = messages-stand rooms (take used s) (x .start) (x .there) (x .contents) (x .end) (rw (ap not (eq-eqb (m .kind) 3 notify)) at (x .read)) in
+      let o = messages-stand rooms (take used s) (x .start) (x .there) (x .contents) (x .end) (rw (ap not (eq-eqb (m .«frame_type») 3 notify)) at (x .read)) in
       let ms = ap (λ (d : Contents). d .messages) (x .moved) in
       let ps = ap (λ (d : Contents). d .pairs) (x .moved) in
       rw (ms, ps, ends) at o
 
 -- ---- and the tables that the reader left
 
-module _ (limit : ℕ) (s oldMessages newMessages oldPairs newPairs : List ℕ) (m : Metadata) (c : Contents) (used : ℕ) (small : Bytes (take used s))
+module _ (limit : ℕ) (s oldMessages newMessages oldPairs newPairs : List ℕ) (m : Head) (c : Contents) (used : ℕ) (small : Bytes (take used s))
     (e : frameRead limit (roomsOf oldMessages oldPairs) s ≡ answered (done (m, c) used))
     (fills : Fills (contentsRead (frameRead limit (roomsOf oldMessages oldPairs) s)) oldMessages newMessages oldPairs newPairs) where
   abbrev f : List ℕ
   f = take used s
 
   abbrev h : Head
-  h = headOf (m .kind) true false (m .stream) (m .frame)
+  h = headOf (m .«frame_type») true false (m .stream) (m .frame)
 
   abbrev rows : ℕ
   rows = length (c .messages)
@@ -100,7 +101,7 @@ module _ (limit : ℕ) (s oldMessages newMessages oldPairs newPairs : List ℕ) 
   -- ---- KV frames
 
   -- their pairs and the table that holds them, and that their head may be written
-  module _ (kv : m .kind ≡ 3 → ⊥) where
+  module _ (kv : m .«frame_type» ≡ 3 → ⊥) where
     pub kv-listed : Kv limit f h newPairs (c .pairs)
     kv-listed =
         let o = frame-run (roomsOf oldMessages oldPairs) limit s m c used x kv in
@@ -116,19 +117,19 @@ module _ (limit : ℕ) (s oldMessages newMessages oldPairs newPairs : List ℕ) 
 
     pub kv-may : kvAllowed h ≡ true
     kv-may =
-        bool-cases (eqb (m .kind) 1)
-        (λ t. kv-haproxy-hello h (eqb-true (m .kind) 1 t))
+        bool-cases (eqb (m .«frame_type») 1)
+        (λ t. kv-haproxy-hello h (eqb-true (m .«frame_type») 1 t))
         (λ t.
-        bool-cases (eqb (m .kind) 2)
-        (λ u. kv-haproxy-disconnect h (eqb-true (m .kind) 2 u))
-        (λ u. absurd (kv (by-elimination (eqb-false (m .kind) 1 t) (eqb-false (m .kind) 2 u)))))
+        bool-cases (eqb (m .«frame_type») 2)
+        (λ u. kv-haproxy-disconnect h (eqb-true (m .«frame_type») 2 u))
+        (λ u. absurd (kv (by-elimination (eqb-false (m .«frame_type») 1 t) (eqb-false (m .«frame_type») 2 u)))))
       where
-        by-elimination : (m .kind ≡ 1 → ⊥) → (m .kind ≡ 2 → ⊥) → m .kind ≡ 3
-        by-elimination a b = omega (arith, kinds-below (m .kind) (x .known) (ltb-true (m .kind) 101 (x .sent)))
+        by-elimination : (m .«frame_type» ≡ 1 → ⊥) → (m .«frame_type» ≡ 2 → ⊥) → m .«frame_type» ≡ 3
+        by-elimination a b = omega (arith, three-says 1 (m .«frame_type») (x .own))
 
   -- ---- NOTIFY frames
 
-  module _ (notify : m .kind ≡ 3) where
+  module _ (notify : m .«frame_type» ≡ 3) where
     lie : Laid f (x .start) 0 (c .messages) (c .pairs) (length f)
     lie = frame-laid (roomsOf oldMessages oldPairs) limit s m c used x notify
 

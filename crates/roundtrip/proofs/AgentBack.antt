@@ -7,7 +7,7 @@ use Prim.Native.Nat.{ℕ, _+_, _^_, _≤_, _<_}
 use native.Mathlib.Omega.{arith}
 use lib.Dec.{eqb}
 use lib.ListN.{length, drop, length-append}
-use borrow.Author.Tests.{le-leb, eq-eqb, ne-eqb, eqb-true, eqb-false}
+use borrow.Author.Tests.{eq-eqb, ne-eqb, eqb-true, eqb-false}
 use Rattle.answer.specs.Answer.{Answer, done}
 use Rattle.answer.specs.Order.{first}
 use Rattle.answer.specs.Table.{records}
@@ -26,8 +26,11 @@ use Rattle.frame.specs.Records.{pairAt, actionAt, keyOf}
 use Rattle.frame.proofs.Meaning.{pairMeaning, actionMeaning}
 use Rattle.parser.specs.declared.Rooms.{Rooms}
 use Rattle.parser.specs.Pair.{movedPair}
-use Rattle.parser.specs.Frame.{answered}
-use Rattle.parser.proofs.Back.{pair-moved, metadataOf, Readable, known-high}
+use Rattle.frame.specs.declared.Side.the-variants as side
+use Rattle.frame.specs.Read.{answered, sender}
+use Rattle.frame.proofs.Heads.{three-so}
+use Rattle.frame.proofs.Back.{Sendable, sendable}
+use Rattle.parser.proofs.Back.{pair-moved}
 use Rattle.agent.specs.Action.{actions, movedAction}
 use Rattle.agent.specs.Frame.{Sent, ofPairs, ofActions, agents, agentRead}
 use Rattle.agent.proofs.Back.{ActionBack, set-back, unset-back, actions-back}
@@ -38,7 +41,7 @@ use Rattle.writer.proofs.Actions.{writable-unset, writable-other, set-bytes, un
 use Rattle.writer.proofs.Answers.{kv-agent-hello, kv-agent-disconnect}
 use Rattle.writer.proofs.Laws.{kv-accepted, actions-accepted, actions-wrote}
 use Rattle.roundtrip.proofs.Walked as walk
-use Rattle.roundtrip.proofs.ReadBack.{Placed, placed, fin-alone, kv-placed, kv-walked, all-read}
+use Rattle.roundtrip.proofs.ReadBack.{Placed, placed, kv-placed, kv-walked, all-read}
 
 -- ---- an action
 
@@ -89,19 +92,19 @@ module _ (buffer : List ℕ) (x : Action) (e : first (actionChecks buffer x) ≡
 -- These bytes are accepted as an agent's frame of n bytes with this head, and its pairs and actions mean what those of a buffer mean, in the same order.
 pub record SentBack (h : Head) (n : ℕ) (buffer : List ℕ) (ps : List Pair) (xs : List Action) (limit pairRoom room : ℕ) (input : List ℕ) : Type 0 where
   pub sent : Sent
-  pub accepted : agentRead limit pairRoom room input ≡ answered (done (metadataOf h, sent) n)
+  pub accepted : agentRead limit pairRoom room input ≡ answered (done (h, sent) n)
   pub pairs-same : map (pairMeaning input) (sent .pairs) ≡ map (pairMeaning buffer) ps
   pub actions-same : map (actionMeaning input) (sent .actions) ≡ map (actionMeaning buffer) xs
 
 -- What is written under an agent's head: actions under that of an ACK, and pairs else.
 abbrev pub agentAnswer : Head → ℕ → List ℕ → List ℕ → ℕ → List ℕ → ℕ → Answer (List ℕ)
-agentAnswer h limit buffer pairs i rows j = cond (eqb (h .kind) 103) (actionsAnswer h limit buffer rows j) (kvAnswer h limit buffer pairs i)
+agentAnswer h limit buffer pairs i rows j = cond (eqb (h .«frame_type») 103) (actionsAnswer h limit buffer rows j) (kvAnswer h limit buffer pairs i)
 
 abbrev pub pairsSent : Head → List ℕ → ℕ → List Pair
-pairsSent h pairs i = cond (eqb (h .kind) 103) [] (records (pairAt pairs) 0 i)
+pairsSent h pairs i = cond (eqb (h .«frame_type») 103) [] (records (pairAt pairs) 0 i)
 
 abbrev pub actionsSent : Head → List ℕ → ℕ → List Action
-actionsSent h rows j = cond (eqb (h .kind) 103) (records (actionAt rows) 0 j) []
+actionsSent h rows j = cond (eqb (h .«frame_type») 103) (records (actionAt rows) 0 j) []
 
 map-each : {A B : Type 0} (f g : A → B) → ((x : A) → f x ≡ g x) → (xs : List A) → map f xs ≡ map g xs
 map-each f g same [] = refl
@@ -109,25 +112,17 @@ map-each f g same (x ∷ xs) = ap₂ (λ (y : _) (l : List _). y ∷ l) (same x)
 
 -- A frame of n bytes that was written, of a type that agents send. It is read under a limit no lower, and with any bytes t behind it.
 module _ (h : Head) (limit : ℕ) (buffer bytes : List ℕ) (n : ℕ) (stream : h .stream < 2 ^ 64) (frame : h .frame < 2 ^ 64) (small : limit < 2 ^ 32)
-    (higher : ℕ) (up : limit ≤ higher) (pairRoom room : ℕ) (t : List ℕ) (agent : 101 ≤ h .kind) where
-  sendable : finAlone h ≡ true → h .kind ≤ 103 → Readable true h
-  sendable fin most =
-      record {
-        known = known-high (h .kind) agent most;
-        sent = le-leb 101 (h .kind) agent;
-        fin = fin-alone h fin .0;
-        abort = fin-alone h fin .1;
-        stream = stream;
-        frame = frame;
-      }
+    (higher : ℕ) (up : limit ≤ higher) (pairRoom room : ℕ) (t : List ℕ) (agent : 101 ≤ h .«frame_type») where
+  readable : finAlone h ≡ true → h .«frame_type» ≤ 103 → Sendable (sender side.Agents) h
+  readable fin most = sendable side.Agents h (three-so 101 (h .«frame_type») agent most) (eqb-true (h .flags) 1 fin) stream frame
 
   -- an ACK
-  module _ (rows : List ℕ) (j : ℕ) (is : actionsAnswer h limit buffer rows j ≡ done bytes n) (ack : h .kind ≡ 103) (fits : j ≤ room) where
+  module _ (rows : List ℕ) (j : ℕ) (is : actionsAnswer h limit buffer rows j ≡ done bytes n) (ack : h .«frame_type» ≡ 103) (fits : j ≤ room) where
     abbrev p : List ℕ
     p = actionsBytes buffer rows j
 
-    ack-ok : Readable true h
-    ack-ok = sendable (actions-accepted h limit buffer rows j bytes n is .0) (omega (arith, ack))
+    ack-ok : Sendable (sender side.Agents) h
+    ack-ok = readable (actions-accepted h limit buffer rows j bytes n is .0) (omega (arith, ack))
 
     passed : inner.Sound (actionRefusal buffer rows) j
     passed = actions-accepted h limit buffer rows j bytes n is .2
@@ -151,7 +146,7 @@ module _ (h : Head) (limit : ℕ) (buffer bytes : List ℕ) (n : ℕ) (stream : 
     ack-back =
         record {
           sent = record { pairs = []; actions = map (movedAction (z .start)) (read .0) };
-          accepted = z .reads (record { pairs = []; actions = read .0 }) (rw (eq-eqb (h .kind) 103 ack) (ap ofActions (read .1)));
+          accepted = z .reads (record { pairs = []; actions = read .0 }) (rw (eq-eqb (h .«frame_type») 103 ack) (ap ofActions (read .1)));
           pairs-same = refl;
           actions-same =
               map-map (actionMeaning (bytes ++ t)) (movedAction (z .start)) (read .0)
@@ -160,17 +155,17 @@ module _ (h : Head) (limit : ℕ) (buffer bytes : List ℕ) (n : ℕ) (stream : 
         }
 
   -- AGENT-HELLO and AGENT-DISCONNECT
-  module _ (pairs : List ℕ) (i : ℕ) (is : kvAnswer h limit buffer pairs i ≡ done bytes n) (kv : h .kind < 103) (fits : i ≤ pairRoom) where
+  module _ (pairs : List ℕ) (i : ℕ) (is : kvAnswer h limit buffer pairs i ≡ done bytes n) (kv : h .«frame_type» < 103) (fits : i ≤ pairRoom) where
     fin : finAlone h ≡ true
     fin =
         let allowed = kv-accepted h limit buffer pairs i bytes n is .0 in
         ⊎-elim
         (λ l. both-true (finAlone h) _ (sym (kv-agent-hello h (omega arith)) ∙ allowed) .0)
         (λ l. both-true (finAlone h) _ (sym (kv-agent-disconnect h (omega arith)) ∙ allowed) .0)
-        (lt-or-le (h .kind) 102)
+        (lt-or-le (h .«frame_type») 102)
 
-    kv-ok : Readable true h
-    kv-ok = sendable fin (omega arith)
+    kv-ok : Sendable (sender side.Agents) h
+    kv-ok = readable fin (omega arith)
 
     abbrev rooms : Rooms
     rooms = record { messages = 0; pairs = pairRoom }
@@ -186,18 +181,18 @@ module _ (h : Head) (limit : ℕ) (buffer bytes : List ℕ) (n : ℕ) (stream : 
         let z = kv-placed h limit buffer bytes n stream frame small higher up rooms t pairs i is fits (agents pairRoom room) kv-ok true refl in
         record {
           sent = record { pairs = map (movedPair (z .start)) (r .contents .pairs); actions = [] };
-          accepted = z .reads (record { pairs = r .contents .pairs; actions = [] }) (rw (ne-eqb (h .kind) 103 (λ z. omega (arith, z, kv))) (ap ofPairs (walk.reads-end lies i 0 r)));
+          accepted = z .reads (record { pairs = r .contents .pairs; actions = [] }) (rw (ne-eqb (h .«frame_type») 103 (λ z. omega (arith, z, kv))) (ap ofPairs (walk.reads-end lies i 0 r)));
           pairs-same = map-map (pairMeaning (bytes ++ t)) (movedPair (z .start)) (r .contents .pairs) ∙ r .arguments;
           actions-same = refl;
         }
 
   -- Law: each frame that `write_kv` writes with type 101 or 102, and each that `write_actions` writes, reads back, with room for its records.
-  pub agent-read-back : (pairs : List ℕ) (i : ℕ) (rows : List ℕ) (j : ℕ) → h .kind ≤ 103 → agentAnswer h limit buffer pairs i rows j ≡ done bytes n
+  pub agent-read-back : (pairs : List ℕ) (i : ℕ) (rows : List ℕ) (j : ℕ) → h .«frame_type» ≤ 103 → agentAnswer h limit buffer pairs i rows j ≡ done bytes n
       → i ≤ pairRoom → j ≤ room → SentBack h n buffer (pairsSent h pairs i) (actionsSent h rows j) higher pairRoom room (bytes ++ t)
   agent-read-back pairs i rows j most is few fewer =
-      bool-cases (eqb (h .kind) 103)
-      (λ a. rw a (ack-back rows j (rw a at is) (eqb-true (h .kind) 103 a) fewer))
-      (λ a. rw a (kv-back pairs i (rw a at is) (below (eqb-false (h .kind) 103 a)) few))
+      bool-cases (eqb (h .«frame_type») 103)
+      (λ a. rw a (ack-back rows j (rw a at is) (eqb-true (h .«frame_type») 103 a) fewer))
+      (λ a. rw a (kv-back pairs i (rw a at is) (below (eqb-false (h .«frame_type») 103 a)) few))
     where
-      below : (h .kind ≡ 103 → ⊥) → h .kind < 103
-      below ne = ⊎-elim (λ l. l) (λ l. absurd (ne (omega arith))) (lt-or-le (h .kind) 103)
+      below : (h .«frame_type» ≡ 103 → ⊥) → h .«frame_type» < 103
+      below ne = ⊎-elim (λ l. l) (λ l. absurd (ne (omega arith))) (lt-or-le (h .«frame_type») 103)

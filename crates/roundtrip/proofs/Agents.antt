@@ -16,8 +16,7 @@ use Rattle.answer.proofs.Cases.{bool-cases}
 use Rattle.varint.proofs.Reading.{Bytes}
 use Rattle.frame.specs.declared.Head.{Head}
 use Rattle.frame.specs.Records.{pairWidth, pairAt, actionWidth, actionAt}
-use Rattle.parser.specs.declared.Metadata.{Metadata}
-use Rattle.parser.specs.Frame.{answered}
+use Rattle.frame.specs.Read.{answered}
 use Rattle.agent.specs.declared.AgentRead.{AgentRead}
 use Rattle.agent.specs.declared.AgentRead.the-variants as a
 use Rattle.agent.specs.Frame.{Sent}
@@ -37,7 +36,7 @@ use Rattle.roundtrip.proofs.Sent.{sent-listed, sent-may, ack-rewrites}
 
 -- The bytes lent to it are bytes. It took `used` of them, and left so many records.
 module _ (limit : ℕ) (s : List ℕ) (small : Bytes s) (r : AgentRead) (oldPairs newPairs oldActions newActions : List ℕ)
-    (reads : ReadAgentFrame s limit r oldPairs newPairs oldActions newActions) (m : Metadata) (total rows used : ℕ) (is : r ≡ a.Done m total rows used) where
+    (reads : ReadAgentFrame s limit r oldPairs newPairs oldActions newActions) (m : Head) (total rows used : ℕ) (is : r ≡ a.Done m total rows used) where
   abbrev f : List ℕ
   f = take used s
 
@@ -63,12 +62,12 @@ module _ (limit : ℕ) (s : List ℕ) (small : Bytes s) (r : AgentRead) (oldPair
   bytes i l = rw (getD-take used s i 0 (omega (arith, long))) (small i (omega (arith, long, there)))
 
   abbrev head : Head
-  head = headOf (m .kind) true false (m .stream) (m .frame)
+  head = headOf (m .«frame_type») true false (m .stream) (m .frame)
 
   -- ---- of type 103
 
   -- and is written by `write_actions`
-  module _ (ack : m .kind ≡ 103) (out : Written) (old new : List ℕ)
+  module _ (ack : m .«frame_type» ≡ 103) (out : Written) (old new : List ℕ)
       (writes : WriteActions true false (m .stream) (m .frame) limit f newActions rows out old new) where
     r-ack : Rewrites limit f (headOf 103 true false (m .stream) (m .frame)) (actionsAnswer (headOf 103 true false (m .stream) (m .frame)) limit f newActions rows) rows
         (λ i. wellAction f (actionAt newActions i)) (λ i. plainAction f (actionAt newActions i))
@@ -95,8 +94,8 @@ module _ (limit : ℕ) (s : List ℕ) (small : Bytes s) (r : AgentRead) (oldPair
   -- ---- of type 101 or 102
 
   -- and is written by `write_kv`
-  module _ (kv : m .kind ≡ 103 → ⊥) (out : Written) (old new : List ℕ)
-      (writes : WriteKv true false (m .stream) (m .frame) limit f (m .kind) newPairs total out old new) where
+  module _ (kv : m .«frame_type» ≡ 103 → ⊥) (out : Written) (old new : List ℕ)
+      (writes : WriteKv true false (m .stream) (m .frame) limit f (m .«frame_type») newPairs total out old new) where
     may : kvAllowed head ≡ eqb (m .stream) 0 && eqb (m .frame) 0
     may = sent-may limit s oldPairs newPairs oldActions newActions m c used bytes (found .1) (reads .fills) kv
 

@@ -23,9 +23,11 @@ use Rattle.frame.specs.declared.Action.{Action}
 use Rattle.frame.specs.Head.{frameBytes}
 use Rattle.frame.proofs.Meaning.{pairMeaning, messageMeaning, actionMeaning}
 use Rattle.parser.specs.declared.Rooms.{Rooms}
-use Rattle.parser.specs.declared.Metadata.{Metadata}
+use Rattle.frame.specs.declared.Head.{Head}
 use Rattle.parser.specs.Payload.{Contents}
-use Rattle.parser.specs.Frame.{answered, haproxys, frameRead}
+use Rattle.frame.specs.declared.Side.the-variants as side
+use Rattle.frame.specs.Read.{answered}
+use Rattle.parser.specs.Frame.{haproxys, frameRead}
 use Rattle.parser.proofs.Frames.{length-map}
 use Rattle.agent.specs.Frame.{Sent, agents, agentRead}
 use Rattle.records.specs.Inner.{Laid}
@@ -115,10 +117,10 @@ messages-meant f small at j (m ∷ ms) ps end x h =
 abbrev payloadForm : Bool → List (List ℕ × ℕ × ℕ) → List (List ℕ × Meaning) → List ℕ
 payloadForm kv ms ps = cond kv (joined pairForm ps) (listForm ms ps)
 
-abbrev frameForm : Metadata → List (List ℕ × ℕ × ℕ) → List (List ℕ × Meaning) → List ℕ
-frameForm m ms ps = frameBytes (headOf (m .kind) true false (m .stream) (m .frame)) (payloadForm (not (eqb (m .kind) 3)) ms ps)
+abbrev frameForm : Head → List (List ℕ × ℕ × ℕ) → List (List ℕ × Meaning) → List ℕ
+frameForm m ms ps = frameBytes (headOf (m .«frame_type») true false (m .stream) (m .frame)) (payloadForm (not (eqb (m .«frame_type») 3)) ms ps)
 
-module _ (limit : ℕ) (rooms : Rooms) (s : List ℕ) (m : Metadata) (c : Contents) (used : ℕ) (small : Bytes (take used s))
+module _ (limit : ℕ) (rooms : Rooms) (s : List ℕ) (m : Head) (c : Contents) (used : ℕ) (small : Bytes (take used s))
     (e : frameRead limit rooms s ≡ answered (done (m, c) used)) (plain : Each (Plain (take used s)) (c .pairs)) where
   abbrev f : List ℕ
   f = take used s
@@ -132,32 +134,32 @@ module _ (limit : ℕ) (rooms : Rooms) (s : List ℕ) (m : Metadata) (c : Conten
   abbrev ps : List (List ℕ × Meaning)
   ps = map (pairMeaning f) (c .pairs)
 
-  payload-meant : drop (x .start) f ≡ payloadForm (not (eqb (m .kind) 3)) ms ps ++ drop (length f) f
+  payload-meant : drop (x .start) f ≡ payloadForm (not (eqb (m .«frame_type») 3)) ms ps ++ drop (length f) f
   payload-meant =
-      bool-cases (eqb (m .kind) 3)
-      (λ t. rw t (messages-meant f small (x .start) 0 (c .messages) (c .pairs) (length f) (frame-laid rooms limit s m c used x (eqb-true (m .kind) 3 t)) plain))
+      bool-cases (eqb (m .«frame_type») 3)
+      (λ t. rw t (messages-meant f small (x .start) 0 (c .messages) (c .pairs) (length f) (frame-laid rooms limit s m c used x (eqb-true (m .«frame_type») 3 t)) plain))
       (λ t.
       rw t
-      (run-form f small (x .start) (c .pairs) (length f) (frame-run rooms limit s m c used x (eqb-false (m .kind) 3 t) .0) plain
+      (run-form f small (x .start) (c .pairs) (length f) (frame-run rooms limit s m c used x (eqb-false (m .«frame_type») 3 t) .0) plain
       ∙ ap (λ (l : List ℕ). l ++ drop (length f) f) (pairs-meant f (c .pairs))))
 
   -- a frame whose values are plain is the bytes that go by its type, its ids and its meanings
   frame-meant : f ≡ frameForm m ms ps
-  frame-meant = sym (frame-same f _ (x .start) (x .form) (payloadForm (not (eqb (m .kind) 3)) ms ps) payload-meant)
+  frame-meant = sym (frame-same f _ (x .start) (x .form) (payloadForm (not (eqb (m .«frame_type») 3)) ms ps) payload-meant)
 
 -- Law: so two accepted frames whose values are plain, of one type and with the same ids and the same meanings, are the same bytes.
-pub frames-apart : (limit other : ℕ) (rooms others : Rooms) (s t : List ℕ) (m k : Metadata) (c d : Contents) (used taken : ℕ)
+pub frames-apart : (limit other : ℕ) (rooms others : Rooms) (s t : List ℕ) (m k : Head) (c d : Contents) (used taken : ℕ)
     → Bytes (take used s) → Bytes (take taken t)
     → frameRead limit rooms s ≡ answered (done (m, c) used) → frameRead other others t ≡ answered (done (k, d) taken)
     → Each (Plain (take used s)) (c .pairs) → Each (Plain (take taken t)) (d .pairs)
-    → m .kind ≡ k .kind → m .stream ≡ k .stream → m .frame ≡ k .frame
+    → m .«frame_type» ≡ k .«frame_type» → m .stream ≡ k .stream → m .frame ≡ k .frame
     → map (messageMeaning (take used s)) (c .messages) ≡ map (messageMeaning (take taken t)) (d .messages)
     → map (pairMeaning (take used s)) (c .pairs) ≡ map (pairMeaning (take taken t)) (d .pairs)
     → take used s ≡ take taken t
-frames-apart limit other rooms others s t m k c d used taken small smalls e g plain plains kind stream frame messages pairs =
+frames-apart limit other rooms others s t m k c d used taken small smalls e g plain plains type stream frame messages pairs =
     frame-meant limit rooms s m c used small e plain
     ∙ ap₂ (frameForm m) messages pairs
-    ∙ rw (kind, stream, frame) refl
+    ∙ rw (type, stream, frame) refl
     ∙ sym (frame-meant other others t k d taken smalls g plains)
 
 -- ---- an agent's frame goes by them
@@ -166,20 +168,20 @@ frames-apart limit other rooms others s t m k c d used taken small smalls e g pl
 abbrev actionForm : ℕ × ℕ × (List ℕ × Meaning) → List ℕ
 actionForm x = cond (eqb (x .0) 1) (1 ∷ 3 ∷ x .1 ∷ pairForm (x .2)) (2 ∷ 2 ∷ x .1 ∷ stringBytes (x .2 .0))
 
-abbrev sentForm : Metadata → List (List ℕ × Meaning) → List (ℕ × ℕ × (List ℕ × Meaning)) → List ℕ
-sentForm m ps xs = frameBytes (headOf (m .kind) true false (m .stream) (m .frame)) (cond (eqb (m .kind) 103) (joined actionForm xs) (joined pairForm ps))
+abbrev sentForm : Head → List (List ℕ × Meaning) → List (ℕ × ℕ × (List ℕ × Meaning)) → List ℕ
+sentForm m ps xs = frameBytes (headOf (m .«frame_type») true false (m .stream) (m .frame)) (cond (eqb (m .«frame_type») 103) (joined actionForm xs) (joined pairForm ps))
 
 action-meant : (f : List ℕ) (x : Action) → actionBytes f x ≡ actionForm (actionMeaning f x)
 unfolding actionBytes
 action-meant f x = bool-cases (eqb (x .verb) 1) (λ t. rw t (ap (λ (l : List ℕ). 1 ∷ 3 ∷ x .scope ∷ l) (pair-meant f (x .pair)))) (λ t. rw t refl)
 
-module _ (limit pairs room : ℕ) (s : List ℕ) (m : Metadata) (c : Sent) (used : ℕ) (small : Bytes (take used s))
+module _ (limit pairs room : ℕ) (s : List ℕ) (m : Head) (c : Sent) (used : ℕ) (small : Bytes (take used s))
     (e : agentRead limit pairs room s ≡ answered (done (m, c) used)) (plain : Each (Plain (take used s)) (c .pairs)) (acts : Each (PlainOf (take used s)) (c .actions)) where
   abbrev g : List ℕ
   g = take used s
 
   y : Accepted (agents pairs room) limit s m c used
-  y = entry-accepted small (agent-cut limit pairs room s m c used e)
+  y = entry-accepted side.Agents refl small (agent-cut limit pairs room s m c used e)
 
   abbrev qs : List (List ℕ × Meaning)
   qs = map (pairMeaning g) (c .pairs)
@@ -187,33 +189,33 @@ module _ (limit pairs room : ℕ) (s : List ℕ) (m : Metadata) (c : Sent) (used
   abbrev xs : List (ℕ × ℕ × (List ℕ × Meaning))
   xs = map (actionMeaning g) (c .actions)
 
-  sent-payload : drop (y .start) g ≡ cond (eqb (m .kind) 103) (joined actionForm xs) (joined pairForm qs) ++ drop (length g) g
+  sent-payload : drop (y .start) g ≡ cond (eqb (m .«frame_type») 103) (joined actionForm xs) (joined pairForm qs) ++ drop (length g) g
   sent-payload =
-      bool-cases (eqb (m .kind) 103)
+      bool-cases (eqb (m .«frame_type») 103)
       (λ t.
       rw t
-      (actions-form g small (y .start) (c .actions) (length g) (sent-actions pairs room limit s m c used y (eqb-true (m .kind) 103 t)) acts
+      (actions-form g small (y .start) (c .actions) (length g) (sent-actions pairs room limit s m c used y (eqb-true (m .«frame_type») 103 t)) acts
       ∙ ap (λ (l : List ℕ). l ++ drop (length g) g) (joined-as (actionBytes g) actionForm (actionMeaning g) (action-meant g) (c .actions))))
       (λ t.
       rw t
-      (run-form g small (y .start) (c .pairs) (length g) (sent-run pairs room limit s m c used y (eqb-false (m .kind) 103 t) .0) plain
+      (run-form g small (y .start) (c .pairs) (length g) (sent-run pairs room limit s m c used y (eqb-false (m .«frame_type») 103 t) .0) plain
       ∙ ap (λ (l : List ℕ). l ++ drop (length g) g) (pairs-meant g (c .pairs))))
 
   sent-meant : g ≡ sentForm m qs xs
-  sent-meant = sym (frame-same g _ (y .start) (y .form) (cond (eqb (m .kind) 103) (joined actionForm xs) (joined pairForm qs)) sent-payload)
+  sent-meant = sym (frame-same g _ (y .start) (y .form) (cond (eqb (m .«frame_type») 103) (joined actionForm xs) (joined pairForm qs)) sent-payload)
 
 -- Law: so two accepted frames of agents whose values are plain, of one type and with the same ids and the same meanings, are the same bytes.
-pub agents-apart : (limit pairs room other others rooms : ℕ) (s t : List ℕ) (m k : Metadata) (c d : Sent) (used taken : ℕ)
+pub agents-apart : (limit pairs room other others rooms : ℕ) (s t : List ℕ) (m k : Head) (c d : Sent) (used taken : ℕ)
     → Bytes (take used s) → Bytes (take taken t)
     → agentRead limit pairs room s ≡ answered (done (m, c) used) → agentRead other others rooms t ≡ answered (done (k, d) taken)
     → Each (Plain (take used s)) (c .pairs) → Each (Plain (take taken t)) (d .pairs)
     → Each (PlainOf (take used s)) (c .actions) → Each (PlainOf (take taken t)) (d .actions)
-    → m .kind ≡ k .kind → m .stream ≡ k .stream → m .frame ≡ k .frame
+    → m .«frame_type» ≡ k .«frame_type» → m .stream ≡ k .stream → m .frame ≡ k .frame
     → map (pairMeaning (take used s)) (c .pairs) ≡ map (pairMeaning (take taken t)) (d .pairs)
     → map (actionMeaning (take used s)) (c .actions) ≡ map (actionMeaning (take taken t)) (d .actions)
     → take used s ≡ take taken t
-agents-apart limit pairs room other others rooms s t m k c d used taken small smalls e g plain plains acts actss kind stream frame ps xs =
+agents-apart limit pairs room other others rooms s t m k c d used taken small smalls e g plain plains acts actss type stream frame ps xs =
     sent-meant limit pairs room s m c used small e plain acts
     ∙ ap₂ (sentForm m) ps xs
-    ∙ rw (kind, stream, frame) refl
+    ∙ rw (type, stream, frame) refl
     ∙ sym (sent-meant other others rooms t k d taken smalls g plains actss)

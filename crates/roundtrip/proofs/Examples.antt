@@ -21,7 +21,8 @@ use Rattle.frame.specs.Records.{messageAt, messageNumbers, pairAt, pairNumbers,
 use Rattle.frame.proofs.Meaning.{pairMeaning}
 use Rattle.parser.specs.Pair.{pair}
 use Rattle.parser.specs.Payload.{onePair, oneMessage, toEnd, payload}
-use Rattle.parser.specs.Frame.{answerOf, lastId, ids, metadata, whole, front as frontOf, frameRead}
+use Rattle.frame.specs.Read.{answerOf, cut, head}
+use Rattle.parser.specs.Frame.{oneFrame, atFront as frontOf, frameRead}
 use Rattle.parser.specs.declared.Rooms.{Rooms}
 use Rattle.agent.specs.Action.{variable, action, oneAction, toEnd as actionsToEnd, actions}
 use Rattle.agent.specs.Frame.{agentRead}
@@ -168,10 +169,10 @@ abbrev again : List ℕ → Answer (List ℕ)
 again f =
     next (answerOf (frameRead 64 (record { messages = 4; pairs = 4 }) f))
     (λ x used.
-    let h = headOf (x .0 .kind) true false (x .0 .stream) (x .0 .frame) in
+    let h = headOf (x .0 .«frame_type») true false (x .0 .stream) (x .0 .frame) in
     let pairs = joined pairNumbers (x .1 .pairs) in
     let messages = joined messageNumbers (x .1 .messages) in
-    cond (eqb (x .0 .kind) 3)
+    cond (eqb (x .0 .«frame_type») 3)
     (notifyAnswer h 64 f messages (length (x .1 .messages)) pairs (length (x .1 .pairs)))
     (kvAnswer h 64 f pairs (length (x .1 .pairs))))
 
@@ -184,10 +185,10 @@ abbrev sentAgain : List ℕ → Answer (List ℕ)
 sentAgain f =
     next (answerOf (agentRead 64 4 4 f))
     (λ x used.
-    let h = headOf (x .0 .kind) true false (x .0 .stream) (x .0 .frame) in
+    let h = headOf (x .0 .«frame_type») true false (x .0 .stream) (x .0 .frame) in
     let pairs = joined pairNumbers (x .1 .pairs) in
     let rows = joined actionNumbers (x .1 .actions) in
-    cond (eqb (x .0 .kind) 103)
+    cond (eqb (x .0 .«frame_type») 103)
     (actionsAnswer h 64 f rows (length (x .1 .actions)))
     (kvAnswer h 64 f pairs (length (x .1 .pairs))))
 
@@ -206,8 +207,8 @@ pub examples : (again pairs-frame ≡ written pairs-frame) × (again messages-fr
     × (again (one 10 (0x31 ∷ [])) ≡ written (one 10 (0x11 ∷ [])))
     × (again (one 15 (0x03 ∷ 0xF7 ∷ 0xF1 ∷ 0xFE ∷ 0xFE ∷ 0x7E ∷ [])) ≡ written (one 11 (0x03 ∷ 0x07 ∷ [])))
 unfolding more number groups numberBytes rows follow inRange front rowFor step bySteps isUtf8 lossy same sameText string typed shape signExtended inOrder some
-    firstRefused records joined stringBytes valueBytes fourBytes fourNumber headBytes frameBytes messageAt pairAt pair onePair oneMessage toEnd payload lastId ids
-    metadata whole frontOf frameRead pairBytes pairRefusal newKey kvRefusal nameBytes messageBytes messageRefusal limited kvAllowed kvAnswer notifyAnswer
+    firstRefused records joined stringBytes valueBytes fourBytes fourNumber headBytes frameBytes messageAt pairAt pair onePair oneMessage toEnd payload head cut
+    oneFrame frontOf frameRead pairBytes pairRefusal newKey kvRefusal nameBytes messageBytes messageRefusal limited kvAllowed kvAnswer notifyAnswer
 examples = (refl, refl, refl, refl, refl)
 
 -- The ACK comes out as it went in, and so does the AGENT-DISCONNECT with ids 0; with another it is 14. An unset's name that is FF is 15, of action 0, and of a boolean with the
@@ -217,5 +218,5 @@ pub sent-examples : (sentAgain ack-frame ≡ written ack-frame) × (sentAgain (l
     × (sentAgain (ack 13 (0x01 ∷ 0x03 ∷ 0x00 ∷ 0x01 ∷ 0x61 ∷ 0x31 ∷ [])) ≡ written (ack 13 (0x01 ∷ 0x03 ∷ 0x00 ∷ 0x01 ∷ 0x61 ∷ 0x11 ∷ [])))
 unfolding more number groups numberBytes rows follow inRange front rowFor step bySteps isUtf8 lossy same sameText string typed shape signExtended inOrder some
     firstRefused records joined stringBytes valueBytes fourBytes fourNumber headBytes frameBytes pairAt actionAt pair onePair toEnd payload variable action oneAction
-    actionsToEnd actions lastId ids metadata whole frontOf pairBytes pairRefusal newKey kvRefusal actionBytes actionWritable actionRefusal limited kvAllowed kvAnswer actionsAnswer
+    actionsToEnd actions head cut oneFrame frontOf pairBytes pairRefusal newKey kvRefusal actionBytes actionWritable actionRefusal limited kvAllowed kvAnswer actionsAnswer
 sent-examples = (refl, refl, refl, refl, refl)

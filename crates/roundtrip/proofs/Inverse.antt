@@ -14,11 +14,11 @@ use Rattle.answer.specs.Answer.{done}
 use Rattle.varint.proofs.Reading.{Bytes}
 use Rattle.frame.specs.declared.Head.{Head}
 use Rattle.frame.specs.Records.{messageAt, pairAt}
-use Rattle.parser.specs.declared.Metadata.{Metadata}
 use Rattle.parser.specs.declared.FrameRead.{FrameRead}
 use Rattle.parser.specs.declared.FrameRead.the-variants as v
 use Rattle.parser.specs.Payload.{Contents}
-use Rattle.parser.specs.Frame.{answered, frameRead}
+use Rattle.frame.specs.Read.{answered}
+use Rattle.parser.specs.Frame.{frameRead}
 use Rattle.parser.specs.Promise.{Counts, countsOf, frameSaid, roomsOf, ReadFrame}
 use Rattle.parser.proofs.Entries.{said-done}
 use Rattle.parser.proofs.Accepted.{frame-cut}
@@ -34,7 +34,7 @@ use Rattle.roundtrip.proofs.Again.{kv-listed, kv-may, notify-refuses-na
 
 -- The bytes lent to it are bytes. It took `used` of them, and left so many records.
 module _ (limit : ℕ) (s : List ℕ) (small : Bytes s) (r : FrameRead) (oldMessages newMessages oldPairs newPairs : List ℕ)
-    (reads : ReadFrame s limit r oldMessages newMessages oldPairs newPairs) (m : Metadata) (rows total used : ℕ) (is : r ≡ v.Done m rows total used) where
+    (reads : ReadFrame s limit r oldMessages newMessages oldPairs newPairs) (m : Head) (rows total used : ℕ) (is : r ≡ v.Done m rows total used) where
   abbrev f : List ℕ
   f = take used s
 
@@ -60,13 +60,13 @@ module _ (limit : ℕ) (s : List ℕ) (small : Bytes s) (r : FrameRead) (oldMess
   long = frame-accepted limit (roomsOf oldMessages oldPairs) s m c used bytes (found .1) .long
 
   abbrev head : Head
-  head = headOf (m .kind) true false (m .stream) (m .frame)
+  head = headOf (m .«frame_type») true false (m .stream) (m .frame)
 
   -- ---- of type 1 or 2
 
   -- and is written by `write_kv`
-  module _ (kv : m .kind ≡ 3 → ⊥) (out : Written) (old new : List ℕ)
-      (writes : WriteKv true false (m .stream) (m .frame) limit f (m .kind) newPairs total out old new) where
+  module _ (kv : m .«frame_type» ≡ 3 → ⊥) (out : Written) (old new : List ℕ)
+      (writes : WriteKv true false (m .stream) (m .frame) limit f (m .«frame_type») newPairs total out old new) where
     r-kv : Rewrites limit f head (kvAnswer head limit f newPairs total) total (λ i. wellPair f (pairAt newPairs i)) (λ i. plainPair f (pairAt newPairs i))
     r-kv =
         rw pair-count at
@@ -93,7 +93,7 @@ module _ (limit : ℕ) (s : List ℕ) (small : Bytes s) (r : FrameRead) (oldMess
   -- ---- of type 3
 
   -- and is written by `write_notify`
-  module _ (notify : m .kind ≡ 3) (out : Written) (old new : List ℕ)
+  module _ (notify : m .«frame_type» ≡ 3) (out : Written) (old new : List ℕ)
       (writes : WriteNotify true false (m .stream) (m .frame) limit f newMessages rows newPairs total out old new) where
     module _ (ns : WellNames f newMessages rows) where
       r-notify : Rewrites limit f (headOf 3 true false (m .stream) (m .frame)) (notifyAnswer (headOf 3 true false (m .stream) (m .frame)) limit f newMessages rows newPairs total) total

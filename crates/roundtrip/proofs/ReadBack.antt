@@ -8,11 +8,11 @@ use native.Mathlib.Omega.{arith}
 use lib.Dec.{eqb}
 use lib.ListN.{length, drop, getD, length-drop, length-map, List·getD-map}
 use lib.Seq.{drop-drop, drop-append-le}
-use borrow.Author.Tests.{not-true, lt-ltb, eq-eqb, ne-eqb, eqb-true, eqb-false}
+use borrow.Author.Tests.{eq-eqb, ne-eqb, eqb-true, eqb-false}
 use Rattle.answer.specs.Answer.{Answer, done, next, behind}
 use Rattle.answer.specs.Table.{records, some}
 use Rattle.answer.specs.Inner as inner
-use Rattle.answer.proofs.Cases.{bool-cases, true-false, both-true}
+use Rattle.answer.proofs.Cases.{bool-cases, true-false}
 use Rattle.answer.proofs.Records.{records-none, records-length, record-at}
 use Rattle.frame.specs.declared.Head.{Head}
 use Rattle.frame.specs.declared.Pair.{Pair}
@@ -22,8 +22,12 @@ use Rattle.frame.proofs.Meaning.{pairMeaning, messageMeaning}
 use Rattle.parser.specs.declared.Rooms.{Rooms}
 use Rattle.parser.specs.Pair.{movedPair}
 use Rattle.parser.specs.Payload.{Contents, movedMessage, movedContents}
-use Rattle.parser.specs.Frame.{Entry, haproxys, answered, front, frameRead}
-use Rattle.parser.proofs.Back.{metadataOf, Readable, known-low, frame-back}
+use Rattle.frame.specs.declared.Side.the-variants as side
+use Rattle.frame.specs.Read.{answered, sender}
+use Rattle.frame.proofs.Heads.{three-so}
+use Rattle.frame.proofs.Back.{Sendable, sendable}
+use Rattle.parser.specs.Frame.{Entry, haproxys, atFront, frameRead}
+use Rattle.parser.proofs.Back.{frame-back}
 use Rattle.writer.specs.Pair.{pairRefusal, kvRefusal}
 use Rattle.writer.specs.Message.{runStart, messageRefusal}
 use Rattle.writer.specs.Frame.{finAlone, kvAllowed, pairsBytes, kvAnswer, messagesBytes, notifyAnswer}
@@ -36,7 +40,7 @@ use Rattle.roundtrip.proofs.Walked as walk
 -- These bytes are accepted as a frame of n bytes with this head, and its messages and pairs mean what those of a buffer mean, in the same order.
 pub record ReadBack (h : Head) (n : ℕ) (buffer : List ℕ) (messages : List Message) (pairs : List Pair) (limit : ℕ) (rooms : Rooms) (input : List ℕ) : Type 0 where
   pub contents : Contents
-  pub accepted : frameRead limit rooms input ≡ answered (done (metadataOf h, contents) n)
+  pub accepted : frameRead limit rooms input ≡ answered (done (h, contents) n)
   pub messages-same : map (messageMeaning input) (contents .messages) ≡ map (messageMeaning buffer) messages
   pub pairs-same : map (pairMeaning input) (contents .pairs) ≡ map (pairMeaning buffer) pairs
 
@@ -46,10 +50,10 @@ pub record Placed {A : Type 0} (x : Entry A) (h : Head) (p : List ℕ) (n limit 
   pub start : ℕ
   pub stands : (i : ℕ) → i ≤ length p → drop (start + i) input ≡ drop i p ++ t
   pub short : length p < 2 ^ 64
-  pub reads : (held : A) → x .payloadOf (h .kind) p ≡ done held (length p) → front x limit input ≡ answered (done (metadataOf h, x .moved start held) n)
+  pub reads : (held : A) → x .payloadOf (h .«frame_type») p ≡ done held (length p) → atFront x limit input ≡ answered (done (h, x .moved start held) n)
 
 -- Law: a frame that was written is so, by any entry that reads it.
-pub placed : {A : Type 0} (x : Entry A) (h : Head) (limit : ℕ) (p bytes : List ℕ) (n : ℕ) → Wrote h limit p bytes n → limit < 2 ^ 32 → Readable (x .agents) h
+pub placed : {A : Type 0} (x : Entry A) (h : Head) (limit : ℕ) (p bytes : List ℕ) (n : ℕ) → Wrote h limit p bytes n → limit < 2 ^ 32 → Sendable (x .side) h
     → (higher : ℕ) → limit ≤ higher → (t : List ℕ) → Placed x h p n higher (bytes ++ t) t
 placed {A} x h limit p bytes n w small ok higher up t =
     let f = w .parts small in
@@ -62,8 +66,8 @@ placed {A} x h limit p bytes n w small ok higher up t =
       short = omega (arith, b .long, f .fits, length-drop 4 bytes);
       reads = λ held e.
           b .reads
-          ∙ ap (λ (a : Answer A). answered (next (behind (x .moved) (b .start) a) (λ (c : A) (end : ℕ). done (metadataOf h, c) end))) e
-          ∙ ap (λ (m : ℕ). answered (done (metadataOf h, x .moved (b .start) held) m)) (b .long ∙ sym (w .count));
+          ∙ ap (λ (a : Answer A). answered (next (behind (x .moved) (b .start) a) (λ (c : A) (end : ℕ). done (h, c) end))) e
+          ∙ ap (λ (m : ℕ). answered (done (h, x .moved (b .start) held) m)) (b .long ∙ sym (w .count));
     }
 
 -- its payload, as a KV list or as messages, with rooms
@@ -86,13 +90,13 @@ walked {p = p} {input = input} {t = t} z kv rooms buffer messages pairs =
 
 -- Where what it holds reads back, so does the frame.
 read-back : (buffer messages pairs : List ℕ) {h : Head} {p : List ℕ} {n limit : ℕ} {input t : List ℕ} (rooms : Rooms) (z : Placed (haproxys rooms) h p n limit input t)
-    → (i j : ℕ) → walk.Reads (walked z (not (eqb (h .kind) 3)) rooms buffer messages pairs) i j 0 []
+    → (i j : ℕ) → walk.Reads (walked z (not (eqb (h .«frame_type») 3)) rooms buffer messages pairs) i j 0 []
     → ReadBack h n buffer (records (messageAt messages) 0 j) (records (pairAt pairs) 0 i) limit rooms input
 unfolding frameRead
 read-back buffer messages pairs {h = h} {input = input} rooms z i j r =
     record {
       contents = movedContents (z .start) (r .contents);
-      accepted = z .reads (r .contents) (walk.reads-end (walked z (not (eqb (h .kind) 3)) rooms buffer messages pairs) i j r);
+      accepted = z .reads (r .contents) (walk.reads-end (walked z (not (eqb (h .«frame_type») 3)) rooms buffer messages pairs) i j r);
       messages-same = map-map (messageMeaning input) (movedMessage (z .start)) (r .contents .messages) ∙ r .names;
       pairs-same = map-map (pairMeaning input) (movedPair (z .start)) (r .contents .pairs) ∙ r .arguments;
     }
@@ -130,31 +134,19 @@ record-same f g at d n xs e i h =
 
 -- ---- KV frames
 
--- what finAlone says
-pub fin-alone : (h : Head) → finAlone h ≡ true → (h .fin ≡ true) × (h .abort ≡ false)
-fin-alone h e = let b = both-true (h .fin) (not (h .abort)) e in (b .0, not-true (h .abort) (b .1))
-
 -- the types of KV frames below 101 are 1 and 2
-kv-kinds : (h : Head) → kvAllowed h ≡ true → h .kind < 101 → (1 ≤ h .kind) × (h .kind ≤ 2)
-kv-kinds h e l =
-    bool-cases (eqb (h .kind) 1) (λ t. let k = eqb-true (h .kind) 1 t in omega arith)
-    (λ a. bool-cases (eqb (h .kind) 2) (λ t. let k = eqb-true (h .kind) 2 t in omega arith)
-    (λ b. true-false e (kv-other h (eqb-false (h .kind) 1 a) (eqb-false (h .kind) 2 b) (λ z. omega arith) (λ z. omega arith))))
+kv-types : (h : Head) → kvAllowed h ≡ true → h .«frame_type» < 101 → (1 ≤ h .«frame_type») × (h .«frame_type» ≤ 2)
+kv-types h e l =
+    bool-cases (eqb (h .«frame_type») 1) (λ t. let k = eqb-true (h .«frame_type») 1 t in omega arith)
+    (λ a. bool-cases (eqb (h .«frame_type») 2) (λ t. let k = eqb-true (h .«frame_type») 2 t in omega arith)
+    (λ b. true-false e (kv-other h (eqb-false (h .«frame_type») 1 a) (eqb-false (h .«frame_type») 2 b) (λ z. omega arith) (λ z. omega arith))))
 
 -- A frame of n bytes that was written. Its ids are numbers of 64 bits and its limit is one of 32, as the calls' parameters are. It is read under a limit
 -- no lower, and with any bytes t behind it.
 module _ (h : Head) (limit : ℕ) (buffer bytes : List ℕ) (n : ℕ) (stream : h .stream < 2 ^ 64) (frame : h .frame < 2 ^ 64) (small : limit < 2 ^ 32)
     (higher : ℕ) (up : limit ≤ higher) (rooms : Rooms) (t : List ℕ) where
-  readable : finAlone h ≡ true → 1 ≤ h .kind → h .kind ≤ 3 → Readable false h
-  readable fin least most =
-      record {
-        known = known-low (h .kind) least most;
-        sent = lt-ltb (h .kind) 101 (omega arith);
-        fin = fin-alone h fin .0;
-        abort = fin-alone h fin .1;
-        stream = stream;
-        frame = frame;
-      }
+  readable : finAlone h ≡ true → 1 ≤ h .«frame_type» → h .«frame_type» ≤ 3 → Sendable (sender side.HAProxy) h
+  readable fin least most = sendable side.HAProxy h (three-so 1 (h .«frame_type») least most) (eqb-true (h .flags) 1 fin) stream frame
 
   module _ (pairs : List ℕ) (count : ℕ) (is : kvAnswer h limit buffer pairs count ≡ done bytes n) (room : count ≤ rooms .pairs) where
     abbrev pub list : List ℕ
@@ -173,7 +165,7 @@ module _ (h : Head) (limit : ℕ) (buffer bytes : List ℕ) (n : ℕ) (stream : 
         (λ e. e)
 
     -- as a KV list, by any entry that reads the frame
-    module _ {A : Type 0} (x : Entry A) (ok : Readable (x .agents) h) (kv : Bool) (is-kv : kv ≡ true) where
+    module _ {A : Type 0} (x : Entry A) (ok : Sendable (x .side) h) (kv : Bool) (is-kv : kv ≡ true) where
       abbrev pub kv-placed : Placed x h list n higher (bytes ++ t) t
       kv-placed = placed x h limit list bytes n wrote small ok higher up t
 
@@ -194,32 +186,32 @@ module _ (h : Head) (limit : ℕ) (buffer bytes : List ℕ) (n : ℕ) (stream : 
           (walk.reads-as kv-walked refl refl refl (sym (append-nil list)) (walk.reads-none kv-walked)))
 
     -- Law: each KV frame of type 1 or 2 with FIN alone that `write_kv` writes reads back, with room for its pairs.
-    pub kv-read-back : h .kind < 101 → finAlone h ≡ true → ReadBack h n buffer [] (records (pairAt pairs) 0 count) higher rooms (bytes ++ t)
+    pub kv-read-back : h .«frame_type» < 101 → finAlone h ≡ true → ReadBack h n buffer [] (records (pairAt pairs) 0 count) higher rooms (bytes ++ t)
     kv-read-back below fin =
-        let kinds = kv-kinds h (kv-accepted h limit buffer pairs count bytes n is .0) below in
-        let ok = readable fin (kinds .0) (omega (arith, kinds .1)) in
-        let kv : not (eqb (h .kind) 3) ≡ true = rw (ne-eqb (h .kind) 3 (λ z. omega (arith, kinds .1))) in
+        let types = kv-types h (kv-accepted h limit buffer pairs count bytes n is .0) below in
+        let ok = readable fin (types .0) (omega (arith, types .1)) in
+        let kv : not (eqb (h .«frame_type») 3) ≡ true = rw (ne-eqb (h .«frame_type») 3 (λ z. omega (arith, types .1))) in
         rw (sym (records-none (messageAt []) 0))
-        (read-back buffer [] pairs rooms (kv-placed (haproxys rooms) ok (not (eqb (h .kind) 3)) kv) count 0 (all-read (haproxys rooms) ok (not (eqb (h .kind) 3)) kv))
+        (read-back buffer [] pairs rooms (kv-placed (haproxys rooms) ok (not (eqb (h .«frame_type») 3)) kv) count 0 (all-read (haproxys rooms) ok (not (eqb (h .«frame_type») 3)) kv))
 
   -- ---- NOTIFY frames
 
   module _ (messages : List ℕ) (count : ℕ) (pairs : List ℕ) (total : ℕ) (is : notifyAnswer h limit buffer messages count pairs total ≡ done bytes n)
-      (notify : h .kind ≡ 3) (rows : count ≤ rooms .messages) (room : total ≤ rooms .pairs) where
+      (notify : h .«frame_type» ≡ 3) (rows : count ≤ rooms .messages) (room : total ≤ rooms .pairs) where
     abbrev list-of-messages : List ℕ
     list-of-messages = messagesBytes buffer messages count pairs
 
     accepted-so : (finAlone h ≡ true) × (not (eqb count 0) || eqb total 0 ≡ true)
     accepted-so = let o = notify-accepted h limit buffer messages count pairs total bytes n is in (o .0, o .3)
 
-    notify-ok : Readable false h
+    notify-ok : Sendable (sender side.HAProxy) h
     notify-ok = readable (accepted-so .0) (omega (arith, notify)) (omega (arith, notify))
 
     notified : Placed (haproxys rooms) h list-of-messages n higher (bytes ++ t) t
     notified = placed (haproxys rooms) h limit list-of-messages bytes n (notify-wrote h limit buffer messages count pairs total bytes n is) small notify-ok higher up t
 
     abbrev lies : walk.Payload
-    lies = walked notified (not (eqb (h .kind) 3)) rooms buffer messages pairs
+    lies = walked notified (not (eqb (h .«frame_type») 3)) rooms buffer messages pairs
 
     messages-passed : inner.Sound (messageRefusal buffer total messages count) count
     messages-passed = notify-passed-records h limit buffer messages count pairs total bytes n is .0
@@ -227,8 +219,8 @@ module _ (h : Head) (limit : ℕ) (buffer bytes : List ℕ) (n : ℕ) (stream : 
     pairs-passed : inner.Sound (pairRefusal buffer pairs) total
     pairs-passed = notify-passed-records h limit buffer messages count pairs total bytes n is .1
 
-    no-list : not (eqb (h .kind) 3) ≡ false
-    no-list = rw (eq-eqb (h .kind) 3 notify)
+    no-list : not (eqb (h .«frame_type») 3) ≡ false
+    no-list = rw (eq-eqb (h .«frame_type») 3 notify)
 
     sound-arguments : (i : ℕ) → i < total → walk.Sound lies i
     sound-arguments i l =

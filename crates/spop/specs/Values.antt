@@ -6,7 +6,7 @@ use Rattle.answer.specs.Answer.{Answer, done, refused}
 use Rattle.types.specs.Value.{Record, value}
 use Rattle.frame.specs.declared.Pair.{Pair}
 use Rattle.frame.specs.Records.{pairNumbers}
-use Rattle.parser.specs.declared.Metadata.{Metadata}
+use Rattle.frame.specs.declared.Head.{Head}
 use Rattle.parser.specs.Payload.{Contents}
 use Rattle.parser.specs.Promise.{countsOf}
 use Rattle.agent.specs.Frame.{Sent}
@@ -25,16 +25,16 @@ pairNumbersOf (done p n) before = pairNumbers p
 pairNumbersOf (refused number place) before = before
 
 -- type, flags, stream id, frame id, and how many records it holds of two sorts
-abbrev pub headsBy : {A : Type 0} → (A → ℕ × ℕ) → Answer (Metadata × A) → List ℕ → List ℕ
-headsBy counts (done x n) before = x .0 .kind ∷ x .0 .flags ∷ x .0 .stream ∷ x .0 .frame ∷ counts (x .1) .0 ∷ counts (x .1) .1 ∷ []
+abbrev pub headsBy : {A : Type 0} → (A → ℕ × ℕ) → Answer (Head × A) → List ℕ → List ℕ
+headsBy counts (done x n) before = x .0 .«frame_type» ∷ x .0 .flags ∷ x .0 .stream ∷ x .0 .frame ∷ counts (x .1) .0 ∷ counts (x .1) .1 ∷ []
 headsBy counts (refused number place) before = before
 
 -- messages and pairs; pairs and actions
-abbrev pub headNumbersOf : Answer (Metadata × Contents) → List ℕ → List ℕ
+abbrev pub headNumbersOf : Answer (Head × Contents) → List ℕ → List ℕ
 headNumbersOf a before = headsBy countsOf a before
 
 abbrev pub sentCounts : Sent → ℕ × ℕ
 sentCounts x = (length (x .pairs), length (x .actions))
 
-abbrev pub agentNumbersOf : Answer (Metadata × Sent) → List ℕ → List ℕ
+abbrev pub agentNumbersOf : Answer (Head × Sent) → List ℕ → List ℕ
 agentNumbersOf a before = headsBy sentCounts a before
