@@ -11,9 +11,9 @@ use Rattle.answer.specs.Table.{joined}
 use Rattle.answer.proofs.Cases.{not-both}
 use Rattle.frame.specs.declared.Action.{Action}
 use Rattle.frame.specs.Records.{pairNumbers, actionNumbers}
-use Rattle.parser.specs.declared.Metadata.{Metadata}
+use Rattle.frame.specs.declared.Head.{Head}
 use Rattle.parser.specs.Payload.{Contents, payload, movedContents}
-use Rattle.parser.specs.Frame.{answered}
+use Rattle.frame.specs.Read.{answered}
 use Rattle.parser.specs.Promise.{Counts, payloadTells}
 use Rattle.parser.proofs.Walk.{ends}
 use Rattle.parser.proofs.Frames.{length-map, tells-refused, tells-done}
@@ -66,17 +66,17 @@ actions-moved : (start : ℕ) (a : Answer (List Action)) → behind movedSent st
 actions-moved start (done xs used) = refl
 actions-moved start (refused n place) = refl
 
--- with the metadata of the frame
-abbrev pub inFrame : Metadata → Answer Sent → Answer (Metadata × Sent)
+-- with the head of the frame
+abbrev pub inFrame : Head → Answer Sent → Answer (Head × Sent)
 inFrame m a = next a (λ x used. done (m, x) used)
 
-module _ (m : Metadata) (start pairs room : ℕ) (s : List ℕ) where
-  pub rest-ack : eqb (m .kind) 103 ≡ true
-      → inFrame m (behind movedSent start (sentOf pairs room (m .kind) s)) ≡ inFrame m (ofActions (behind movedActions start (actions room s)))
+module _ (m : Head) (start pairs room : ℕ) (s : List ℕ) where
+  pub rest-ack : eqb (m .«frame_type») 103 ≡ true
+      → inFrame m (behind movedSent start (sentOf pairs room (m .«frame_type») s)) ≡ inFrame m (ofActions (behind movedActions start (actions room s)))
   rest-ack t = rw t (ap (inFrame m) (actions-moved start (actions room s)))
 
-  pub rest-pairs : eqb (m .kind) 103 ≡ false
-      → inFrame m (behind movedSent start (sentOf pairs room (m .kind) s))
+  pub rest-pairs : eqb (m .«frame_type») 103 ≡ false
+      → inFrame m (behind movedSent start (sentOf pairs room (m .«frame_type») s))
       ≡ inFrame m (ofPairs (behind movedContents start (payload true (record { messages = 0; pairs = pairs }) s)))
   rest-pairs t = rw t (ap (inFrame m) (pairs-moved start (payload true (record { messages = 0; pairs = pairs }) s)))
 
@@ -85,7 +85,7 @@ pub fills-nothing : (a : Answer Sent) (n place : ℕ) → a ≡ refused n place 
 fills-nothing a n place e pairs rows = rw e (record { pairs = refl; actions = refl })
 
 -- what is said, and what is left
-module _ (m : Metadata) (a : Answer (List Action)) where
+module _ (m : Head) (a : Answer (List Action)) where
   pub ack-refused : (n place : ℕ) → refused n place ≡ listTells a → answered (refused n place) ≡ agentTells (answered (inFrame m (ofActions a)))
   ack-refused n place e = rw (list-refused a n place e)
 
@@ -100,7 +100,7 @@ module _ (m : Metadata) (a : Answer (List Action)) where
       by-list (done xs used) e = record { pairs = refl; actions = e }
       by-list (refused n place) e = record { pairs = refl; actions = e }
 
-module _ (m : Metadata) (a : Answer Contents) where
+module _ (m : Head) (a : Answer Contents) where
   pub kv-refused : (n place : ℕ) → refused n place ≡ payloadTells a → answered (refused n place) ≡ agentTells (answered (inFrame m (ofPairs a)))
   kv-refused n place e = rw (tells-refused a n place e)
 

@@ -9,11 +9,13 @@ use lib.ListN.{length}
 use Rattle.answer.specs.Answer.{Answer, done, refused}
 use Rattle.answer.proofs.Cases.{bool-cases, not-both}
 use Rattle.frame.specs.declared.Action.{Action}
-use Rattle.parser.specs.declared.Metadata.{Metadata}
+use Rattle.frame.specs.declared.Head.{Head}
 use Rattle.parser.specs.Payload.{Contents, payload}
-use Rattle.parser.specs.Frame.{wait, answered}
+use Rattle.frame.specs.declared.Side.the-variants as side
+use Rattle.frame.specs.Read.{wait, answered, sender}
+use Rattle.frame.proofs.Cutting.{Missing}
 use Rattle.parser.proofs.Pairs.{refused-same}
-use Rattle.parser.proofs.Kept.{NotFull, payload-kept, Missing, front-waits, front-waits-once, front-kept, front-refusal-kept}
+use Rattle.parser.proofs.Kept.{NotFull, payload-kept, front-waits, front-waits-once, front-kept, front-refusal-kept}
 use Rattle.agent.specs.Action.{actions}
 use Rattle.agent.specs.Frame.{Sent, ofPairs, ofActions, movedSent, sentOf, agents, agentRead}
 use Rattle.agent.proofs.Lists.{actions-kept}
@@ -33,14 +35,14 @@ module _ (limit pairs room : ℕ) (s : List ℕ) (n : ℕ) where
   agent-waits = front-waits (agents pairs room) limit s n
 
   pub agent-waits-once : (t : List ℕ) → 4 ≤ length s → agentRead limit pairs room s ≡ wait n → n ≤ length t
-      → (a : Answer (Metadata × Sent)) × (agentRead limit pairs room (s ++ t) ≡ answered a)
+      → (a : Answer (Head × Sent)) × (agentRead limit pairs room (s ++ t) ≡ answered a)
   agent-waits-once t h e m = front-waits-once (agents pairs room) limit s n t h e m
 
 -- with tables no smaller
 module _ (pairs room morePairs moreRoom : ℕ) (p : pairs ≤ morePairs) (r : room ≤ moreRoom) where
-  sent-kept : (kind : ℕ) (s : List ℕ) → NotFull (sentOf pairs room kind s) → sentOf morePairs moreRoom kind s ≡ sentOf pairs room kind s
-  sent-kept kind s no10 =
-      bool-cases (eqb kind 103)
+  sent-kept : (type : ℕ) (s : List ℕ) → NotFull (sentOf pairs room type s) → sentOf morePairs moreRoom type s ≡ sentOf pairs room type s
+  sent-kept type s no10 =
+      bool-cases (eqb type 103)
       (λ t. rw t (ap ofActions (actions-kept room moreRoom r s (actions-full (actions room s) (rw t at no10)))))
       (λ t.
       rw t
@@ -51,14 +53,14 @@ module _ (pairs room morePairs moreRoom : ℕ) (p : pairs ≤ morePairs) (r : ro
   -- bytes appended, and a limit no lower
   module _ (limit higher : ℕ) (up : limit ≤ higher) (s t : List ℕ) where
     -- Kept, an accepted frame: the same length, type, flags, ids, and the same records in the same order.
-    pub agent-accepted-kept : (x : Metadata × Sent) (used : ℕ) → agentRead limit pairs room s ≡ answered (done x used)
+    pub agent-accepted-kept : (x : Head × Sent) (used : ℕ) → agentRead limit pairs room s ≡ answered (done x used)
         → agentRead higher morePairs moreRoom (s ++ t) ≡ answered (done x used)
-    agent-accepted-kept x used e = front-kept true movedSent (sentOf pairs room) (sentOf morePairs moreRoom) sent-kept limit higher up s t x used e
+    agent-accepted-kept x used e = front-kept (sender side.Agents) movedSent (sentOf pairs room) (sentOf morePairs moreRoom) sent-kept limit higher up s t x used e
 
     -- Kept, a refusal: its number and its place, except 2 under a higher limit and 10 with a larger table.
     pub agent-refusal-kept : (number place : ℕ) → agentRead limit pairs room s ≡ answered (refused number place)
         → (number ≡ 2 → limit ≡ higher) → (number ≡ 10 → (pairs ≡ morePairs) × (room ≡ moreRoom))
         → agentRead higher morePairs moreRoom (s ++ t) ≡ answered (refused number place)
     agent-refusal-kept number place e two ten =
-        front-refusal-kept true movedSent (sentOf pairs room) (sentOf morePairs moreRoom) sent-kept limit higher up s t number place e two
-        (λ full kind p. let o = ten full in ap₂ (λ (x y : ℕ). sentOf x y kind p) (sym (o .0)) (sym (o .1)))
+        front-refusal-kept (sender side.Agents) movedSent (sentOf pairs room) (sentOf morePairs moreRoom) sent-kept limit higher up s t number place e two
+        (λ full type p. let o = ten full in ap₂ (λ (x y : ℕ). sentOf x y type p) (sym (o .0)) (sym (o .1)))

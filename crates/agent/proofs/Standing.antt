@@ -16,10 +16,10 @@ use Rattle.types.specs.Value.{Span, span, string, value, shape}
 use Rattle.frame.specs.declared.Pair.{Pair}
 use Rattle.frame.specs.declared.Action.{Action}
 use Rattle.parser.specs.declared.Rooms.{Rooms}
-use Rattle.parser.specs.declared.Metadata.{Metadata}
+use Rattle.frame.specs.declared.Head.{Head}
 use Rattle.parser.specs.Pair.{pairOf, movedPair, pairFrom}
 use Rattle.parser.specs.Payload.{Contents, movedSpan, stringFrom, payload}
-use Rattle.parser.specs.Frame.{answered}
+use Rattle.frame.specs.Read.{answered}
 use Rattle.parser.proofs.Pairs.{done-same, moved-twice}
 use Rattle.parser.proofs.Runs.{from-moved}
 use Rattle.parser.proofs.Accepted.{payload-all, Cut, front-cut}
@@ -230,9 +230,9 @@ of-pairs (done c n) d end e =
 of-pairs (refused n place) d end e = not-both e refl
 
 -- Law: either takes all of its bytes.
-pub sent-all : (pairs room kind : ℕ) (s : List ℕ) (d : Sent) (end : ℕ) → sentOf pairs room kind s ≡ done d end → end ≡ length s
-sent-all pairs room kind s d end e =
-    bool-cases (eqb kind 103)
+pub sent-all : (pairs room type : ℕ) (s : List ℕ) (d : Sent) (end : ℕ) → sentOf pairs room type s ≡ done d end → end ≡ length s
+sent-all pairs room type s d end e =
+    bool-cases (eqb type 103)
     (λ t. actions-run room s (d .actions) end (of-actions (actions room s) d end (rw t at e) .0) .1)
     (λ t.
     let rooms : Rooms = record { messages = 0; pairs = pairs } in
@@ -240,6 +240,6 @@ sent-all pairs room kind s d end e =
     payload-all true rooms s (o .0) end (o .1))
 
 -- Law: so an agent's frame takes the bytes that its length says, which are there, and holds its head and its payload.
-pub agent-cut : (limit pairs room : ℕ) (s : List ℕ) (m : Metadata) (c : Sent) (used : ℕ) → agentRead limit pairs room s ≡ answered (done (m, c) used)
+pub agent-cut : (limit pairs room : ℕ) (s : List ℕ) (m : Head) (c : Sent) (used : ℕ) → agentRead limit pairs room s ≡ answered (done (m, c) used)
     → Cut (agents pairs room) limit s m c used
 agent-cut limit pairs room s m c used e = front-cut (agents pairs room) (sent-all pairs room) limit s m c used e

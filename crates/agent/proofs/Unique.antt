@@ -4,7 +4,7 @@ use mathlib.Core.List.{List}
 use Prim.Native.Nat.{ℕ}
 use native.Mathlib.Omega.{arith}
 use Rattle.answer.proofs.Same.{refusal-same}
-use Rattle.parser.specs.declared.Metadata.{Metadata}
+use Rattle.frame.specs.declared.Head.{Head}
 use Rattle.parser.proofs.Pairs.{done-same}
 use Rattle.agent.specs.declared.AgentRead.{AgentRead}
 use Rattle.agent.specs.declared.AgentRead.the-variants as a
@@ -13,10 +13,10 @@ use Rattle.agent.specs.Promise.{Counts, agentSaid, ReadAgentFrame}
 -- answers that say the same are the same
 pub agent-same : (r q : AgentRead) → agentSaid r ≡ agentSaid q → r ≡ q
 agent-same (a.Done x m n u) (a.Done x′ m′ n′ u′) e =
-    let k = done-same {A = Metadata × Counts} {x = (x, (m, n))} {y = (x′, (m′, n′))} {m = u} {k = u′} (cc) in
-    let w = ap (λ (y : Metadata × Counts). y .0) (k .0) in
-    let q = ap (λ (y : Metadata × Counts). y .1 .0) (k .0) in
-    let o = ap (λ (y : Metadata × Counts). y .1 .1) (k .0) in
+    let k = done-same {A = Head × Counts} {x = (x, (m, n))} {y = (x′, (m′, n′))} {m = u} {k = u′} (cc) in
+    let w = ap (λ (y : Head × Counts). y .0) (k .0) in
+    let q = ap (λ (y : Head × Counts). y .1 .0) (k .0) in
+    let o = ap (λ (y : Head × Counts). y .1 .1) (k .0) in
     let z = k .1 in
     cc
 agent-same (a.Done x m n u) (a.Wait k) e = let z : _≡_ {A = ℕ} 0 1 = cc in absurd (omega arith)

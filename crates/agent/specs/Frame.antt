@@ -9,10 +9,12 @@ use lib.Dec.{eqb}
 use Rattle.answer.specs.Answer.{Answer, done, next}
 use Rattle.frame.specs.declared.Pair.{Pair}
 use Rattle.frame.specs.declared.Action.{Action}
-use Rattle.parser.specs.declared.Metadata.{Metadata}
+use Rattle.frame.specs.declared.Head.{Head}
 use Rattle.parser.specs.Pair.{movedPair}
 use Rattle.parser.specs.Payload.{Contents, payload}
-use Rattle.parser.specs.Frame.{Entry, Reading, front}
+use Rattle.frame.specs.declared.Side.the-variants as side
+use Rattle.frame.specs.Read.{Reading, sender}
+use Rattle.parser.specs.Frame.{Entry, atFront}
 use Rattle.agent.specs.Action.{actions, movedActions}
 
 -- What was read of a payload: its pairs or its actions, in the order of their bytes.
@@ -31,11 +33,11 @@ movedSent n x = record { pairs = map (movedPair n) (x .pairs); actions = movedAc
 
 -- with room for so many pairs, and for so many actions
 abbrev pub sentOf : ℕ → ℕ → ℕ → List ℕ → Answer Sent
-sentOf pairs room kind s = cond (eqb kind 103) (ofActions (actions room s)) (ofPairs (payload true (record { messages = 0; pairs = pairs }) s))
+sentOf pairs room type s = cond (eqb type 103) (ofActions (actions room s)) (ofPairs (payload true (record { messages = 0; pairs = pairs }) s))
 
 abbrev pub agents : ℕ → ℕ → Entry Sent
-agents pairs room = record { agents = true; payloadOf = sentOf pairs room; moved = movedSent }
+agents pairs room = record { side = sender side.Agents; payloadOf = sentOf pairs room; moved = movedSent }
 
 -- the frame at the front
-abbrev pub agentRead : ℕ → ℕ → ℕ → List ℕ → Reading (Metadata × Sent)
-agentRead limit pairs room s = front (agents pairs room) limit s
+abbrev pub agentRead : ℕ → ℕ → ℕ → List ℕ → Reading (Head × Sent)
+agentRead limit pairs room s = atFront (agents pairs room) limit s

@@ -7,9 +7,9 @@ use Rattle.answer.specs.Answer.{Answer, done, refused, next, behind, written, l
 use Rattle.answer.specs.Table.{joined}
 use Rattle.frame.specs.declared.Action.{Action}
 use Rattle.frame.specs.Records.{pairWidth, actionWidth, actionNumbers}
-use Rattle.parser.specs.declared.Metadata.{Metadata}
+use Rattle.frame.specs.declared.Head.{Head}
 use Rattle.parser.specs.Pair.{movedPair}
-use Rattle.parser.specs.Frame.{answered}
+use Rattle.frame.specs.Read.{answered}
 use Rattle.agent.specs.declared.AgentRead.{AgentRead}
 use Rattle.agent.specs.declared.ActionRead.{ActionRead}
 use Rattle.agent.specs.declared.ActionRead.the-variants as r
@@ -80,11 +80,11 @@ listLeft a old = leaves (next a (λ xs used. written (joined actionNumbers xs)))
 
 -- ---- the frame
 
--- the payload that stands in a frame from a place on, with the metadata of the frame
-abbrev pub restOf : List ℕ → Metadata → ℕ → List ℕ → List ℕ → Answer (Metadata × Sent)
+-- the payload that stands in a frame from a place on, with the head of the frame
+abbrev pub restOf : List ℕ → Head → ℕ → List ℕ → List ℕ → Answer (Head × Sent)
 restOf cut m start pairs rows =
-    next (behind movedSent start (sentOf (length pairs / pairWidth) (length rows / actionWidth) (m .kind) (drop start cut))) (λ x used. done (m, x) used)
+    next (behind movedSent start (sentOf (length pairs / pairWidth) (length rows / actionWidth) (m .«frame_type») (drop start cut))) (λ x used. done (m, x) used)
 
-pub record ReadsRest (cut : List ℕ) (m : Metadata) (start : ℕ) (r : AgentRead) (oldPairs newPairs oldActions newActions : List ℕ) : Type 0 where
+pub record ReadsRest (cut : List ℕ) (m : Head) (start : ℕ) (r : AgentRead) (oldPairs newPairs oldActions newActions : List ℕ) : Type 0 where
   pub says : agentSaid r ≡ agentTells (answered (restOf cut m start oldPairs oldActions))
   pub fills : Fills (sentRead (answered (restOf cut m start oldPairs oldActions))) oldPairs newPairs oldActions newActions

@@ -2,7 +2,8 @@
 use crate::AgentRead;
 use crate::ListRead;
 use crate::list::read_actions;
-use parser::Metadata;
+use frame::Head;
+use frame::Side;
 use parser::PayloadRead;
 use parser::StartRead;
 ghost use Prim.Native.Nat.{_≤_};
@@ -10,25 +11,25 @@ ghost use lib.ListN.{length};
 ghost use Rattle.agent.specs.Promise.{ReadAgentFrame};
 ghost use Rattle.agent.specs.Inner.{ReadsRest};
 
-// Reads the payload of a frame that was cut out, whose metadata end at `start`.
+// Reads the payload of a frame that was cut out, whose head ends at `start`.
 fn read_rest(
     cut: &[u8],
-    metadata: Metadata,
+    head: Head,
     start: usize,
     pairs: &mut [u64],
     actions: &mut [u64],
 ) -> AgentRead
     requires { ⌜ start ≤ length (now cut) ⌝ }
-    ensures { λ r. ⌜ ReadsRest (now (cut .entry)) metadata start r (now (pairs .entry)) (now (pairs .exit)) (now (actions .entry)) (now (actions .exit)) ⌝ }
+    ensures { λ r. ⌜ ReadsRest (now (cut .entry)) head start r (now (pairs .entry)) (now (pairs .exit)) (now (actions .entry)) (now (actions .exit)) ⌝ }
 {
-    if metadata.kind == frame::ACK {
+    if head.frame_type == frame::ACK {
         match read_actions(cut, start, actions) {
             ListRead::Refused(r) => {
                 return AgentRead::Refused(r);
             },
             ListRead::Done { count, used } => {
                 return AgentRead::Done {
-                    metadata,
+                    head,
                     pairs: 0,
                     actions: count,
                     used,
@@ -46,7 +47,7 @@ fn read_rest(
             used,
         } => {
             return AgentRead::Done {
-                metadata,
+                head,
                 pairs: count,
                 actions: 0,
                 used,
@@ -64,19 +65,15 @@ pub fn read_agent_frame(
 ) -> AgentRead
     ensures { λ r. ⌜ ReadAgentFrame (now (input .entry)) limit r (now (pairs .entry)) (now (pairs .exit)) (now (actions .entry)) (now (actions .exit)) ⌝ }
 {
-    match parser::read_start(input, limit, true) {
+    match parser::read_start(input, limit, Side::Agents) {
         StartRead::Wait(missing) => {
             return AgentRead::Wait(missing);
         },
         StartRead::Refused(r) => {
             return AgentRead::Refused(r);
         },
-        StartRead::Done {
-            metadata,
-            start,
-            end,
-        } => {
-            return read_rest(&input[..end], metadata, start, pairs, actions);
+        StartRead::Done { head, start, end } => {
+            return read_rest(&input[..end], head, start, pairs, actions);
         },
     }
 }

@@ -10,12 +10,12 @@ mod list;
 use answer::Refusal;
 pub use entry::read_agent_frame;
 use frame::Action;
-use parser::Metadata;
+use frame::Head;
 
 // What the reader of agents' frames answers: the frame, with how many pairs and actions it has, and its bytes; or how many bytes are missing.
 pub enum AgentRead {
     Done {
-        metadata: Metadata,
+        head: Head,
         pairs: usize,
         actions: usize,
         used: usize,

@@ -19,14 +19,16 @@ use Rattle.types.proofs.Shapes.{in-record}
 use Rattle.frame.specs.declared.Pair.{Pair}
 use Rattle.frame.specs.declared.Message.{Message}
 use Rattle.parser.specs.declared.Rooms.{Rooms}
-use Rattle.parser.specs.declared.Metadata.{Metadata}
+use Rattle.frame.specs.declared.Head.{Head}
+use Rattle.frame.specs.declared.Side.the-variants as side
+use Rattle.frame.specs.Read.{sender}
 use Rattle.parser.specs.Pair.{pairOf, movedPair, pair, pairFrom}
 use Rattle.parser.specs.Payload.{Contents, withMessage, movedMessage, movedContents, stringFrom, oneItem, toEnd, payload}
-use Rattle.parser.specs.Frame.{whole, haproxys}
+use Rattle.parser.specs.Frame.{oneFrame, haproxys}
 use Rattle.parser.proofs.Pairs.{pair-key, pair-value, pair-whole, done-same}
 use Rattle.parser.proofs.Walk.{pair-says, string-next, message-says, item-pair, item-message, item-next}
 use Rattle.parser.proofs.Accepted.{ended-same, whole-holds}
-use Rattle.parser.proofs.Frames.{metadata-start}
+use Rattle.frame.proofs.Heads.{head-start}
 
 -- ---- records that have a line
 
@@ -152,9 +154,9 @@ module _ (kv : Bool) (rooms : Rooms) (s : List ℕ) where
 -- ---- a frame that was read
 
 -- Law: so has each record of an accepted frame.
-pub whole-held : (rooms : Rooms) (f : List ℕ) (m : Metadata) (c : Contents) (used : ℕ) → whole (haproxys rooms) f ≡ done (m, c) used → Held (length f) c
+pub whole-held : (rooms : Rooms) (f : List ℕ) (m : Head) (c : Contents) (used : ℕ) → oneFrame (haproxys rooms) f ≡ done (m, c) used → Held (length f) c
 whole-held rooms f m c used e =
     let h = whole-holds (haproxys rooms) f m c used e in
     let rest = drop (h .start) f in
-    let all : h .start + length rest ≡ length f = omega (arith, length-drop (h .start) f, metadata-start false f m (h .start) (h .head)) in
-    rw (sym (h .moved)) (rw all at (held-moved (h .start) (length rest) (h .held) (payload-held (not (eqb (m .kind) 3)) rooms rest (h .held) (h .end) (h .is))))
+    let all : h .start + length rest ≡ length f = omega (arith, length-drop (h .start) f, head-start (sender side.HAProxy) f m (h .start) (h .head)) in
+    rw (sym (h .moved)) (rw all at (held-moved (h .start) (length rest) (h .held) (payload-held (not (eqb (m .«frame_type») 3)) rooms rest (h .held) (h .end) (h .is))))

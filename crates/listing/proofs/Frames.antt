@@ -6,7 +6,7 @@ use lib.ListN.{length, take, drop}
 use Rattle.frame.specs.declared.Pair.{Pair}
 use Rattle.frame.specs.declared.Message.{Message}
 use Rattle.frame.specs.declared.Action.{Action}
-use Rattle.parser.specs.declared.Metadata.{Metadata}
+use Rattle.frame.specs.declared.Head.{Head}
 use Rattle.parser.specs.Payload.{Contents}
 use Rattle.agent.specs.Frame.{Sent}
 use Rattle.listing.specs.Lines.{frameLine, messageLine, pairLine, actionLine}
@@ -24,7 +24,7 @@ itemLines f i k (m ∷ ms) ps =
     ++ (pairLines f k (take (m .count) ps) ++ itemLines f (suc i) (k + m .count) ms (drop (m .count) ps))
 
 -- All lines of a frame: its own, and then those of what it holds.
-unfoldable pub frameLines : ℕ → List ℕ → Metadata → Contents → List ℕ
+unfoldable pub frameLines : ℕ → List ℕ → Head → Contents → List ℕ
 frameLines index f m c = frameLine index m (length f) ++ itemLines f 0 0 (c .messages) (c .pairs)
 
 -- the lines of some actions, of which the first is action k
@@ -33,5 +33,5 @@ actionLines f k [] = []
 actionLines f k (x ∷ xs) = actionLine k f x ++ actionLines f (suc k) xs
 
 -- All lines of an agent's frame: its own, and then those of its pairs or of its actions.
-unfoldable pub sentLines : ℕ → List ℕ → Metadata → Sent → List ℕ
+unfoldable pub sentLines : ℕ → List ℕ → Head → Sent → List ℕ
 sentLines index f m c = frameLine index m (length f) ++ (pairLines f 0 (c .pairs) ++ actionLines f 0 (c .actions))

@@ -17,9 +17,9 @@ use Rattle.frame.specs.declared.Pair.{Pair}
 use Rattle.frame.specs.declared.Message.{Message}
 use Rattle.frame.specs.Records.{keyOf}
 use Rattle.parser.specs.declared.Rooms.{Rooms}
-use Rattle.parser.specs.declared.Metadata.{Metadata}
+use Rattle.frame.specs.declared.Head.{Head}
 use Rattle.parser.specs.Payload.{Contents}
-use Rattle.parser.specs.Frame.{whole, haproxys}
+use Rattle.parser.specs.Frame.{oneFrame, haproxys}
 use Rattle.listing.specs.Digits.{decimal, shown}
 use Rattle.listing.specs.Lines.{gap, others, filled, frameForm, messageForm, pairForm, endForm, valueText, frameLine, messageLine, pairLine, endLine}
 use Rattle.listing.proofs.Frames.{pairLines, itemLines, frameLines}
@@ -99,8 +99,8 @@ filled-apart (b ∷ form) s =
 
 -- ---- the three kinds of line in a frame
 
-pub frame-apart : (i j : ℕ) (m n : Metadata) (b c : ℕ) (u v : List ℕ) → frameLine i m b ++ u ≡ frameLine j n c ++ v
-    → (i ≡ j) × (m .kind ≡ n .kind) × (m .stream ≡ n .stream) × (m .frame ≡ n .frame) × (b ≡ c) × (u ≡ v)
+pub frame-apart : (i j : ℕ) (m n : Head) (b c : ℕ) (u v : List ℕ) → frameLine i m b ++ u ≡ frameLine j n c ++ v
+    → (i ≡ j) × (m .«frame_type» ≡ n .«frame_type») × (m .stream ≡ n .stream) × (m .frame ≡ n .frame) × (b ≡ c) × (u ≡ v)
 unfolding frameLine
 frame-apart i j m n b c u v e =
     let o = filled-apart frameForm refl _ _ u v refl refl (texts i m b) (texts j n c) e in
@@ -109,15 +109,15 @@ frame-apart i j m n b c u v e =
     let t3 = tail-eq-of-cons-eq t2 in
     let t4 = tail-eq-of-cons-eq t3 in (
       decimal-apart i j (head-eq-of-cons-eq (o .0)),
-      decimal-apart (m .kind) (n .kind) (head-eq-of-cons-eq t1),
+      decimal-apart (m .«frame_type») (n .«frame_type») (head-eq-of-cons-eq t1),
       decimal-apart (m .stream) (n .stream) (head-eq-of-cons-eq t2),
       decimal-apart (m .frame) (n .frame) (head-eq-of-cons-eq t3),
       decimal-apart b c (head-eq-of-cons-eq t4),
       o .1,
     )
   where
-    texts : (i : ℕ) (m : Metadata) (b : ℕ) → Each Plain (decimal i ∷ decimal (m .kind) ∷ decimal (m .stream) ∷ decimal (m .frame) ∷ decimal b ∷ [])
-    texts i m b = (decimal-plain i, (decimal-plain (m .kind), (decimal-plain (m .stream), (decimal-plain (m .frame), (decimal-plain b, tt)))))
+    texts : (i : ℕ) (m : Head) (b : ℕ) → Each Plain (decimal i ∷ decimal (m .«frame_type») ∷ decimal (m .stream) ∷ decimal (m .frame) ∷ decimal b ∷ [])
+    texts i m b = (decimal-plain i, (decimal-plain (m .«frame_type»), (decimal-plain (m .stream), (decimal-plain (m .frame), (decimal-plain b, tt)))))
 
 -- what a line says of a message, and of a pair: its bytes wherever they stand, and its count or its value
 abbrev pub messageMeans : List ℕ → Message → List ℕ × ℕ
@@ -318,17 +318,17 @@ pub each-fields : (n : ℕ) (ps : List Pair) → Each (Whole n) ps → Each Fiel
 each-fields n ps e = each-on (λ p w. w .fields) ps e
 
 -- what two frames with the same lines have in common: their index, type, ids and length, what their messages mean, and what their pairs do
-pub record SameFrame (i j : ℕ) (f g : List ℕ) (m n : Metadata) (c d : Contents) : Type 0 where
+pub record SameFrame (i j : ℕ) (f g : List ℕ) (m n : Head) (c d : Contents) : Type 0 where
   pub index : i ≡ j
-  pub kind : m .kind ≡ n .kind
+  pub type : m .«frame_type» ≡ n .«frame_type»
   pub stream : m .stream ≡ n .stream
   pub id : m .frame ≡ n .frame
   pub bytes : length f ≡ length g
   pub messages : map (messageMeans f) (c .messages) ≡ map (messageMeans g) (d .messages)
   pub pairs : map (pairMeans f) (c .pairs) ≡ map (pairMeans g) (d .pairs)
 
-module _ (rooms others : Rooms) (f g : List ℕ) (m n : Metadata) (c d : Contents) (used taken : ℕ)
-    (first : whole (haproxys rooms) f ≡ done (m, c) used) (second : whole (haproxys others) g ≡ done (n, d) taken) where
+module _ (rooms others : Rooms) (f g : List ℕ) (m n : Head) (c d : Contents) (used taken : ℕ)
+    (first : oneFrame (haproxys rooms) f ≡ done (m, c) used) (second : oneFrame (haproxys others) g ≡ done (n, d) taken) where
   -- Law: the listing loses nothing but flags. Two accepted frames whose lines start the same bytes are the same but for these and for where
   -- their records stand, and the same follows them.
   pub listing-apart-then : (index other : ℕ) (u v : List ℕ) → Over u → Over v → frameLines index f m c ++ u ≡ frameLines other g n d ++ v
@@ -340,7 +340,7 @@ module _ (rooms others : Rooms) (f g : List ℕ) (m n : Metadata) (c d : Content
       let h = each-fields (length f) (c .pairs) (whole-held rooms f m c used first .pairs) in
       let l = each-fields (length g) (d .pairs) (whole-held others g n d taken second .pairs) in
       let o = items-apart f g 0 0 (c .messages) (d .messages) (c .pairs) (d .pairs) u v h l x y (a .5) in
-      (record { index = a .0; kind = a .1; stream = a .2; id = a .3; bytes = a .4; messages = o .0; pairs = o .1 }, o .2)
+      (record { index = a .0; type = a .1; stream = a .2; id = a .3; bytes = a .4; messages = o .0; pairs = o .1 }, o .2)
 
   -- Law: so two accepted frames with the same lines are.
   pub listing-apart : (index other : ℕ) → frameLines index f m c ≡ frameLines other g n d → SameFrame index other f g m n c d
@@ -348,7 +348,7 @@ module _ (rooms others : Rooms) (f g : List ℕ) (m n : Metadata) (c d : Content
 
 -- ---- what follows one: another frame's line, or the last line
 
-pub frame-over : (index : ℕ) (m : Metadata) (bytes : ℕ) (t : List ℕ) → Over (frameLine index m bytes ++ t)
+pub frame-over : (index : ℕ) (m : Head) (bytes : ℕ) (t : List ℕ) → Over (frameLine index m bytes ++ t)
 unfolding frameLine filled
 frame-over index m bytes t = (λ z. omega arith, λ z. omega arith, λ z. omega arith)
 

@@ -20,13 +20,14 @@ use Rattle.frame.specs.declared.Pair.{Pair}
 use Rattle.frame.specs.declared.Action.{Action}
 use Rattle.frame.specs.Records.{messageNumbers, pairWidth, actionWidth, actionAt, actionNumbers}
 use Rattle.parser.specs.declared.Rooms.{Rooms}
-use Rattle.parser.specs.declared.Metadata.{Metadata}
+use Rattle.frame.specs.declared.Head.{Head}
 use Rattle.parser.specs.Pair.{movedPair}
 use Rattle.parser.specs.Payload.{Contents, payload}
-use Rattle.parser.specs.Frame.{answered}
+use Rattle.frame.specs.declared.Side.the-variants as side
+use Rattle.frame.specs.Read.{answered, sender}
 use Rattle.parser.proofs.Walk.{string-next}
 use Rattle.parser.proofs.Filling.{joined-width}
-use Rattle.parser.proofs.Frames.{metadata-start}
+use Rattle.frame.proofs.Heads.{head-start}
 use Rattle.parser.proofs.Accepted.{Held as HeldFrame}
 use Rattle.agent.specs.Action.{actions, movedActions}
 use Rattle.agent.specs.Frame.{Sent, agents}
@@ -86,13 +87,13 @@ pub record HeldSent (n : ℕ) (c : Sent) : Type 0 where
   pub actions : Each (Acts n) (c .actions)
 
 -- Law: each record of an accepted frame has a line.
-pub sent-held : (pairs room : ℕ) (f : List ℕ) (m : Metadata) (c : Sent) (used : ℕ) → HeldFrame (agents pairs room) f m c used → HeldSent (length f) c
+pub sent-held : (pairs room : ℕ) (f : List ℕ) (m : Head) (c : Sent) (used : ℕ) → HeldFrame (agents pairs room) f m c used → HeldSent (length f) c
 sent-held pairs room f m c used h =
     let rest = drop (h .start) f in
-    let all : h .start + length rest ≡ length f = omega (arith, length-drop (h .start) f, metadata-start true f m (h .start) (h .head)) in
+    let all : h .start + length rest ≡ length f = omega (arith, length-drop (h .start) f, head-start (sender side.Agents) f m (h .start) (h .head)) in
     let same-pairs : map (movedPair (h .start)) (h .held .pairs) ≡ c .pairs = ap (λ (d : Sent). d .pairs) (h .moved) in
     let same-actions : movedActions (h .start) (h .held .actions) ≡ c .actions = ap (λ (d : Sent). d .actions) (h .moved) in
-    bool-cases (eqb (m .kind) 103)
+    bool-cases (eqb (m .«frame_type») 103)
     (λ t.
     let o = of-actions (actions room rest) (h .held) (h .end) (rw t at (h .is)) in
     let none : c .pairs ≡ [] = sym same-pairs ∙ ap (map (movedPair (h .start))) (o .1) in
@@ -110,7 +111,7 @@ sent-held pairs room f m c used h =
 -- ---- their lines
 
 -- The bytes of a frame that was accepted, and the tables that its reader left.
-module _ (limit : ℕ) (s oldPairs newPairs oldActions newActions : List ℕ) (m : Metadata) (c : Sent) (used : ℕ)
+module _ (limit : ℕ) (s oldPairs newPairs oldActions newActions : List ℕ) (m : Head) (c : Sent) (used : ℕ)
     (e : readInto oldPairs oldActions limit s ≡ answered (done (m, c) used))
     (fills : Fills (sentRead (readInto oldPairs oldActions limit s)) oldPairs newPairs oldActions newActions) where
   abbrev f : List ℕ

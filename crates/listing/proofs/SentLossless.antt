@@ -13,7 +13,7 @@ use Rattle.types.specs.Promise.{recordOf}
 use Rattle.types.proofs.Roundtrip.{Meaning}
 use Rattle.frame.specs.declared.Action.{Action}
 use Rattle.frame.specs.Records.{keyOf}
-use Rattle.parser.specs.declared.Metadata.{Metadata}
+use Rattle.frame.specs.declared.Head.{Head}
 use Rattle.agent.specs.Frame.{Sent}
 use Rattle.agent.proofs.Standing.{by-verb}
 use Rattle.listing.specs.Digits.{decimal, shown}
@@ -148,9 +148,9 @@ no-pair f [] u o = rw (actions-none 0 f u) (over-pair u o)
 no-pair f (x ∷ xs) u o = rw (actions-on 0 f x xs u, action-starts 0 f x .1) (λ z. omega arith)
 
 -- what two frames with the same lines have in common
-pub record SameSent (i j : ℕ) (f g : List ℕ) (m n : Metadata) (c d : Sent) : Type 0 where
+pub record SameSent (i j : ℕ) (f g : List ℕ) (m n : Head) (c d : Sent) : Type 0 where
   pub index : i ≡ j
-  pub kind : m .kind ≡ n .kind
+  pub type : m .«frame_type» ≡ n .«frame_type»
   pub stream : m .stream ≡ n .stream
   pub id : m .frame ≡ n .frame
   pub bytes : length f ≡ length g
@@ -159,7 +159,7 @@ pub record SameSent (i j : ℕ) (f g : List ℕ) (m n : Metadata) (c d : Sent) :
 
 -- Law: the listing of agents' frames loses nothing but flags. Two frames whose records have lines, and whose lines start the same bytes, are the same but for
 -- these and for where their records stand, and the same follows them.
-pub sent-apart-then : (i j : ℕ) (f g : List ℕ) (m n : Metadata) (c d : Sent) → HeldSent (length f) c → HeldSent (length g) d
+pub sent-apart-then : (i j : ℕ) (f g : List ℕ) (m n : Head) (c d : Sent) → HeldSent (length f) c → HeldSent (length g) d
     → (u v : List ℕ) → Over u → Over v → sentLines i f m c ++ u ≡ sentLines j g n d ++ v → SameSent i j f g m n c d × (u ≡ v)
 unfolding sentLines
 sent-apart-then i j f g m n c d h l u v x y e =
@@ -170,4 +170,4 @@ sent-apart-then i j f g m n c d h l u v x y e =
     (sym (append-assoc (pairLines f 0 (c .pairs)) (actionLines f 0 (c .actions)) u) ∙ a .5 ∙ append-assoc (pairLines g 0 (d .pairs)) (actionLines g 0 (d .actions)) v) in
     let q = actions-apart f g 0 (c .actions) (d .actions) u v
     (each-on (λ z w. (length f, w)) (c .actions) (h .actions)) (each-on (λ z w. (length g, w)) (d .actions) (l .actions)) (over-action u x) (over-action v y) (p .1) in
-    (record { index = a .0; kind = a .1; stream = a .2; id = a .3; bytes = a .4; pairs = p .0; actions = q .0 }, q .1)
+    (record { index = a .0; type = a .1; stream = a .2; id = a .3; bytes = a .4; pairs = p .0; actions = q .0 }, q .1)

@@ -23,9 +23,10 @@ use Rattle.frame.specs.declared.Pair.{Pair}
 use Rattle.frame.specs.declared.Message.{Message}
 use Rattle.frame.specs.declared.Action.{Action}
 use Rattle.frame.specs.Records.{messageWidth, messageAt, messageNumbers, pairWidth, pairIn, pairAt, pairNumbers, actionWidth, actionAt, actionNumbers}
-use Rattle.parser.specs.declared.Metadata.{Metadata}
+use Rattle.frame.specs.declared.Head.{Head}
 use Rattle.parser.specs.Payload.{Contents}
-use Rattle.parser.specs.Frame.{answered, frameRead}
+use Rattle.frame.specs.Read.{answered}
+use Rattle.parser.specs.Frame.{frameRead}
 use Rattle.parser.specs.Promise.{roomsOf, contentsRead, Fills}
 use Rattle.parser.proofs.Filling.{joined-width}
 use Rattle.parser.proofs.Accepted.{frame-cut}
@@ -148,7 +149,7 @@ module _ (f messages pairs : List ℕ) (c : Contents) (n : ℕ) (long : n ≡ le
       ∙ ap₂ (itemLines f 0 0) hold-messages hold-pairs
 
 -- Law: over the tables that the reader left of an accepted frame, the steps from the first place on are its lines, in order, behind its own.
-pub accepted-lines : (limit index : ℕ) (s oldMessages newMessages oldPairs newPairs : List ℕ) (m : Metadata) (c : Contents) (used : ℕ)
+pub accepted-lines : (limit index : ℕ) (s oldMessages newMessages oldPairs newPairs : List ℕ) (m : Head) (c : Contents) (used : ℕ)
     → frameRead limit (roomsOf oldMessages oldPairs) s ≡ answered (done (m, c) used)
     → Fills (contentsRead (frameRead limit (roomsOf oldMessages oldPairs) s)) oldMessages newMessages oldPairs newPairs
     → frameLine index m used

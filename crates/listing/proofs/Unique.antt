@@ -7,13 +7,13 @@ use Rattle.answer.proofs.Same.{writes-unique, one-only}
 use Rattle.frame.specs.declared.Message.{Message}
 use Rattle.frame.specs.declared.Pair.{Pair}
 use Rattle.frame.specs.declared.Action.{Action}
-use Rattle.parser.specs.declared.Metadata.{Metadata}
+use Rattle.frame.specs.declared.Head.{Head}
 use Rattle.listing.specs.declared.Place.{Place}
 use Rattle.listing.specs.declared.Step.{Step}
 use Rattle.listing.specs.Promise.{WriteFrameLine, WriteMessageLine, WritePairLine, WriteActionLine, WriteEndLine, WriteNextLine, WriteActionAt}
 
 module _ (r q : Written) (old new other : List ℕ) where
-  pub write-frame-line-unique : (index bytes : ℕ) (m : Metadata)
+  pub write-frame-line-unique : (index bytes : ℕ) (m : Head)
       → WriteFrameLine index m bytes r old new → WriteFrameLine index m bytes q old other → (r ≡ q) × (new ≡ other)
   write-frame-line-unique index bytes m p s = writes-unique p s
 

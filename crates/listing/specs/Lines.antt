@@ -24,7 +24,7 @@ use Rattle.frame.specs.declared.Pair.{Pair}
 use Rattle.frame.specs.declared.Message.{Message}
 use Rattle.frame.specs.declared.Action.{Action}
 use Rattle.frame.specs.Records.{keyOf}
-use Rattle.parser.specs.declared.Metadata.{Metadata}
+use Rattle.frame.specs.declared.Head.{Head}
 use Rattle.listing.specs.Digits.{letters, dash, decimal, signed, shown}
 
 -- ---- a line
@@ -84,9 +84,9 @@ valueText f (value kind a b flags) = dataText (shape kind) kind a (part f a b)
 
 -- ---- the lines
 
-unfoldable pub frameLine : ℕ → Metadata → ℕ → List ℕ
+unfoldable pub frameLine : ℕ → Head → ℕ → List ℕ
 frameLine index m bytes =
-    filled frameForm (decimal index ∷ decimal (m .kind) ∷ decimal (m .stream) ∷ decimal (m .frame) ∷ decimal bytes ∷ [])
+    filled frameForm (decimal index ∷ decimal (m .«frame_type») ∷ decimal (m .stream) ∷ decimal (m .frame) ∷ decimal bytes ∷ [])
 
 -- a message of this name, and a pair of this key
 abbrev pub messageText : ℕ → List ℕ → ℕ → List ℕ

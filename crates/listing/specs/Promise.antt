@@ -10,7 +10,7 @@ use Rattle.answer.specs.Order.{inOrder, linesAt}
 use Rattle.frame.specs.declared.Pair.{Pair}
 use Rattle.frame.specs.declared.Message.{Message}
 use Rattle.frame.specs.declared.Action.{Action}
-use Rattle.parser.specs.declared.Metadata.{Metadata}
+use Rattle.frame.specs.declared.Head.{Head}
 use Rattle.listing.specs.declared.Place.{Place}
 use Rattle.listing.specs.declared.Step.{Step}
 use Rattle.listing.specs.declared.Step.the-variants as s
@@ -40,7 +40,7 @@ pub record Comes (c : Coming) (r : Step) (old new : List ℕ) : Type 0 where
 
 -- ---- the promises: a line at the front of old, which is new afterwards
 
-abbrev pub WriteFrameLine : ℕ → Metadata → ℕ → Written → List ℕ → List ℕ → Type 0
+abbrev pub WriteFrameLine : ℕ → Head → ℕ → Written → List ℕ → List ℕ → Type 0
 WriteFrameLine index m bytes r old new = Writes (within (length old) (written (frameLine index m bytes))) r old new
 
 abbrev pub WriteMessageLine : ℕ → List ℕ → Message → Written → List ℕ → List ℕ → Type 0

@@ -14,11 +14,11 @@ use answer::OUTSIDE;
 use answer::Refusal;
 use answer::Written;
 use frame::Action;
+use frame::Head;
 use frame::Message;
 use frame::Pair;
 use frame::SET_VAR;
 use frame::UNSET_VAR;
-use parser::Metadata;
 use types::Value;
 ghost use mathlib.Core.Path.{_≡_};
 ghost use mathlib.Core.Bool.{_&&_, _||_};
@@ -37,10 +37,16 @@ ghost use Rattle.listing.specs.Promise.{WriteFrameLine, WriteMessageLine
 ghost use Rattle.listing.specs.Inner.{Listed, namedText, valuedText};
 
 // Writes the line of a frame: its index, type, stream and id, and how many bytes it takes.
-pub fn write_frame_line(index: u64, metadata: Metadata, bytes: u64, out: &mut [u8]) -> Written
-    ensures { λ r. ⌜ WriteFrameLine index metadata bytes r (now (out .entry)) (now (out .exit)) ⌝ }
+pub fn write_frame_line(index: u64, head: Head, bytes: u64, out: &mut [u8]) -> Written
+    ensures { λ r. ⌜ WriteFrameLine index head bytes r (now (out .entry)) (now (out .exit)) ⌝ }
 {
-    let numbers = [index, metadata.kind, metadata.stream, metadata.frame, bytes];
+    let numbers = [
+        index,
+        head.frame_type as u64,
+        head.stream,
+        head.frame,
+        bytes,
+    ];
     let form = b"frame # type # stream # id # bytes #\n";
     if out.len() < filled_len(form, &numbers) {
         return refused(NO_ROOM);

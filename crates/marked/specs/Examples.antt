@@ -19,10 +19,10 @@ use Rattle.frame.specs.declared.Message.{Message}
 use Rattle.frame.specs.Head.{fourBytes, fourNumber, headBytes, frameBytes}
 use Rattle.frame.specs.Records.{messageAt, pairAt}
 use Rattle.parser.specs.declared.Rooms.{Rooms}
-use Rattle.parser.specs.declared.Metadata.{Metadata}
 use Rattle.parser.specs.Pair.{pair}
 use Rattle.parser.specs.Payload.{Contents, onePair, oneMessage, toEnd, payload}
-use Rattle.parser.specs.Frame.{Reading, wait, answered, lastId, ids, metadata, whole, front as frameFront, frameRead}
+use Rattle.frame.specs.Read.{Reading, wait, answered, cut, head}
+use Rattle.parser.specs.Frame.{oneFrame, atFront, frameRead}
 use Rattle.writer.specs.Pair.{pairBytes, newKey}
 use Rattle.writer.specs.Message.{nameBytes, messageBytes}
 use Rattle.writer.specs.Frame.{headOf, limited, finAlone, kvAllowed, kvAnswer, notifyAnswer}
@@ -41,11 +41,11 @@ pub data Example : Type 0 where
   is : ℕ → List ℕ → Example
   reads : List ℕ → Answer ℕ → Example
   values : List ℕ → Answer Record → Example
-  frames : ℕ → Rooms → List ℕ → Reading (Metadata × Contents) → Example
+  frames : ℕ → Rooms → List ℕ → Reading (Head × Contents) → Example
   sizes : ℕ → ℕ → Answer Unit → Example
-  kept : ℕ → Rooms → List ℕ → Again → Reading (Metadata × Contents) → Example
-  kvBack : Head → ℕ → List ℕ → List ℕ → ℕ → List ℕ → Again → Reading (Metadata × Contents) → Example
-  notifyBack : Head → ℕ → List ℕ → List ℕ → ℕ → List ℕ → ℕ → List ℕ → Again → Reading (Metadata × Contents) → Example
+  kept : ℕ → Rooms → List ℕ → Again → Reading (Head × Contents) → Example
+  kvBack : Head → ℕ → List ℕ → List ℕ → ℕ → List ℕ → Again → Reading (Head × Contents) → Example
+  notifyBack : Head → ℕ → List ℕ → List ℕ → ℕ → List ℕ → ℕ → List ℕ → Again → Reading (Head × Contents) → Example
 
 -- what the laws on kept readings, and on frames that are read back, ask for
 abbrev pub noLess : ℕ → Rooms → Again → Bool
@@ -55,7 +55,7 @@ noLess limit rooms again =
 abbrev pub asParameters : Head → ℕ → Bool
 asParameters h limit = ltb (h .stream) (2 ^ 64) && (ltb (h .frame) (2 ^ 64) && ltb limit (2 ^ 32))
 
-abbrev pub readAgain : List ℕ → Again → Reading (Metadata × Contents)
+abbrev pub readAgain : List ℕ → Again → Reading (Head × Contents)
 readAgain bytes again = frameRead (again .limit) (again .rooms) (bytes ++ again .behind)
 
 abbrev pub Holds : Example → Type 0
@@ -66,7 +66,7 @@ Holds (frames limit rooms bytes answer) = frameRead limit rooms bytes ≡ answer
 Holds (sizes theirs ours answer) = frameSize theirs ours ≡ answer
 Holds (kept limit rooms bytes again answer) = (noLess limit rooms again ≡ true) × (frameRead limit rooms bytes ≡ answer) × (readAgain bytes again ≡ answer)
 Holds (kvBack h limit buffer pairs count bytes again answer) =
-    (asParameters h limit && (ltb (h .kind) 101 && finAlone h) ≡ true) × (noLess limit (record { messages = 0; pairs = count }) again ≡ true)
+    (asParameters h limit && (ltb (h .«frame_type») 101 && finAlone h) ≡ true) × (noLess limit (record { messages = 0; pairs = count }) again ≡ true)
     × (kvAnswer h limit buffer pairs count ≡ written bytes) × (readAgain bytes again ≡ answer)
 Holds (notifyBack h limit buffer messages count pairs total bytes again answer) =
     (asParameters h limit ≡ true) × (noLess limit (record { messages = count; pairs = total }) again ≡ true)
@@ -84,23 +84,23 @@ a and b = (a, b)
 -- ---- frames
 
 -- under this limit, with room for two messages and three pairs; and with room for one pair
-abbrev pub frame : List ℕ → Reading (Metadata × Contents) → Example
+abbrev pub frame : List ℕ → Reading (Head × Contents) → Example
 frame bytes answer = frames 1048576 (record { messages = 2; pairs = 3 }) bytes answer
 
-abbrev pub frameInOne : List ℕ → Reading (Metadata × Contents) → Example
+abbrev pub frameInOne : List ℕ → Reading (Head × Contents) → Example
 frameInOne bytes answer = frames 1048576 (record { messages = 2; pairs = 1 }) bytes answer
 
 -- n bytes behind the length bytes: a type, flags, and what comes behind them
 abbrev pub framed : ℕ → ℕ → ℕ → List ℕ → List ℕ
-framed n kind flags rest = 0 ∷ 0 ∷ 0 ∷ n ∷ kind ∷ 0 ∷ 0 ∷ 0 ∷ flags ∷ rest
+framed n type flags rest = 0 ∷ 0 ∷ 0 ∷ n ∷ type ∷ 0 ∷ 0 ∷ 0 ∷ flags ∷ rest
 
 -- the answers: a refusal; and a frame that has FIN alone
-abbrev pub stops : ℕ → ℕ → Reading (Metadata × Contents)
+abbrev pub stops : ℕ → ℕ → Reading (Head × Contents)
 stops number place = answered (refused number place)
 
-abbrev pub accepted : ℕ → ℕ → ℕ → List Message → List Pair → ℕ → Reading (Metadata × Contents)
-accepted kind stream id messages pairs used =
-    answered (done (record { kind = kind; flags = 1; stream = stream; frame = id }, record { messages = messages; pairs = pairs; left = 0 }) used)
+abbrev pub accepted : ℕ → ℕ → ℕ → List Message → List Pair → ℕ → Reading (Head × Contents)
+accepted type stream id messages pairs used =
+    answered (done (record { «frame_type» = type; flags = 1; stream = stream; frame = id }, record { messages = messages; pairs = pairs; left = 0 }) used)
 
 -- records by the numbers of their tables
 abbrev pub aMessage : ℕ → ℕ → ℕ → ℕ → Message
@@ -210,7 +210,7 @@ examples =
 pub marked : All examples
 unfolding more number groups numberBytes string typed shape signExtended fourNumber inOrder some
     rows follow inRange matching rowFor step bySteps lossy sameBytes sameText
-    pair onePair oneMessage toEnd payload lastId ids metadata whole frameFront frameRead frameSize
+    pair onePair oneMessage toEnd payload head cut oneFrame atFront frameRead frameSize
     isUtf8 eachInOrder records joined stringBytes valueBytes fourBytes headBytes frameBytes messageAt pairAt pairBytes newKey
     nameBytes messageBytes limited kvAllowed kvAnswer notifyAnswer
 marked =

@@ -270,8 +270,8 @@ fn room_kept() {
 }
 
 // A frame of this type and these flags, which holds nothing, is refused because of them.
-fn flagged(kind: u8, flags: u8, number: u64) {
-    stops(&[0, 0, 0, 7, kind, 0, 0, 0, flags, 0, 0], number, 4);
+fn flagged(frame_type: u8, flags: u8, number: u64) {
+    stops(&[0, 0, 0, 7, frame_type, 0, 0, 0, flags, 0, 0], number, 4);
 }
 
 fn waits(input: &[u8], missing: u64) {
@@ -347,13 +347,13 @@ fn answer_to(limit: u32, input: &[u8], messages: &mut [u64], pairs: &mut [u64]) 
 fn print_answer(answer: FrameRead) {
     match answer {
         FrameRead::Done {
-            metadata: m,
+            head: m,
             messages,
             pairs,
             used,
         } => {
-            print_number(b"type ", m.kind);
-            print_number(b" flags ", m.flags);
+            print_number(b"type ", m.frame_type as u64);
+            print_number(b" flags ", m.flags as u64);
             print_number(b" stream ", m.stream);
             print_number(b" id ", m.frame);
             print_number(b" messages ", messages as u64);
@@ -379,15 +379,15 @@ fn print_number(name: &[u8], n: u64) {
 fn numbers_of(answer: FrameRead) -> [u64; 8] {
     match answer {
         FrameRead::Done {
-            metadata: m,
+            head: m,
             messages,
             pairs,
             used,
         } => [
             0,
             used as u64,
-            m.kind,
-            m.flags,
+            m.frame_type as u64,
+            m.flags as u64,
             m.stream,
             m.frame,
             messages as u64,

@@ -1,6 +1,6 @@
 -- Laws about what is accepted. A payload takes all of its bytes, and the pairs of a KV list stand one behind the other. A frame of any entry is as long as its
 -- length bytes say, and holds its head and a payload that was read from where it starts.
-use mathlib.Core.Path.{_≡_, refl, sym, ap, subst, _∙_}
+use mathlib.Core.Path.{_≡_, refl, sym, ap, _∙_}
 use mathlib.Core.Bool.{Bool, true, not}
 use mathlib.Core.Logic.{⊎-elim}
 use mathlib.Core.List.{List}
@@ -14,15 +14,17 @@ use Rattle.answer.specs.Answer.{Answer, done, refused, next, behind}
 use Rattle.answer.proofs.Cases.{lt-or-le, answer-cases, not-both}
 use Rattle.frame.specs.Head.{fourNumber}
 use Rattle.parser.specs.declared.Rooms.{Rooms}
-use Rattle.parser.specs.declared.Metadata.{Metadata}
+use Rattle.frame.specs.declared.Head.{Head}
 use Rattle.parser.specs.Payload.{Contents, oneItem, ended, toEnd, payload}
-use Rattle.parser.specs.Frame.{metadata, Entry, whole, answered, front, haproxys, frameRead}
+use Rattle.frame.specs.Read.{answered, head}
+use Rattle.frame.proofs.Cutting.{cut-out}
+use Rattle.frame.proofs.Heads.{head-start}
+use Rattle.parser.specs.Frame.{Entry, oneFrame, atFront, haproxys, frameRead}
 use Rattle.parser.specs.Inner.{Run}
 use Rattle.parser.proofs.Pairs.{done-same}
 use Rattle.parser.proofs.Runs.{run-more}
 use Rattle.parser.proofs.Walk.{pair-says, item-pair, item-next, ended-done, ended-short, ends, payload-ends}
-use Rattle.parser.proofs.Frames.{metadata-start, head-refused, head-done, cut-start, cut-over, cut-wait, cut-whole}
-use Rattle.parser.proofs.Kept.{by-cut, wait-answered, answered-same}
+use Rattle.parser.proofs.Frames.{one-refused, one-done, front-done}
 
 -- ---- payloads
 
@@ -83,74 +85,76 @@ module _ (kv : Bool) (rooms : Rooms) (s : List ℕ) where
 -- ---- frames of any entry
 
 -- what an accepted frame holds, of its own bytes: its head, and the payload behind it, with its records moved by where it starts
-pub record Held {A : Type 0} (x : Entry A) (f : List ℕ) (m : Metadata) (c : A) (used : ℕ) : Type 0 where
+pub record Held {A : Type 0} (x : Entry A) (f : List ℕ) (m : Head) (c : A) (used : ℕ) : Type 0 where
   pub start : ℕ
-  pub head : metadata (x .agents) f ≡ done m start
+  pub head : head (x .side) f ≡ done m start
   pub held : A
   pub end : ℕ
-  pub is : x .payloadOf (m .kind) (drop start f) ≡ done held end
+  pub is : x .payloadOf (m .«frame_type») (drop start f) ≡ done held end
   pub moved : x .moved start held ≡ c
   pub sum : start + end ≡ used
 
 -- and how it stands in the bytes that it was read from
-pub record Cut {A : Type 0} (x : Entry A) (limit : ℕ) (s : List ℕ) (m : Metadata) (c : A) (used : ℕ) : Type 0 where
+pub record Cut {A : Type 0} (x : Entry A) (limit : ℕ) (s : List ℕ) (m : Head) (c : A) (used : ℕ) : Type 0 where
   pub four : 4 ≤ used
   pub there : used ≤ length s
   pub says : used ≡ 4 + fourNumber s
   pub fits : fourNumber s ≤ limit
-  pub is : whole x (take used s) ≡ done (m, c) used
+  pub is : oneFrame x (take used s) ≡ done (m, c) used
   pub holds : Held x (take used s) m c used
 
 module _ {A : Type 0} (x : Entry A) where
   -- a payload that stands there, in its frame
-  abbrev inFrame : Metadata → ℕ → Answer A → Answer (Metadata × A)
+  abbrev inFrame : Head → ℕ → Answer A → Answer (Head × A)
   inFrame m start a = next (behind (x .moved) start a) (λ (c : A) (end : ℕ). done (m, c) end)
 
-  pub whole-holds : (f : List ℕ) (m : Metadata) (c : A) (used : ℕ) → whole x f ≡ done (m, c) used → Held x f m c used
+  pub whole-holds : (f : List ℕ) (m : Head) (c : A) (used : ℕ) → oneFrame x f ≡ done (m, c) used → Held x f m c used
   whole-holds f m c used e =
-      answer-cases (metadata (x .agents) f)
-      (λ n start h. go n start h (x .payloadOf (n .kind) (drop start f)) refl (sym (head-done x f n start h) ∙ e))
-      (λ n place r. not-both e (head-refused x f n place r))
+      answer-cases (head (x .side) f)
+      (λ n start h. go n start h (x .payloadOf (n .«frame_type») (drop start f)) refl (sym (one-done x f n start h) ∙ e))
+      (λ n place r. not-both e (one-refused x f n place r))
     where
-      go : (n : Metadata) (start : ℕ) → metadata (x .agents) f ≡ done n start → (a : Answer A) → x .payloadOf (n .kind) (drop start f) ≡ a
+      go : (n : Head) (start : ℕ) → head (x .side) f ≡ done n start → (a : Answer A) → x .payloadOf (n .«frame_type») (drop start f) ≡ a
           → inFrame n start a ≡ done (m, c) used → Held x f m c used
       go n start h (done d end) is g =
           let o = done-same g in
-          let same : n ≡ m = ap (λ (y : Metadata × A). y .0) (o .0) in
+          let same : n ≡ m = ap (λ (y : Head × A). y .0) (o .0) in
           record {
             start = start;
-            head = h ∙ ap (λ (y : Metadata). done y start) same;
+            head = h ∙ ap (λ (y : Head). done y start) same;
             held = d;
             end = end;
-            is = ap (λ (y : Metadata). x .payloadOf (y .kind) (drop start f)) (sym same) ∙ is;
-            moved = ap (λ (y : Metadata × A). y .1) (o .0);
+            is = ap (λ (y : Head). x .payloadOf (y .«frame_type») (drop start f)) (sym same) ∙ is;
+            moved = ap (λ (y : Head × A). y .1) (o .0);
             sum = o .1;
           }
       go n start h (refused k place) is g = not-both g refl
 
   -- where a payload takes all of its bytes, so does the frame
-  module _ (all : (kind : ℕ) (p : List ℕ) (c : A) (end : ℕ) → x .payloadOf kind p ≡ done c end → end ≡ length p) where
-    pub whole-all : (f : List ℕ) (m : Metadata) (c : A) (used : ℕ) → whole x f ≡ done (m, c) used → used ≡ length f
+  module _ (all : (type : ℕ) (p : List ℕ) (c : A) (end : ℕ) → x .payloadOf type p ≡ done c end → end ≡ length p) where
+    pub whole-all : (f : List ℕ) (m : Head) (c : A) (used : ℕ) → oneFrame x f ≡ done (m, c) used → used ≡ length f
     whole-all f m c used e =
         let h = whole-holds f m c used e in
-        omega (arith, h .sum, all (m .kind) (drop (h .start) f) (h .held) (h .end) (h .is), length-drop (h .start) f, metadata-start (x .agents) f m (h .start) (h .head))
+        omega (arith, h .sum, all (m .«frame_type») (drop (h .start) f) (h .held) (h .end) (h .is), length-drop (h .start) f, head-start (x .side) f m (h .start) (h .head))
 
     -- Law: of the bytes that a frame was read from, it takes those that its length says, which are there.
-    pub front-cut : (limit : ℕ) (s : List ℕ) (m : Metadata) (c : A) (used : ℕ) → front x limit s ≡ answered (done (m, c) used) → Cut x limit s m c used
+    pub front-cut : (limit : ℕ) (s : List ℕ) (m : Head) (c : A) (used : ℕ) → atFront x limit s ≡ answered (done (m, c) used) → Cut x limit s m c used
     front-cut limit s m c used e =
-        by-cut limit s
-        (λ h. wait-answered (sym (cut-start x limit s h) ∙ e))
-        (λ h l. not-both refl (answered-same (sym e ∙ cut-over x limit s h l)))
-        (λ h l w. wait-answered (sym (cut-wait x limit s h l w) ∙ e))
-        (λ h l w.
-        let f = take (4 + fourNumber s) s in
-        let o = answered-same (sym (cut-whole x limit s h l w) ∙ e) in
-        let n : 4 + fourNumber s ≡ used = omega (arith, whole-all f m c used o, length-take-le (4 + fourNumber s) s w) in
-        let is = subst (λ (k : ℕ). whole x (take k s) ≡ done (m, c) used) n o in
-        record { four = omega arith; there = omega arith; says = sym n; fits = l; is = is; holds = whole-holds (take used s) m c used is })
+        let o = front-done x limit s (m, c) used e in
+        let g = cut-out limit s (o .2) in
+        let n : o .1 ≡ used = omega (arith, whole-all (o .0) m c used (o .3), ap length (g .is), length-take-le (o .1) s (g .all)) in
+        let is : oneFrame x (take used s) ≡ done (m, c) used = ap (λ (k : ℕ). oneFrame x (take k s)) (sym n) ∙ ap (oneFrame x) (sym (g .is)) ∙ o .3 in
+        record {
+          four = omega (arith, n, g .says);
+          there = omega (arith, n, g .all);
+          says = sym n ∙ g .says;
+          fits = g .fits;
+          is = is;
+          holds = whole-holds (take used s) m c used is;
+        }
 
 -- Law: so it is with every frame that HAProxy sends.
-pub frame-cut : (limit : ℕ) (rooms : Rooms) (s : List ℕ) (m : Metadata) (c : Contents) (used : ℕ) → frameRead limit rooms s ≡ answered (done (m, c) used)
+pub frame-cut : (limit : ℕ) (rooms : Rooms) (s : List ℕ) (m : Head) (c : Contents) (used : ℕ) → frameRead limit rooms s ≡ answered (done (m, c) used)
     → Cut (haproxys rooms) limit s m c used
 unfolding frameRead
-frame-cut limit rooms s m c used e = front-cut (haproxys rooms) (λ kind p d end is. payload-all (not (eqb kind 3)) rooms p d end is) limit s m c used e
+frame-cut limit rooms s m c used e = front-cut (haproxys rooms) (λ type p d end is. payload-all (not (eqb type 3)) rooms p d end is) limit s m c used e

@@ -1,18 +1,11 @@
 -- Laws about reading what was written: a pair, and a whole frame around its payload. Bytes behind them do not matter.
 use mathlib.Core.Path.{_≡_, refl, sym, ap, ap₂, _∙_}
 use mathlib.Core.Bool.{Bool, true, false, cond}
-use mathlib.Core.Logic.{⊎-elim}
 use mathlib.Core.List.{List, [], _++_, append-assoc}
-use Prim.Native.Nat.{ℕ, zero, suc, _+_, _-_, _^_, _≤_, _<_}
-use native.Mathlib.Omega.{arith}
-use lib.Dec.{eqb}
-use lib.ListN.{length, take, drop, getD, length-append, length-drop, take-append-drop}
-use lib.Seq.{drop-drop, drop-at, take-at, getD-drop, getD-take, length-take-le}
+use Prim.Native.Nat.{ℕ, _+_, _-_, _^_, _≤_, _<_}
+use lib.ListN.{length, take, drop, length-append}
+use lib.Seq.{drop-drop, drop-at}
 use Rattle.answer.specs.Answer.{done, next, behind}
-use Rattle.answer.specs.Table.{some}
-use Rattle.answer.proofs.Cases.{lt-or-le}
-use Rattle.varint.specs.Number.{number, numberBytes}
-use Rattle.varint.proofs.Reading.{accepted, reads-back}
 use Rattle.types.specs.Value.{span, string, Record, value, points, shape, moved, typed}
 use Rattle.types.specs.Form.{part, stringBytes, valueBytes, writableRecord, ranged}
 use Rattle.types.specs.Promise.{recordOf}
@@ -20,15 +13,15 @@ use Rattle.types.proofs.Reading.{typed-accepted-kept}
 use Rattle.types.proofs.Roundtrip.{Meaning, means, meaning, ahead, string-reads-back, read-back}
 use Rattle.frame.specs.declared.Pair.{Pair}
 use Rattle.frame.specs.declared.Head.{Head}
-use Rattle.frame.specs.Head.{fourBytes, fourNumber, flagsOf}
 use Rattle.frame.specs.Records.{keyOf}
-use Rattle.frame.proofs.Laws.{four-says, four-kept, Framed}
+use Rattle.frame.proofs.Laws.{Framed}
+use Rattle.frame.proofs.Back.{Sendable, frame-back as written-back}
 use Rattle.frame.proofs.Meaning.{pairMeaning}
-use Rattle.parser.specs.declared.Metadata.{Metadata}
 use Rattle.parser.specs.Pair.{pairOf, movedPair, pair}
-use Rattle.parser.specs.Frame.{frameTypes, sentBy, ids, metadata, Entry, whole as whole-frame, answered, front}
+use Rattle.frame.specs.Read.{answered}
+use Rattle.parser.specs.Frame.{Entry, atFront}
 use Rattle.parser.proofs.Pairs.{done-same, pair-whole}
-use Rattle.parser.proofs.Frames.{ids-on, last-done, metadata-ids, head-done, cut-whole}
+use Rattle.parser.proofs.Frames.{one-done, front-whole}
 
 -- ---- what is moved means the same
 
@@ -101,110 +94,24 @@ module _ (buffer k : List ℕ) (v : Record) (small : length k < 2 ^ 64) (fields 
 
 -- ---- a frame around its payload
 
--- the metadata that a head with FIN alone reads as
-abbrev pub metadataOf : Head → Metadata
-metadataOf h = record { kind = h .kind; flags = 1; stream = h .stream; frame = h .frame }
-
--- a type that this side sends, with FIN alone and two numbers of 64 bits
-pub record Readable (agents : Bool) (h : Head) : Type 0 where
-  pub known : some (eqb (h .kind)) frameTypes ≡ true
-  pub sent : sentBy agents (h .kind) ≡ true
-  pub fin : h .fin ≡ true
-  pub abort : h .abort ≡ false
-  pub stream : h .stream < 2 ^ 64
-  pub frame : h .frame < 2 ^ 64
-
--- Such a frame, with t behind it, is read as its metadata, and then as its payload where that starts.
+-- A frame that was written, with t behind it, is read as its head, and then as its payload where that starts.
 pub record FrameBack {A : Type 0} (x : Entry A) (h : Head) (p bytes : List ℕ) (limit : ℕ) (t : List ℕ) : Type 0 where
   pub start : ℕ
   pub there : drop start bytes ≡ p
   pub long : start + length p ≡ length bytes
-  pub reads : front x limit (bytes ++ t) ≡ answered (next (behind (x .moved) start (x .payloadOf (h .kind) p)) (λ (c : A) (end : ℕ). done (metadataOf h, c) end))
+  pub reads : atFront x limit (bytes ++ t) ≡ answered (next (behind (x .moved) start (x .payloadOf (h .«frame_type») p)) (λ (c : A) (end : ℕ). done (h, c) end))
 
--- the types that HAProxy sends, and those that agents send, are known
-pub known-low : (k : ℕ) → 1 ≤ k → k ≤ 3 → some (eqb k) frameTypes ≡ true
-unfolding some
-known-low zero h l = absurd (omega arith)
-known-low (suc zero) h l = refl
-known-low (suc (suc zero)) h l = refl
-known-low (suc (suc (suc zero))) h l = refl
-known-low (suc (suc (suc (suc k)))) h l = absurd (omega arith)
-
-pub known-high : (k : ℕ) → 101 ≤ k → k ≤ 103 → some (eqb k) frameTypes ≡ true
-unfolding some
-known-high k h l =
-    ⊎-elim (λ a. let e : k ≡ 101 = omega arith in rw e refl)
-    (λ a. ⊎-elim (λ b. let e : k ≡ 102 = omega arith in rw e refl) (λ b. let e : k ≡ 103 = omega arith in rw e refl) (lt-or-le k 103))
-    (lt-or-le k 102)
-
--- four bytes at the front, of which the number is known
-four-front : (s : List ℕ) (n : ℕ) → 4 ≤ length s → fourNumber (take 4 s) ≡ n → fourNumber s ≡ n
-four-front s n h e =
-    ap fourNumber (sym (take-append-drop 4 s)) ∙ four-kept (take 4 s) (drop 4 s) (omega (arith, length-take-le 4 s h)) ∙ e
-
-module _ (agents : Bool) (h : Head) (limit : ℕ) (p bytes : List ℕ) (f : Framed h limit p bytes) (r : Readable agents h) where
-  abbrev first : List ℕ
-  first = numberBytes (h .stream)
-
-  abbrev second : List ℕ
-  second = numberBytes (h .frame)
-
-  abbrev start : ℕ
-  start = 9 + length first + length second
-
-  number-first : number (drop 9 bytes) ≡ done (h .stream) (length first)
-  number-first = ap number (f .rest) ∙ reads-back (h .stream) (second ++ p) (r .stream)
-
-  behind-first : drop (9 + length first) bytes ≡ second ++ p
-  behind-first = sym (drop-drop (length first) 9 bytes) ∙ ap (drop (length first)) (f .rest) ∙ drop-at first (second ++ p) (length first) refl
-
-  number-second : number (drop (9 + length first) bytes) ≡ done (h .frame) (length second)
-  number-second = ap number behind-first ∙ reads-back (h .frame) p (r .frame)
-
-  behind-second : drop start bytes ≡ p
-  behind-second = sym (drop-drop (length second) (9 + length first) bytes) ∙ ap (drop (length second)) behind-first ∙ drop-at second p (length second) refl
-
-  long : (9 < length bytes) × (start + length p ≡ length bytes)
-  long =
-      let all = length-append first (second ++ p) in
-      let rest = length-append second p in
-      let cut = length-drop 9 bytes in
-      let is : length (drop 9 bytes) ≡ length (first ++ (second ++ p)) = ap length (f .rest) in
-      let one = accepted (drop 9 bytes) (h .stream) (length first) number-first .0 in
-      (omega arith, omega arith)
-
-  kind-is : getD bytes 4 0 ≡ h .kind
-  kind-is = sym (getD-drop 4 bytes 0 0) ∙ sym (getD-take 1 (drop 4 bytes) 0 0 (omega arith)) ∙ ap (λ (l : List ℕ). getD l 0 0) (f .type)
-
-  flags-are : fourNumber (drop 5 bytes) ≡ 1
-  flags-are =
-      four-front (drop 5 bytes) 1 (omega (arith, length-drop 5 bytes, long .0))
-      (ap fourNumber (f .flags) ∙ ap₂ (λ (a b : Bool). fourNumber (fourBytes (flagsOf a b))) (r .fin) (r .abort) ∙ four-says 1 (omega arith))
-
-  metadata-back : metadata agents bytes ≡ done (metadataOf h) start
-  metadata-back =
-      metadata-ids agents bytes (omega (arith, long .0)) (rw kind-is (r .known)) (omega (arith, long .0)) flags-are
-      ∙ ap₂ (λ (k n : ℕ). ids agents k n bytes) kind-is flags-are
-      ∙ ids-on agents (h .kind) 1 bytes (h .stream) (length first) number-first
-      ∙ last-done agents (h .kind) 1 (h .stream) (9 + length first) bytes (h .frame) (length second) number-second (r .sent)
-
--- Law: it is, by any entry for that side's frames.
-pub frame-back : {A : Type 0} (x : Entry A) (h : Head) (limit : ℕ) (p bytes : List ℕ) → Framed h limit p bytes → Readable (x .agents) h
+-- Law: it is, by any entry for the frames of a side that may send it.
+pub frame-back : {A : Type 0} (x : Entry A) (h : Head) (limit : ℕ) (p bytes : List ℕ) → Framed h limit p bytes → Sendable (x .side) h
     → (higher : ℕ) → limit ≤ higher → (t : List ℕ) → FrameBack x h p bytes higher t
 frame-back {A} x h limit p bytes f r higher up t =
-    let n = long (x .agents) h limit p bytes f r in
-    let says : fourNumber bytes ≡ length (drop 4 bytes) = four-front bytes _ (omega (arith, n .0)) (f .says) in
-    let same = four-kept bytes t (omega (arith, n .0)) in
-    let cut = length-drop 4 bytes in
-    let all = length-append bytes t in
-    let at = start (x .agents) h limit p bytes f r in
+    let b = written-back (x .side) h limit p bytes f r higher up t in
     record {
-      start = at;
-      there = behind-second (x .agents) h limit p bytes f r;
-      long = n .1;
+      start = b .start;
+      there = b .there;
+      long = b .long;
       reads =
-          cut-whole x higher (bytes ++ t) (omega (arith, n .0)) (omega (arith, f .fits)) (omega (arith, n .0))
-          ∙ ap (λ (l : List ℕ). answered (whole-frame x l)) (take-at bytes t (4 + fourNumber (bytes ++ t)) (omega (arith, n .0)))
-          ∙ ap answered (head-done x bytes (metadataOf h) at (metadata-back (x .agents) h limit p bytes f r))
-          ∙ ap (λ (l : List ℕ). answered (next (behind (x .moved) at (x .payloadOf (h .kind) l)) (λ (c : A) (end : ℕ). done (metadataOf h, c) end))) (behind-second (x .agents) h limit p bytes f r);
+          front-whole x higher (bytes ++ t) bytes (length bytes) (b .cuts)
+          ∙ ap answered (one-done x bytes h (b .start) (b .reads))
+          ∙ ap (λ (l : List ℕ). answered (next (behind (x .moved) (b .start) (x .payloadOf (h .«frame_type») l)) (λ (c : A) (end : ℕ). done (h, c) end))) (b .there);
     }

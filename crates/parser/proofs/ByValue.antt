@@ -13,9 +13,11 @@ use Rattle.frame.specs.declared.Pair.{Pair}
 use Rattle.frame.specs.Records.{pairNumbers}
 use Rattle.parser.specs.declared.Few.{Few}
 use Rattle.parser.specs.declared.Rooms.{Rooms}
-use Rattle.parser.specs.declared.Metadata.{Metadata}
+use Rattle.frame.specs.declared.Head.{Head}
 use Rattle.parser.specs.Payload.{Contents, payload}
-use Rattle.parser.specs.Frame.{metadata, frameRead}
+use Rattle.frame.specs.declared.Side.the-variants as side
+use Rattle.frame.specs.Read.{sender, head}
+use Rattle.parser.specs.Frame.{frameRead}
 use Rattle.parser.specs.Promise.{Fills, contentsRead, fewOf, pairsRead, roomForFew}
 use Rattle.parser.specs.Inner.{fewIn, wholeFrame}
 use Rattle.parser.proofs.Frames.{whole-payload, inFrame}
@@ -61,8 +63,8 @@ few-read limit input messages after pairs h =
     ap fewIn (h .pairs) ∙ few-left (contentsRead (frameRead limit (roomForFew messages) input)) (few-fit limit messages input)
 
 -- A NOTIFY that was cut out has messages.
-pub few-cut : (rooms : Rooms) (f : List ℕ) (m : Metadata) (start : ℕ) → metadata false f ≡ done m start → m .kind ≡ 3
+pub few-cut : (rooms : Rooms) (f : List ℕ) (m : Head) (start : ℕ) → head (sender side.HAProxy) f ≡ done m start → m .«frame_type» ≡ 3
     → wholeFrame rooms f ≡ inFrame m start (payload false rooms (take (length f - start) (drop start f)))
-few-cut rooms f m start e kind =
+few-cut rooms f m start e notify =
     whole-payload rooms f m start e
-    ∙ ap₂ (λ (n : ℕ) (l : List ℕ). inFrame m start (payload (not (eqb n 3)) rooms l)) kind (sym (lent-tail start f))
+    ∙ ap₂ (λ (n : ℕ) (l : List ℕ). inFrame m start (payload (not (eqb n 3)) rooms l)) notify (sym (lent-tail start f))

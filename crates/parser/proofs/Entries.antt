@@ -7,16 +7,18 @@ use lib.Seq.{take-at, drop-at}
 use Rattle.answer.specs.Answer.{done, refused, next, written, leaves}
 use Rattle.answer.specs.Table.{joined}
 use Rattle.frame.specs.Records.{messageWidth, messageNumbers, pairWidth, pairNumbers}
-use Rattle.parser.specs.declared.Metadata.{Metadata}
+use Rattle.frame.specs.declared.Head.{Head}
 use Rattle.parser.specs.declared.FrameRead.{FrameRead}
 use Rattle.parser.specs.declared.FrameRead.the-variants as f
 use Rattle.parser.specs.Payload.{Contents}
-use Rattle.parser.specs.Frame.{Reading, wait, answered, frameRead}
+use Rattle.frame.specs.Read.{Reading, wait, answered}
+use Rattle.parser.specs.Frame.{frameRead}
 use Rattle.parser.specs.Promise.{Counts, countsOf, frameSaid, frameTells, roomsOf, contentsRead, ReadFrame}
 use Rattle.answer.proofs.Cases.{not-both}
 use Rattle.parser.proofs.Pairs.{done-same}
 use Rattle.parser.proofs.Filling.{joined-width}
-use Rattle.parser.proofs.Kept.{Larger, wait-answered, answered-same, accepted-kept}
+use Rattle.frame.proofs.Answers.{wait-answered, answered-same}
+use Rattle.parser.proofs.Kept.{Larger, accepted-kept}
 use Rattle.parser.proofs.Unique.{frame-same}
 
 -- A table that records of one width were left in has them at the front, and behind them what it had.
@@ -29,21 +31,21 @@ left-in numbers width each xs n is old new e =
     )
 
 -- what a frame is that is said to be accepted
-pub said-done : (x : Reading (Metadata × Contents)) (m : Metadata) (k : Counts) (used : ℕ) → answered (done (m, k) used) ≡ frameTells x
+pub said-done : (x : Reading (Head × Contents)) (m : Head) (k : Counts) (used : ℕ) → answered (done (m, k) used) ≡ frameTells x
     → (c : Contents) × (x ≡ answered (done (m, c) used)) × (countsOf c ≡ k)
 said-done (wait n) m k used e = wait-answered (sym e)
 said-done (answered (done (m′, c) u)) m k used e =
     let o = done-same (answered-same e) in
-    let same : m ≡ m′ = ap (λ (y : Metadata × Counts). y .0) (o .0) in
-    let counts : k ≡ countsOf c = ap (λ (y : Metadata × Counts). y .1) (o .0) in
-    (c, ap₂ (λ (y : Metadata) (n : ℕ). answered (done (y, c) n)) (sym same) (sym (o .1)), sym counts)
+    let same : m ≡ m′ = ap (λ (y : Head × Counts). y .0) (o .0) in
+    let counts : k ≡ countsOf c = ap (λ (y : Head × Counts). y .1) (o .0) in
+    (c, ap₂ (λ (y : Head) (n : ℕ). answered (done (y, c) n)) (sym same) (sym (o .1)), sym counts)
 said-done (answered (refused n place)) m k used e = not-both refl (answered-same e)
 
 -- A call that is done with some counts, and the same call with bytes appended, under a limit no lower and with rooms no smaller.
 module _ (limit higher : ℕ) (up : limit ≤ higher) (s t : List ℕ) (r q : FrameRead) (messages newMessages pairs newPairs others newOthers more newMore : List ℕ)
     (one : ReadFrame s limit r messages newMessages pairs newPairs) (two : ReadFrame (s ++ t) higher q others newOthers more newMore)
     (larger : Larger (roomsOf messages pairs) (roomsOf others more))
-    (m : Metadata) (i j used : ℕ) (is : r ≡ f.Done m i j used) where
+    (m : Head) (i j used : ℕ) (is : r ≡ f.Done m i j used) where
   found : (c : Contents) × (frameRead limit (roomsOf messages pairs) s ≡ answered (done (m, c) used)) × (countsOf c ≡ (i, j))
   found = said-done (frameRead limit (roomsOf messages pairs) s) m (i, j) used (ap frameSaid (sym is) ∙ one .says)
 
@@ -60,10 +62,10 @@ module _ (limit higher : ℕ) (up : limit ≤ higher) (s t : List ℕ) (r q : Fr
       let pairCount : length (c .pairs) ≡ j = ap (λ (k : Counts). k .1) (found .2) in
       let first = left-in messageNumbers messageWidth (λ x. refl) (c .messages) i rowCount in
       let second = left-in pairNumbers pairWidth (λ x. refl) (c .pairs) j pairCount in
-      let before = first messages newMessages (one .fills .messages ∙ ap (λ (x : Reading (Metadata × Contents)). leaves (next (contentsRead x) (λ (d : Contents) (n : ℕ). written (joined messageNumbers (d .messages)))) messages) (found .1)) in
-      let after = first others newOthers (two .fills .messages ∙ ap (λ (x : Reading (Metadata × Contents)). leaves (next (contentsRead x) (λ (d : Contents) (n : ℕ). written (joined messageNumbers (d .messages)))) others) again) in
-      let was = second pairs newPairs (one .fills .pairs ∙ ap (λ (x : Reading (Metadata × Contents)). leaves (next (contentsRead x) (λ (d : Contents) (n : ℕ). written (joined pairNumbers (d .pairs)))) pairs) (found .1)) in
-      let now = second more newMore (two .fills .pairs ∙ ap (λ (x : Reading (Metadata × Contents)). leaves (next (contentsRead x) (λ (d : Contents) (n : ℕ). written (joined pairNumbers (d .pairs)))) more) again) in (
+      let before = first messages newMessages (one .fills .messages ∙ ap (λ (x : Reading (Head × Contents)). leaves (next (contentsRead x) (λ (d : Contents) (n : ℕ). written (joined messageNumbers (d .messages)))) messages) (found .1)) in
+      let after = first others newOthers (two .fills .messages ∙ ap (λ (x : Reading (Head × Contents)). leaves (next (contentsRead x) (λ (d : Contents) (n : ℕ). written (joined messageNumbers (d .messages)))) others) again) in
+      let was = second pairs newPairs (one .fills .pairs ∙ ap (λ (x : Reading (Head × Contents)). leaves (next (contentsRead x) (λ (d : Contents) (n : ℕ). written (joined pairNumbers (d .pairs)))) pairs) (found .1)) in
+      let now = second more newMore (two .fills .pairs ∙ ap (λ (x : Reading (Head × Contents)). leaves (next (contentsRead x) (λ (d : Contents) (n : ℕ). written (joined pairNumbers (d .pairs)))) more) again) in (
         frame-same q (f.Done m i j used) (two .says ∙ ap frameTells again ∙ ap (λ (k : Counts). answered (done (m, k) used)) (found .2)),
         after .0 ∙ sym (before .0),
         after .1,

@@ -1,28 +1,27 @@
 -- Laws about room: what is accepted has no more messages and pairs than there is room for.
-use mathlib.Core.Path.{_≡_, refl, sym, ap, _∙_}
-use mathlib.Core.Bool.{Bool, false, _||_, not}
+use mathlib.Core.Path.{_≡_, sym, _∙_}
+use mathlib.Core.Bool.{Bool, _||_, not}
 use mathlib.Core.Logic.{⊎-elim}
 use mathlib.Core.List.{List, [], _∷_}
-use Prim.Native.Nat.{ℕ, zero, suc, _+_, _≤_, _<_}
+use Prim.Native.Nat.{ℕ, zero, suc, _≤_, _<_}
 use native.Mathlib.Omega.{arith}
 use lib.Dec.{ltb, eqb}
-use lib.ListN.{length, take, drop, getD, length-append}
+use lib.ListN.{length, drop, getD, length-append}
 use borrow.Author.Tests.{lt-ltb, le-ltb}
 use Rattle.answer.specs.Answer.{Answer, done, refused, behind}
-use Rattle.answer.proofs.Cases.{lt-or-le, bool-cases, answer-cases, not-both}
+use Rattle.answer.proofs.Cases.{lt-or-le, bool-cases, answer-cases}
 use Rattle.types.specs.Value.{Span, span}
-use Rattle.frame.specs.Head.{fourNumber}
 use Rattle.parser.specs.declared.Rooms.{Rooms}
-use Rattle.parser.specs.declared.Metadata.{Metadata}
 use Rattle.parser.specs.Pair.{movedPair}
 use Rattle.parser.specs.Payload.{Contents, withMessage, oneItem, ended, toEnd, payload, movedContents, movedMessage}
-use Rattle.parser.specs.Frame.{Reading, answered, metadata, frameRead}
+use Rattle.frame.specs.declared.Side.the-variants as side
+use Rattle.frame.specs.Read.{answered, cut, sender, head}
+use Rattle.frame.proofs.Answers.{reading-cases}
+use Rattle.parser.specs.Frame.{frameRead}
 use Rattle.parser.specs.Inner.{wholeFrame}
 use Rattle.parser.specs.Promise.{contentsRead}
-use Rattle.parser.proofs.Pairs.{done-same}
 use Rattle.parser.proofs.Walk.{pair-says, message-says, item-pair, item-message, ended-done, ended-short}
-use Rattle.parser.proofs.Frames.{length-map, frame-start, frame-over, frame-wait, frame-whole, whole-payload, whole-refused, inFrame, frame-contents}
-use Rattle.parser.proofs.Kept.{by-cut}
+use Rattle.parser.proofs.Frames.{length-map, frame-wait, frame-over, frame-whole, whole-payload, whole-refused, frame-contents}
 
 abbrev pub Fit : Rooms → Contents → Type 0
 Fit rooms c = (length (c .messages) ≤ rooms .messages) × (length (c .pairs) ≤ rooms .pairs)
@@ -79,17 +78,16 @@ fit-moved rooms start (refused n place) h = tt
 
 whole-fit : (rooms : Rooms) (f : List ℕ) → Fits rooms (contentsRead (answered (wholeFrame rooms f)))
 whole-fit rooms f =
-    answer-cases (metadata false f)
+    answer-cases (head (sender side.HAProxy) f)
     (λ m start e.
-    let p = payload (not (eqb (m .kind) 3)) rooms (drop start f) in
-    rw (whole-payload rooms f m start e, frame-contents m (behind movedContents start p)) (fit-moved rooms start p (payload-fit (not (eqb (m .kind) 3)) rooms (drop start f))))
+    let p = payload (not (eqb (m .«frame_type») 3)) rooms (drop start f) in
+    rw (whole-payload rooms f m start e, frame-contents m (behind movedContents start p)) (fit-moved rooms start p (payload-fit (not (eqb (m .«frame_type») 3)) rooms (drop start f))))
     (λ n place e. rw (whole-refused rooms f n place e) tt)
 
 -- Law: what a frame holds that is accepted has room.
 pub frame-fits : (limit : ℕ) (rooms : Rooms) (s : List ℕ) → Fits rooms (contentsRead (frameRead limit rooms s))
 frame-fits limit rooms s =
-    by-cut limit s
-    (λ h. rw (frame-start limit rooms s h) tt)
-    (λ h l. rw (frame-over limit rooms s h l) tt)
-    (λ h l w. rw (frame-wait limit rooms s h l w) tt)
-    (λ h l w. rw (frame-whole limit rooms s h l w) (whole-fit rooms (take (4 + fourNumber s) s)))
+    reading-cases (cut limit s)
+    (λ n e. rw (frame-wait limit rooms s n e) tt)
+    (λ n place e. rw (frame-over limit rooms s n place e) tt)
+    (λ f end e. rw (frame-whole limit rooms s f end e) (whole-fit rooms f))

@@ -1,204 +1,100 @@
--- Laws about reading a frame: what each step of its metadata comes to, and what the whole does.
+-- Laws about reading a frame: what the whole comes to, by its cut, its head and its payload.
 use mathlib.Core.Path.{_≡_, refl, sym, ap, ap₂, _∙_}
-use mathlib.Core.Bool.{Bool, true, false, cond, not, _&&_}
-use mathlib.Core.Logic.{⊎-elim}
+use mathlib.Core.Bool.{Bool, true, false, cond, not}
+use mathlib.Core.Logic.{_⊎_}
 use mathlib.Core.List.{List, [], _∷_, map}
-use Prim.Native.Nat.{ℕ, suc, _+_, _-_, _/_, _%_, _≤_, _<_}
+use Prim.Native.Nat.{ℕ, suc, _+_}
 use native.Mathlib.Omega.{arith}
-use lib.Dec.{ltb, leb, eqb}
-use lib.ListN.{length, take, drop, getD, length-drop}
-use borrow.Author.Tests.{lt-ltb, le-ltb, le-leb, lt-leb, ne-eqb, eqb-true, eqb-false}
+use lib.Dec.{eqb}
+use lib.ListN.{length, drop}
 use Rattle.answer.specs.Answer.{Answer, done, refused, next, behind}
-use Rattle.answer.specs.Order.{inOrder}
-use Rattle.answer.specs.Table.{some}
-use Rattle.answer.proofs.Cases.{lt-or-le, bool-cases, answer-cases, not-both}
-use Rattle.varint.specs.Number.{number}
-use Rattle.varint.proofs.Reading.{accepted, number-place}
+use Rattle.answer.proofs.Cases.{not-both}
 use Rattle.types.specs.Value.{span, value, points, shape}
+use Rattle.frame.specs.declared.Head.{Head}
+use Rattle.frame.specs.declared.Side.the-variants as side
 use Rattle.frame.specs.declared.Pair.{Pair}
 use Rattle.frame.specs.declared.Message.{Message}
-use Rattle.frame.specs.Head.{fourNumber}
+use Rattle.frame.specs.Read.{wait, answered, cut, sender, head}
+use Rattle.frame.proofs.Answers.{onward-waits, onward-done, onward-refused}
 use Rattle.parser.specs.declared.Rooms.{Rooms}
-use Rattle.parser.specs.declared.Metadata.{Metadata}
 use Rattle.parser.specs.Pair.{pairOf, movedPair}
 use Rattle.parser.specs.Payload.{Contents, payload, movedMessage, movedContents}
-use Rattle.parser.specs.Frame.{frameTypes, same, sentBy, lastId, ids, metadata, Entry, whole, Reading, wait, answered, front, haproxys, frameRead}
+use Rattle.parser.specs.Frame.{Entry, oneFrame, atFront, haproxys, frameRead}
 use Rattle.parser.specs.Inner.{wholeFrame}
 use Rattle.parser.specs.Promise.{Counts, countsOf, payloadTells, frameTells, contentsRead, Fills}
 use Rattle.parser.proofs.Walk.{ends}
 use Rattle.parser.proofs.Pairs.{done-same, refused-same}
 
--- ---- the numbers
-
-module _ (agents : Bool) (kind flags stream at : ℕ) (f : List ℕ) where
-  pub last-refused : (n place : ℕ) → number (drop at f) ≡ refused n place → lastId agents kind flags stream at f ≡ refused n (at + place)
-  unfolding lastId
-  last-refused n place e = rw e
-
-  module _ (n used : ℕ) (e : number (drop at f) ≡ done n used) where
-    pub last-other : sentBy agents kind ≡ false → lastId agents kind flags stream at f ≡ refused 6 4
-    unfolding lastId inOrder
-    last-other h = rw e (rw h)
-
-    pub last-done : sentBy agents kind ≡ true → lastId agents kind flags stream at f ≡ done (record { kind = kind; flags = flags; stream = stream; frame = n }) (at + used)
-    unfolding lastId inOrder
-    last-done h = rw e (rw h)
-
-  -- Law: the payload starts within the frame.
-  pub last-start : at ≤ length f → (m : Metadata) (start : ℕ) → lastId agents kind flags stream at f ≡ done m start → start ≤ length f
-  last-start there m start e =
-      answer-cases (number (drop at f))
-      (λ n used d.
-      bool-cases (sentBy agents kind)
-      (λ h. let o = done-same (sym (last-done n used d h) ∙ e) .1 in omega (arith, accepted (drop at f) n used d, length-drop at f))
-      (λ h. not-both e (last-other n used d h)))
-      (λ n place r. not-both e (last-refused n place r))
-
-module _ (agents : Bool) (kind flags : ℕ) (f : List ℕ) where
-  pub ids-refused : (n place : ℕ) → number (drop 9 f) ≡ refused n place → ids agents kind flags f ≡ refused n (9 + place)
-  unfolding ids
-  ids-refused n place e = rw e
-
-  pub ids-on : (n used : ℕ) → number (drop 9 f) ≡ done n used → ids agents kind flags f ≡ lastId agents kind flags n (9 + used) f
-  unfolding ids
-  ids-on n used e = rw e
-
-  pub ids-start : 9 ≤ length f → (m : Metadata) (start : ℕ) → ids agents kind flags f ≡ done m start → start ≤ length f
-  ids-start there m start e =
-      answer-cases (number (drop 9 f))
-      (λ n used d.
-      last-start agents kind flags n (9 + used) f (omega (arith, accepted (drop 9 f) n used d, length-drop 9 f)) m start (sym (ids-on n used d) ∙ e))
-      (λ n place r. not-both e (ids-refused n place r))
-
--- ---- the order
-
--- flags that are neither FIN alone nor FIN with ABORT
-flags-none : (n : ℕ) → (n ≡ 1 → ⊥) → (n ≡ 3 → ⊥) → eqb (n % 2) 1 && ltb n 4 ≡ false
-flags-none n one three =
-    ⊎-elim
-    (λ h. rw (ne-eqb (n % 2) 1 (λ e. by-odd h e)))
-    (λ h. bool-cases (eqb (n % 2) 1) (λ t. rw (t, le-ltb n 4 h)) (λ t. rw t))
-    (lt-or-le n 4)
-  where
-    by-odd : n < 4 → n % 2 ≡ 1 → ⊥
-    by-odd h e = ⊎-elim (λ l. one (omega arith)) (λ l. three (omega arith)) (lt-or-le n 2)
-
-module _ (agents : Bool) (f : List ℕ) where
-  pub metadata-none : length f ≤ 4 → metadata agents f ≡ refused 3 4
-  unfolding metadata inOrder
-  metadata-none h = rw (le-ltb 4 (length f) h)
-
-  module _ (h : 4 < length f) where
-    pub metadata-type : some (eqb (getD f 4 0)) frameTypes ≡ false → metadata agents f ≡ refused 4 4
-    unfolding metadata inOrder
-    metadata-type t = rw (lt-ltb 4 (length f) h, t)
-
-    module _ (t : some (eqb (getD f 4 0)) frameTypes ≡ true) where
-      pub metadata-short : length f < 9 → metadata agents f ≡ refused 3 5
-      unfolding metadata inOrder
-      metadata-short l = rw (lt-ltb 4 (length f) h, t, lt-leb 9 (length f) l)
-
-      module _ (l : 9 ≤ length f) where
-        pub metadata-flags : (fourNumber (drop 5 f) ≡ 1 → ⊥) → (fourNumber (drop 5 f) ≡ 3 → ⊥) → metadata agents f ≡ refused 4 4
-        unfolding metadata inOrder
-        metadata-flags one three = rw (lt-ltb 4 (length f) h, t, le-leb 9 (length f) l, flags-none (fourNumber (drop 5 f)) one three)
-
-        pub metadata-abort : fourNumber (drop 5 f) ≡ 3 → metadata agents f ≡ refused 5 4
-        unfolding metadata inOrder
-        metadata-abort e = rw (lt-ltb 4 (length f) h, t, le-leb 9 (length f) l, e)
-
-        pub metadata-ids : fourNumber (drop 5 f) ≡ 1 → metadata agents f ≡ ids agents (getD f 4 0) (fourNumber (drop 5 f)) f
-        unfolding metadata inOrder
-        metadata-ids e = rw (lt-ltb 4 (length f) h, t, le-leb 9 (length f) l, e)
-
--- Law: the payload starts within the frame.
-pub metadata-start : (agents : Bool) (f : List ℕ) (m : Metadata) (start : ℕ) → metadata agents f ≡ done m start → start ≤ length f
-metadata-start agents f m start e =
-    ⊎-elim
-    (λ h.
-    bool-cases (some (eqb (getD f 4 0)) frameTypes)
-    (λ t.
-    ⊎-elim
-    (λ l. not-both e (metadata-short agents f h t l))
-    (λ l. by-flags h t l (fourNumber (drop 5 f)) refl)
-    (lt-or-le (length f) 9))
-    (λ t. not-both e (metadata-type agents f h t)))
-    (λ h. not-both e (metadata-none agents f h))
-    (lt-or-le 4 (length f))
-  where
-    by-flags : 4 < length f → some (eqb (getD f 4 0)) frameTypes ≡ true → 9 ≤ length f → (n : ℕ) → fourNumber (drop 5 f) ≡ n → start ≤ length f
-    by-flags h t l n is =
-        bool-cases (eqb n 1)
-        (λ one. ids-start agents (getD f 4 0) (fourNumber (drop 5 f)) f l m start (sym (metadata-ids agents f h t l (is ∙ eqb-true n 1 one)) ∙ e))
-        (λ one.
-        bool-cases (eqb n 3)
-        (λ three. not-both e (metadata-abort agents f h t l (is ∙ eqb-true n 3 three)))
-        (λ three. not-both e (metadata-flags agents f h t l (λ z. eqb-false n 1 one (sym is ∙ z)) (λ z. eqb-false n 3 three (sym is ∙ z)))))
-
 -- ---- the whole frame
 
 -- of any entry
 module _ {A : Type 0} (x : Entry A) (f : List ℕ) where
-  pub head-refused : (n place : ℕ) → metadata (x .agents) f ≡ refused n place → whole x f ≡ refused n place
-  unfolding whole
-  head-refused n place e = rw e
+  pub one-refused : (n place : ℕ) → head (x .side) f ≡ refused n place → oneFrame x f ≡ refused n place
+  unfolding oneFrame
+  one-refused n place e = rw e
 
-  pub head-done : (m : Metadata) (start : ℕ) → metadata (x .agents) f ≡ done m start
-      → whole x f ≡ next (behind (x .moved) start (x .payloadOf (m .kind) (drop start f))) (λ (c : A) (end : ℕ). done (m, c) end)
-  unfolding whole
-  head-done m start e = rw e
+  pub one-done : (m : Head) (start : ℕ) → head (x .side) f ≡ done m start
+      → oneFrame x f ≡ next (behind (x .moved) start (x .payloadOf (m .«frame_type») (drop start f))) (λ (c : A) (end : ℕ). done (m, c) end)
+  unfolding oneFrame
+  one-done m start e = rw e
 
 module _ (rooms : Rooms) (f : List ℕ) where
-  pub whole-refused : (n place : ℕ) → metadata false f ≡ refused n place → wholeFrame rooms f ≡ refused n place
+  pub whole-refused : (n place : ℕ) → head (sender side.HAProxy) f ≡ refused n place → wholeFrame rooms f ≡ refused n place
   unfolding wholeFrame
-  whole-refused n place e = head-refused (haproxys rooms) f n place e
+  whole-refused n place e = one-refused (haproxys rooms) f n place e
 
-  module _ (m : Metadata) (start : ℕ) (e : metadata false f ≡ done m start) where
-    pub whole-payload : wholeFrame rooms f
-        ≡ next (behind movedContents start (payload (not (eqb (m .kind) 3)) rooms (drop start f))) (λ (c : Contents) (end : ℕ). done (m, c) end)
-    unfolding wholeFrame
-    whole-payload = head-done (haproxys rooms) f m start e
+  pub whole-payload : (m : Head) (start : ℕ) → head (sender side.HAProxy) f ≡ done m start
+      → wholeFrame rooms f ≡ next (behind movedContents start (payload (not (eqb (m .«frame_type») 3)) rooms (drop start f))) (λ (c : Contents) (end : ℕ). done (m, c) end)
+  unfolding wholeFrame
+  whole-payload m start e = one-done (haproxys rooms) f m start e
 
--- ---- the cut
+-- ---- the frame at the front
 
--- of any entry
+-- of any entry, by what the cut answers; and what the cut answered
 module _ {A : Type 0} (x : Entry A) (limit : ℕ) (s : List ℕ) where
-  pub cut-start : length s < 4 → front x limit s ≡ wait (4 - length s)
-  unfolding front inOrder
-  cut-start h = rw (lt-leb 4 (length s) h)
+  pub front-wait : (n : ℕ) → cut limit s ≡ wait n → atFront x limit s ≡ wait n
+  unfolding atFront
+  front-wait n e = rw e
 
-  module _ (h : 4 ≤ length s) where
-    pub cut-over : limit < fourNumber s → front x limit s ≡ answered (refused 2 4)
-    unfolding front inOrder
-    cut-over l = rw (le-leb 4 (length s) h, lt-leb (fourNumber s) limit l)
+  pub front-over : (n place : ℕ) → cut limit s ≡ answered (refused n place) → atFront x limit s ≡ answered (refused n place)
+  unfolding atFront
+  front-over n place e = rw e
 
-    module _ (l : fourNumber s ≤ limit) where
-      pub cut-wait : length s < 4 + fourNumber s → front x limit s ≡ wait (4 + fourNumber s - length s)
-      unfolding front inOrder
-      cut-wait w = rw (le-leb 4 (length s) h, le-leb (fourNumber s) limit l, lt-leb (4 + fourNumber s) (length s) w)
+  pub front-whole : (f : List ℕ) (end : ℕ) → cut limit s ≡ answered (done f end) → atFront x limit s ≡ answered (oneFrame x f)
+  unfolding atFront
+  front-whole f end e = rw e
 
-      pub cut-whole : 4 + fourNumber s ≤ length s → front x limit s ≡ answered (whole x (take (4 + fourNumber s) s))
-      unfolding front inOrder
-      cut-whole w = rw (le-leb 4 (length s) h, le-leb (fourNumber s) limit l, le-leb (4 + fourNumber s) (length s) w)
+  pub front-waited : (n : ℕ) → atFront x limit s ≡ wait n → cut limit s ≡ wait n
+  unfolding atFront
+  front-waited n e = onward-waits (oneFrame x) (cut limit s) n e
+
+  pub front-done : (y : Head × A) (used : ℕ) → atFront x limit s ≡ answered (done y used)
+      → (f : List ℕ) × (end : ℕ) × (cut limit s ≡ answered (done f end)) × (oneFrame x f ≡ done y used)
+  unfolding atFront
+  front-done y used e = onward-done (oneFrame x) (cut limit s) e
+
+  pub front-refused : (n place : ℕ) → atFront x limit s ≡ answered (refused n place)
+      → (cut limit s ≡ answered (refused n place)) ⊎ ((f : List ℕ) × (end : ℕ) × (cut limit s ≡ answered (done f end)) × (oneFrame x f ≡ refused n place))
+  unfolding atFront
+  front-refused n place e = onward-refused (oneFrame x) (cut limit s) e
 
 module _ (limit : ℕ) (rooms : Rooms) (s : List ℕ) where
-  pub frame-start : length s < 4 → frameRead limit rooms s ≡ wait (4 - length s)
+  pub frame-wait : (n : ℕ) → cut limit s ≡ wait n → frameRead limit rooms s ≡ wait n
   unfolding frameRead
-  frame-start h = cut-start (haproxys rooms) limit s h
+  frame-wait n e = front-wait (haproxys rooms) limit s n e
 
-  module _ (h : 4 ≤ length s) where
-    pub frame-over : limit < fourNumber s → frameRead limit rooms s ≡ answered (refused 2 4)
-    unfolding frameRead
-    frame-over l = cut-over (haproxys rooms) limit s h l
+  pub frame-over : (n place : ℕ) → cut limit s ≡ answered (refused n place) → frameRead limit rooms s ≡ answered (refused n place)
+  unfolding frameRead
+  frame-over n place e = front-over (haproxys rooms) limit s n place e
 
-    module _ (l : fourNumber s ≤ limit) where
-      pub frame-wait : length s < 4 + fourNumber s → frameRead limit rooms s ≡ wait (4 + fourNumber s - length s)
-      unfolding frameRead
-      frame-wait w = cut-wait (haproxys rooms) limit s h l w
+  pub frame-whole : (f : List ℕ) (end : ℕ) → cut limit s ≡ answered (done f end) → frameRead limit rooms s ≡ answered (wholeFrame rooms f)
+  unfolding frameRead wholeFrame
+  frame-whole f end e = front-whole (haproxys rooms) limit s f end e
 
-      pub frame-whole : 4 + fourNumber s ≤ length s → frameRead limit rooms s ≡ answered (wholeFrame rooms (take (4 + fourNumber s) s))
-      unfolding frameRead wholeFrame
-      frame-whole w = cut-whole (haproxys rooms) limit s h l w
+  pub frame-holds : (y : Head × Contents) (used : ℕ) → frameRead limit rooms s ≡ answered (done y used)
+      → (f : List ℕ) × (end : ℕ) × (cut limit s ≡ answered (done f end)) × (wholeFrame rooms f ≡ done y used)
+  unfolding frameRead wholeFrame
+  frame-holds y used e = front-done (haproxys rooms) limit s y used e
 
 -- ---- what is said of a payload, and of the frame that holds it
 
@@ -237,9 +133,9 @@ module _ (start : ℕ) (a : Answer Contents) where
   behind-done k used e =
       let o = tells-done a k used e in rw (o .1) (ap (λ (x : Counts). done x (start + used)) (sym (o .2) ∙ counts-moved start (o .0)))
 
-module _ (m : Metadata) (start : ℕ) (a : Answer Contents) where
+module _ (m : Head) (start : ℕ) (a : Answer Contents) where
   -- a payload that stands there, in its frame
-  abbrev pub inFrame : Answer (Metadata × Contents)
+  abbrev pub inFrame : Answer (Head × Contents)
   inFrame = next (behind movedContents start a) (λ (c : Contents) (end : ℕ). done (m, c) end)
 
   pub frame-refused : (n place : ℕ) → refused n place ≡ payloadTells a → answered (refused n (start + place)) ≡ frameTells (answered inFrame)
@@ -251,7 +147,7 @@ module _ (m : Metadata) (start : ℕ) (a : Answer Contents) where
       rw (o .1) (ap (λ (x : Counts). answered (done (m, x) (start + used))) (sym (o .2) ∙ counts-moved start (o .0)))
 
 -- what it fills in is the payload's
-pub frame-contents : (m : Metadata) (b : Answer Contents) → contentsRead (answered (next b (λ (c : Contents) (end : ℕ). done (m, c) end))) ≡ b
+pub frame-contents : (m : Head) (b : Answer Contents) → contentsRead (answered (next b (λ (c : Contents) (end : ℕ). done (m, c) end))) ≡ b
 frame-contents m (done c end) = refl
 frame-contents m (refused n place) = refl
 

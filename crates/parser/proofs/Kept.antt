@@ -1,28 +1,28 @@
 -- Demand 3: a reading repeated with bytes appended, a limit no lower and tables no smaller keeps an accepted frame whole, and a refusal's
 -- number and place, except 2 under a higher limit and 10 with a larger table; and a wait is given exactly where bytes are missing.
 use mathlib.Core.Path.{_≡_, refl, sym, ap, ap₂, _∙_}
-use mathlib.Core.Bool.{Bool, true, false, not, _&&_, _||_}
-use mathlib.Core.Logic.{_⊎_, inl, inr, ⊎-elim}
-use mathlib.Core.List.{List, [], _∷_, _++_}
-use Prim.Native.Nat.{ℕ, zero, suc, _+_, _-_, _≤_, _<_}
+use mathlib.Core.Bool.{Bool, not, _&&_, _||_}
+use mathlib.Core.Logic.{_⊎_, ⊎-elim}
+use mathlib.Core.List.{List, _++_}
+use Prim.Native.Nat.{ℕ, zero, suc, _+_, _-_, _≤_}
 use native.Mathlib.Omega.{arith}
 use lib.Dec.{ltb, eqb}
-use lib.ListN.{length, take, drop, length-append}
-use lib.Seq.{take-append-le}
+use lib.ListN.{length, drop}
 use borrow.Author.Tests.{lt-ltb, le-ltb, eqb-true, eqb-false}
 use Rattle.answer.specs.Answer.{Answer, done, refused, next, behind}
 use Rattle.answer.proofs.Cases.{lt-or-le, bool-cases, answer-cases, not-both}
-use Rattle.frame.specs.Head.{fourNumber}
-use Rattle.frame.proofs.Laws.{four-kept}
+use Rattle.frame.specs.declared.Head.{Head}
+use Rattle.frame.specs.declared.Side.the-variants as side
 use Rattle.parser.specs.declared.Rooms.{Rooms}
-use Rattle.parser.specs.declared.Metadata.{Metadata}
 use Rattle.parser.specs.Pair.{pairFrom}
 use Rattle.parser.specs.Payload.{Contents, met, stringFrom, onePair, oneMessage, oneItem, toEnd, payload, movedContents}
-use Rattle.parser.specs.Frame.{metadata, Entry, whole, Reading, wait, answered, front, haproxys, frameRead}
+use Rattle.frame.specs.Read.{wait, answered, cut, Sender, sender, head}
+use Rattle.frame.proofs.Cutting.{Missing, cut-waits, cut-refused, cut-kept, cut-over-kept, cut-waits-once}
+use Rattle.parser.specs.Frame.{Entry, oneFrame, atFront, haproxys, frameRead}
 use Rattle.parser.specs.Inner.{wholeFrame}
-use Rattle.parser.proofs.Pairs.{refused-same, done-same}
+use Rattle.parser.proofs.Pairs.{refused-same}
 use Rattle.parser.proofs.Walk.{pair-refused, pair-met, pair-full, pair-taken, message-refused, message-short, message-full, message-taken, item-pair, item-message}
-use Rattle.parser.proofs.Frames.{head-refused, head-done, cut-start, cut-over, cut-wait, cut-whole}
+use Rattle.parser.proofs.Frames.{one-refused, one-done, front-wait, front-over, front-whole, front-waited, front-done, front-refused}
 
 -- ---- larger tables
 
@@ -98,161 +98,90 @@ module _ (kv : Bool) (rooms others : Rooms) (larger : Larger rooms others) (s : 
   payload-kept no10 = end-kept (length s) 0 _ no10
 
 -- a payload in its frame
-in-frame-full : {A : Type 0} (m : Metadata) (moved : ℕ → A → A) (start : ℕ) (a : Answer A)
-    → NotFull {A = Metadata × A} (next (behind moved start a) (λ (c : A) (end : ℕ). done (m, c) end)) → NotFull a
+in-frame-full : {A : Type 0} (m : Head) (moved : ℕ → A → A) (start : ℕ) (a : Answer A)
+    → NotFull {A = Head × A} (next (behind moved start a) (λ (c : A) (end : ℕ). done (m, c) end)) → NotFull a
 in-frame-full m moved start (done c n) no10 place e = not-both refl e
 in-frame-full m moved start (refused n p) no10 place e =
     let q = refused-same e in no10 (start + place) (ap₂ (λ (x y : ℕ). refused x (start + y)) (q .0) (q .1))
 
 -- An entry and the same with larger tables: what it reads of a payload is kept, and so is the whole.
-module _ {A : Type 0} (agents : Bool) (moved : ℕ → A → A) (few more : ℕ → List ℕ → Answer A)
-    (kept : (kind : ℕ) (s : List ℕ) → NotFull (few kind s) → more kind s ≡ few kind s) where
+module _ {A : Type 0} (sent : Sender) (moved : ℕ → A → A) (few more : ℕ → List ℕ → Answer A)
+    (kept : (type : ℕ) (s : List ℕ) → NotFull (few type s) → more type s ≡ few type s) where
   abbrev pub before : Entry A
-  before = record { agents = agents; payloadOf = few; moved = moved }
+  before = record { side = sent; payloadOf = few; moved = moved }
 
   abbrev pub larger : Entry A
-  larger = record { agents = agents; payloadOf = more; moved = moved }
+  larger = record { side = sent; payloadOf = more; moved = moved }
 
-  pub entry-kept : (f : List ℕ) → NotFull (whole before f) → whole larger f ≡ whole before f
+  pub entry-kept : (f : List ℕ) → NotFull (oneFrame before f) → oneFrame larger f ≡ oneFrame before f
   entry-kept f no10 =
-      answer-cases (metadata agents f)
+      answer-cases (head sent f)
       (λ m start e.
-      let no = in-frame-full m moved start (few (m .kind) (drop start f)) (λ place q. no10 place (head-done before f m start e ∙ q)) in
-      head-done larger f m start e
-      ∙ ap (λ (a : Answer A). next (behind moved start a) (λ (c : A) (end : ℕ). done (m, c) end)) (kept (m .kind) (drop start f) no)
-      ∙ sym (head-done before f m start e))
-      (λ n place e. head-refused larger f n place e ∙ sym (head-refused before f n place e))
+      let no = in-frame-full m moved start (few (m .«frame_type») (drop start f)) (λ place q. no10 place (one-done before f m start e ∙ q)) in
+      one-done larger f m start e
+      ∙ ap (λ (a : Answer A). next (behind moved start a) (λ (c : A) (end : ℕ). done (m, c) end)) (kept (m .«frame_type») (drop start f) no)
+      ∙ sym (one-done before f m start e))
+      (λ n place e. one-refused larger f n place e ∙ sym (one-refused before f n place e))
 
 -- ---- waits
-
--- Where a reading stands: the length bytes are missing, the frame is over the limit, it is not whole, or it is whole.
-pub by-cut : {G : Type 0} (limit : ℕ) (s : List ℕ)
-    → (length s < 4 → G)
-    → (4 ≤ length s → limit < fourNumber s → G)
-    → (4 ≤ length s → fourNumber s ≤ limit → length s < 4 + fourNumber s → G)
-    → (4 ≤ length s → fourNumber s ≤ limit → 4 + fourNumber s ≤ length s → G)
-    → G
-by-cut limit s short over part whole =
-    ⊎-elim short
-    (λ h.
-    ⊎-elim (λ l. over h l)
-    (λ l. ⊎-elim (λ w. part h l w) (λ w. whole h l w) (lt-or-le (length s) (4 + fourNumber s)))
-    (lt-or-le limit (fourNumber s)))
-    (lt-or-le (length s) 4)
-
-wait-same : {A : Type 0} {n m : ℕ} → _≡_ {A = Reading A} (wait n) (wait m) → n ≡ m
-wait-same e = cc
-
-pub wait-answered : {A G : Type 0} {n : ℕ} {a : Answer A} → _≡_ {A = Reading A} (wait n) (answered a) → G
-wait-answered e = let z : _≡_ {A = ℕ} 0 1 = cc in absurd (omega arith)
-
-pub answered-same : {A : Type 0} {a b : Answer A} → answered a ≡ answered b → a ≡ b
-answered-same e = cc
-
--- what a wait says: the length bytes are missing, or the rest of a frame within the limit
-abbrev pub Missing : ℕ → List ℕ → ℕ → Type 0
-Missing limit s n =
-    ((length s < 4) × (n ≡ 4 - length s))
-    ⊎ ((4 ≤ length s) × (fourNumber s ≤ limit) × (length s < 4 + fourNumber s) × (n ≡ 4 + fourNumber s - length s))
 
 -- Waits: a wait is given exactly when fewer than four bytes are there, and then for the rest of the four; or when the length is within the limit
 -- and the frame is not whole, and then for exactly the rest of it. Waits once: with the bytes that were asked for, from the fourth byte on, it is
 -- answered. This holds of any entry.
 module _ {A : Type 0} (x : Entry A) (limit : ℕ) (s : List ℕ) (n : ℕ) where
-  pub front-waits : (front x limit s ≡ wait n → Missing limit s n) × (Missing limit s n → front x limit s ≡ wait n)
-  front-waits = (there, back)
-    where
-      there : front x limit s ≡ wait n → Missing limit s n
-      there e =
-          by-cut limit s
-          (λ h. inl (h, wait-same (sym e ∙ cut-start x limit s h)))
-          (λ h l. wait-answered (sym e ∙ cut-over x limit s h l))
-          (λ h l w. inr (h, l, w, wait-same (sym e ∙ cut-wait x limit s h l w)))
-          (λ h l w. wait-answered (sym e ∙ cut-whole x limit s h l w))
+  pub front-waits : (atFront x limit s ≡ wait n → Missing limit s n) × (Missing limit s n → atFront x limit s ≡ wait n)
+  front-waits = let w = cut-waits limit s n in (λ e. w .0 (front-waited x limit s n e), λ m. front-wait x limit s n (w .1 m))
 
-      back : Missing limit s n → front x limit s ≡ wait n
-      back m =
-          ⊎-elim
-          (λ y. cut-start x limit s (y .0) ∙ ap wait (sym (y .1)))
-          (λ y. cut-wait x limit s (y .0) (y .1) (y .2) ∙ ap wait (sym (y .3)))
-          m
-
-  pub front-waits-once : (t : List ℕ) → 4 ≤ length s → front x limit s ≡ wait n → n ≤ length t
-      → (a : Answer (Metadata × A)) × (front x limit (s ++ t) ≡ answered a)
-  front-waits-once t h e m =
-      ⊎-elim
-      (λ y. absurd (omega (arith, y .0, h)))
-      (λ y.
-      let same = four-kept s t h in
-      let all = length-append s t in (
-        _,
-        cut-whole x limit (s ++ t) (omega (arith, all, h)) (rw same (y .1)) (rw same (omega (arith, all, y .3, m))),
-      ))
-      (front-waits .0 e)
+  pub front-waits-once : (t : List ℕ) → 4 ≤ length s → atFront x limit s ≡ wait n → n ≤ length t
+      → (a : Answer (Head × A)) × (atFront x limit (s ++ t) ≡ answered a)
+  front-waits-once t h e m = let c = cut-waits-once limit s t n h (front-waited x limit s n e) m in (_, front-whole x limit (s ++ t) (c .0) (c .1) (c .2))
 
 -- ---- kept
 
 -- with bytes appended, under a limit no lower, and with tables no smaller, of any entry
-module _ {A : Type 0} (agents : Bool) (moved : ℕ → A → A) (few more : ℕ → List ℕ → Answer A)
-    (kept : (kind : ℕ) (s : List ℕ) → NotFull (few kind s) → more kind s ≡ few kind s)
+module _ {A : Type 0} (sent : Sender) (moved : ℕ → A → A) (few more : ℕ → List ℕ → Answer A)
+    (kept : (type : ℕ) (s : List ℕ) → NotFull (few type s) → more type s ≡ few type s)
     (limit higher : ℕ) (up : limit ≤ higher) (s t : List ℕ) where
   abbrev smaller : Entry A
-  smaller = before agents moved few more kept
+  smaller = before sent moved few more kept
 
   abbrev others : Entry A
-  others = larger agents moved few more kept
-
-  whole-again : 4 ≤ length s → fourNumber s ≤ limit → 4 + fourNumber s ≤ length s
-      → front others higher (s ++ t) ≡ answered (whole others (take (4 + fourNumber s) s))
-  whole-again h l w =
-      let same = four-kept s t h in
-      let all = length-append s t in
-      cut-whole others higher (s ++ t) (omega (arith, all, h)) (rw same (omega (arith, l, up))) (rw same (omega (arith, all, w)))
-      ∙ ap (λ (n : ℕ). answered (whole others (take (4 + n) (s ++ t)))) same
-      ∙ ap (λ (f : List ℕ). answered (whole others f)) (take-append-le (4 + fourNumber s) s t w)
+  others = larger sent moved few more kept
 
   -- Kept, an accepted frame: the same length, type, flags, ids, and the same records in the same order.
-  pub front-kept : (x : Metadata × A) (used : ℕ) → front smaller limit s ≡ answered (done x used)
-      → front others higher (s ++ t) ≡ answered (done x used)
+  pub front-kept : (x : Head × A) (used : ℕ) → atFront smaller limit s ≡ answered (done x used)
+      → atFront others higher (s ++ t) ≡ answered (done x used)
   front-kept x used e =
-      by-cut limit s
-      (λ h. wait-answered (sym (cut-start smaller limit s h) ∙ e))
-      (λ h l. not-both refl (answered-same (sym e ∙ cut-over smaller limit s h l)))
-      (λ h l w. wait-answered (sym (cut-wait smaller limit s h l w) ∙ e))
-      (λ h l w.
-      let is = answered-same (sym (cut-whole smaller limit s h l w) ∙ e) in
-      whole-again h l w ∙ ap answered (entry-kept agents moved few more kept (take (4 + fourNumber s) s) (λ place q. not-both is q) ∙ is))
+      let o = front-done smaller limit s x used e in
+      front-whole others higher (s ++ t) (o .0) (o .1) (cut-kept limit higher up s t (o .2))
+      ∙ ap answered (entry-kept sent moved few more kept (o .0) (λ place q. not-both (o .3) q) ∙ o .3)
 
   -- Kept, a refusal: its number and its place, except 2 under a higher limit and 10 with a larger table.
-  pub front-refusal-kept : (number place : ℕ) → front smaller limit s ≡ answered (refused number place)
-      → (number ≡ 2 → limit ≡ higher) → (number ≡ 10 → (kind : ℕ) (p : List ℕ) → more kind p ≡ few kind p)
-      → front others higher (s ++ t) ≡ answered (refused number place)
+  pub front-refusal-kept : (number place : ℕ) → atFront smaller limit s ≡ answered (refused number place)
+      → (number ≡ 2 → limit ≡ higher) → (number ≡ 10 → (type : ℕ) (p : List ℕ) → more type p ≡ few type p)
+      → atFront others higher (s ++ t) ≡ answered (refused number place)
   front-refusal-kept number place e two ten =
-      by-cut limit s
-      (λ h. wait-answered (sym (cut-start smaller limit s h) ∙ e))
-      (λ h l.
-      let is = refused-same (answered-same (sym (cut-over smaller limit s h l) ∙ e)) in
-      cut-over others higher (s ++ t) (omega (arith, length-append s t, h)) (rw (four-kept s t h) (omega (arith, l, two (sym (is .0)))))
-      ∙ ap₂ (λ (n p : ℕ). answered (refused n p)) (is .0) (is .1))
-      (λ h l w. wait-answered (sym (cut-wait smaller limit s h l w) ∙ e))
-      (λ h l w.
-      let is = answered-same (sym (cut-whole smaller limit s h l w) ∙ e) in
-      whole-again h l w ∙ ap answered (same (take (4 + fourNumber s) s) is))
+      ⊎-elim
+      (λ c.
+      let same = two (cut-refused limit s c .two) in
+      front-over others higher (s ++ t) number place (ap (λ (n : ℕ). cut n (s ++ t)) (sym same) ∙ cut-over-kept limit s t c))
+      (λ o. front-whole others higher (s ++ t) (o .0) (o .1) (cut-kept limit higher up s t (o .2)) ∙ ap answered (same (o .0) (o .3)))
+      (front-refused smaller limit s number place e)
     where
-      alike : (f : List ℕ) → ((kind : ℕ) (p : List ℕ) → more kind p ≡ few kind p) → whole others f ≡ whole smaller f
+      alike : (f : List ℕ) → ((type : ℕ) (p : List ℕ) → more type p ≡ few type p) → oneFrame others f ≡ oneFrame smaller f
       alike f each =
-          answer-cases (metadata agents f)
+          answer-cases (head sent f)
           (λ m start e.
-          head-done others f m start e
-          ∙ ap (λ (a : Answer A). next (behind moved start a) (λ (c : A) (end : ℕ). done (m, c) end)) (each (m .kind) (drop start f))
-          ∙ sym (head-done smaller f m start e))
-          (λ n place e. head-refused others f n place e ∙ sym (head-refused smaller f n place e))
+          one-done others f m start e
+          ∙ ap (λ (a : Answer A). next (behind moved start a) (λ (c : A) (end : ℕ). done (m, c) end)) (each (m .«frame_type») (drop start f))
+          ∙ sym (one-done smaller f m start e))
+          (λ n place e. one-refused others f n place e ∙ sym (one-refused smaller f n place e))
 
-      same : (f : List ℕ) → whole smaller f ≡ refused number place → whole others f ≡ refused number place
+      same : (f : List ℕ) → oneFrame smaller f ≡ refused number place → oneFrame others f ≡ refused number place
       same f is =
           bool-cases (eqb number 10)
           (λ b. alike f (ten (eqb-true number 10 b)) ∙ is)
-          (λ b. entry-kept agents moved few more kept f (λ p q. eqb-false number 10 b (refused-same (sym is ∙ q) .0)) ∙ is)
+          (λ b. entry-kept sent moved few more kept f (λ p q. eqb-false number 10 b (refused-same (sym is ∙ q) .0)) ∙ is)
 
 -- ---- HAProxy's frames
 
@@ -262,32 +191,32 @@ module _ (limit : ℕ) (rooms : Rooms) (s : List ℕ) (n : ℕ) where
   waits = front-waits (haproxys rooms) limit s n
 
 pub waits-once : (limit : ℕ) (rooms : Rooms) (s t : List ℕ) (n : ℕ) → 4 ≤ length s → frameRead limit rooms s ≡ wait n → n ≤ length t
-    → (a : Answer (Metadata × Contents)) × (frameRead limit rooms (s ++ t) ≡ answered a)
+    → (a : Answer (Head × Contents)) × (frameRead limit rooms (s ++ t) ≡ answered a)
 unfolding frameRead
 waits-once limit rooms s t n h e m = front-waits-once (haproxys rooms) limit s n t h e m
 
 -- what a payload of a type comes to with such rooms
 abbrev readIn : Rooms → ℕ → List ℕ → Answer Contents
-readIn rooms kind p = payload (not (eqb kind 3)) rooms p
+readIn rooms type p = payload (not (eqb type 3)) rooms p
 
-read-kept : (rooms others : Rooms) → Larger rooms others → (kind : ℕ) (p : List ℕ) → NotFull (readIn rooms kind p) → readIn others kind p ≡ readIn rooms kind p
-read-kept rooms others larger kind p no10 = payload-kept (not (eqb kind 3)) rooms others larger p no10
+read-kept : (rooms others : Rooms) → Larger rooms others → (type : ℕ) (p : List ℕ) → NotFull (readIn rooms type p) → readIn others type p ≡ readIn rooms type p
+read-kept rooms others larger type p no10 = payload-kept (not (eqb type 3)) rooms others larger p no10
 
 pub whole-kept : (rooms others : Rooms) → Larger rooms others → (f : List ℕ) → NotFull (wholeFrame rooms f) → wholeFrame others f ≡ wholeFrame rooms f
 unfolding wholeFrame
-whole-kept rooms others larger f no10 = entry-kept false movedContents (readIn rooms) (readIn others) (read-kept rooms others larger) f no10
+whole-kept rooms others larger f no10 = entry-kept (sender side.HAProxy) movedContents (readIn rooms) (readIn others) (read-kept rooms others larger) f no10
 
 module _ (limit higher : ℕ) (up : limit ≤ higher) (rooms others : Rooms) (larger : Larger rooms others) (s t : List ℕ) where
-  pub accepted-kept : (x : Metadata × Contents) (used : ℕ) → frameRead limit rooms s ≡ answered (done x used)
+  pub accepted-kept : (x : Head × Contents) (used : ℕ) → frameRead limit rooms s ≡ answered (done x used)
       → frameRead higher others (s ++ t) ≡ answered (done x used)
   unfolding frameRead
   accepted-kept x used e =
-      front-kept false movedContents (readIn rooms) (readIn others) (read-kept rooms others larger) limit higher up s t x used e
+      front-kept (sender side.HAProxy) movedContents (readIn rooms) (readIn others) (read-kept rooms others larger) limit higher up s t x used e
 
   pub refusal-kept : (number place : ℕ) → frameRead limit rooms s ≡ answered (refused number place)
       → (number ≡ 2 → limit ≡ higher) → (number ≡ 10 → rooms ≡ others)
       → frameRead higher others (s ++ t) ≡ answered (refused number place)
   unfolding frameRead
   refusal-kept number place e two ten =
-      front-refusal-kept false movedContents (readIn rooms) (readIn others) (read-kept rooms others larger) limit higher up s t
+      front-refusal-kept (sender side.HAProxy) movedContents (readIn rooms) (readIn others) (read-kept rooms others larger) limit higher up s t
       number place e two (λ t k p. ap (λ (r : Rooms). readIn r k p) (sym (ten t)))

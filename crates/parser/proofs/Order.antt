@@ -1,29 +1,29 @@
 -- The order of what is read: in an accepted frame the keys' starts rise, so the pairs come out in the order of their bytes.
 use mathlib.Core.Path.{_≡_, refl, sym, ap, _∙_}
-use mathlib.Core.Bool.{Bool, false, not, _||_}
+use mathlib.Core.Bool.{Bool, not, _||_}
 use mathlib.Core.Logic.{⊎-elim}
 use mathlib.Core.List.{List, [], _∷_, _++_, map}
 use Prim.Native.Nat.{ℕ, zero, suc, _+_, _≤_, _<_}
 use native.Mathlib.Omega.{arith}
 use lib.Dec.{ltb, eqb}
-use lib.ListN.{length, take, drop, getD}
+use lib.ListN.{length, drop, getD}
 use borrow.Author.Tests.{lt-ltb, le-ltb}
 use Rattle.answer.specs.Answer.{Answer, done, refused}
 use Rattle.answer.proofs.Cases.{lt-or-le, bool-cases, answer-cases, not-both}
 use Rattle.types.specs.Value.{Span, span}
 use Rattle.frame.specs.declared.Pair.{Pair}
-use Rattle.frame.specs.Head.{fourNumber}
 use Rattle.parser.specs.declared.Rooms.{Rooms}
-use Rattle.parser.specs.declared.Metadata.{Metadata}
+use Rattle.frame.specs.declared.Head.{Head}
 use Rattle.parser.specs.Pair.{movedPair}
 use Rattle.parser.specs.Payload.{Contents, withMessage, oneItem, ended, toEnd, payload, movedContents}
-use Rattle.parser.specs.Frame.{metadata, answered, frameRead}
+use Rattle.frame.specs.declared.Side.the-variants as side
+use Rattle.frame.specs.Read.{answered, sender, head}
+use Rattle.parser.specs.Frame.{frameRead}
 use Rattle.parser.specs.Inner.{wholeFrame}
 use Rattle.parser.proofs.Pairs.{done-same}
 use Rattle.parser.proofs.Runs.{from-key}
 use Rattle.parser.proofs.Walk.{pair-says, message-says, item-pair, item-message, item-next, ended-done, ended-short}
-use Rattle.parser.proofs.Frames.{whole-refused, whole-payload, frame-start, frame-over, frame-wait, frame-whole, inFrame}
-use Rattle.parser.proofs.Kept.{by-cut, wait-answered, answered-same}
+use Rattle.parser.proofs.Frames.{whole-refused, whole-payload, frame-holds, inFrame}
 
 -- The keys start behind a place, one behind the other, and not behind an end.
 abbrev Rises : ℕ → List Pair → ℕ → Type 0
@@ -101,28 +101,24 @@ rises-by at (p ∷ ps) end (suc i) (suc j) r l h = rises-by (p .start) ps end i 
 
 -- ---- in a frame
 
-whole-rises : (rooms : Rooms) (f : List ℕ) (m : Metadata) (c : Contents) (used : ℕ) → wholeFrame rooms f ≡ done (m, c) used → (at : ℕ) × Rises at (c .pairs) used
+whole-rises : (rooms : Rooms) (f : List ℕ) (m : Head) (c : Contents) (used : ℕ) → wholeFrame rooms f ≡ done (m, c) used → (at : ℕ) × Rises at (c .pairs) used
 whole-rises rooms f m c used e =
-    answer-cases (metadata false f)
-    (λ n start g. let kv = not (eqb (n .kind) 3) in go n start (payload kv rooms (drop start f)) (λ d end x. payload-rises kv rooms (drop start f) d end x) (sym (whole-payload rooms f n start g) ∙ e))
+    answer-cases (head (sender side.HAProxy) f)
+    (λ n start g. let kv = not (eqb (n .«frame_type») 3) in go n start (payload kv rooms (drop start f)) (λ d end x. payload-rises kv rooms (drop start f) d end x) (sym (whole-payload rooms f n start g) ∙ e))
     (λ n place r. not-both e (whole-refused rooms f n place r))
   where
-    go : (n : Metadata) (start : ℕ) (a : Answer Contents) → ((d : Contents) (end : ℕ) → a ≡ done d end → Rises 0 (d .pairs) end)
+    go : (n : Head) (start : ℕ) (a : Answer Contents) → ((d : Contents) (end : ℕ) → a ≡ done d end → Rises 0 (d .pairs) end)
         → inFrame n start a ≡ done (m, c) used → (at : ℕ) × Rises at (c .pairs) used
     go n start (done d end) rises g =
         let o = done-same g in
-        let same : movedContents start d ≡ c = ap (λ (x : Metadata × Contents). x .1) (o .0) in
+        let same : movedContents start d ≡ c = ap (λ (x : Head × Contents). x .1) (o .0) in
         (start + 0, rw (sym same, sym (o .1)) (rises-moved start 0 (d .pairs) end (rises d end refl)))
     go n start (refused k place) rises g = not-both g refl
 
 -- Law: in an accepted frame the starts of the keys rise strictly, so no two arguments have changed places.
-pub keys-rise : (limit : ℕ) (rooms : Rooms) (s : List ℕ) (m : Metadata) (c : Contents) (used : ℕ) → frameRead limit rooms s ≡ answered (done (m, c) used)
+pub keys-rise : (limit : ℕ) (rooms : Rooms) (s : List ℕ) (m : Head) (c : Contents) (used : ℕ) → frameRead limit rooms s ≡ answered (done (m, c) used)
     → (i j : ℕ) → i < j → j < length (c .pairs) → getD (keyStarts (c .pairs)) i 0 < getD (keyStarts (c .pairs)) j 0
 keys-rise limit rooms s m c used e i j l h =
-    by-cut limit s
-    (λ x. wait-answered (sym (frame-start limit rooms s x) ∙ e))
-    (λ x y. not-both refl (answered-same (sym e ∙ frame-over limit rooms s x y)))
-    (λ x y z. wait-answered (sym (frame-wait limit rooms s x y z) ∙ e))
-    (λ x y z.
-    let r = whole-rises rooms (take (4 + fourNumber s) s) m c used (answered-same (sym (frame-whole limit rooms s x y z) ∙ e)) in
-    rises-by (r .0) (c .pairs) used i j (r .1) l h)
+    let o = frame-holds limit rooms s (m, c) used e in
+    let r = whole-rises rooms (o .0) m c used (o .3) in
+    rises-by (r .0) (c .pairs) used i j (r .1) l h

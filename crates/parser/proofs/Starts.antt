@@ -1,78 +1,80 @@
 -- Laws about reading a frame up to its payload: what it comes to, and what any entry comes to behind it.
-use mathlib.Core.Path.{_≡_, refl, sym, ap, ap₂, _∙_}
-use mathlib.Core.Bool.{Bool}
+use mathlib.Core.Path.{_≡_, sym, ap, ap₂, _∙_}
+use mathlib.Core.Logic.{⊎-elim}
 use mathlib.Core.List.{List}
 use Prim.Native.Nat.{ℕ, _+_, _≤_}
 use native.Mathlib.Omega.{arith}
 use lib.ListN.{length, take, drop, length-drop}
 use lib.Seq.{length-take-le}
-use Rattle.answer.specs.Answer.{Answer, done, refused, next, behind}
+use Rattle.answer.specs.Answer.{done, refused, next, behind}
 use Rattle.answer.proofs.Cases.{answer-cases, not-both}
-use Rattle.frame.specs.Head.{fourNumber}
-use Rattle.parser.specs.declared.Metadata.{Metadata}
-use Rattle.parser.specs.Frame.{metadata, Entry, whole, Reading, wait, answered, front}
-use Rattle.parser.specs.Promise.{starts}
+use Rattle.frame.specs.declared.Head.{Head}
+use Rattle.frame.specs.declared.Side.{Side}
+use Rattle.frame.specs.Read.{wait, answered, sender, head}
+use Rattle.frame.proofs.Cutting.{cut-out}
+use Rattle.frame.proofs.Heads.{head-start}
+use Rattle.parser.specs.Frame.{Entry, oneFrame, atFront}
+use Rattle.parser.specs.Promise.{upToPayload}
 use Rattle.parser.proofs.Pairs.{done-same, refused-same}
-use Rattle.parser.proofs.Frames.{metadata-start, head-refused, head-done, cut-start, cut-over, cut-wait, cut-whole}
-use Rattle.parser.proofs.Kept.{by-cut, wait-answered, answered-same, front-waits}
+use Rattle.parser.proofs.Frames.{one-refused, one-done, front-wait, front-over, front-whole, front-waited, front-done, front-refused}
 
 -- the payload is left alone, and ends with the frame
-pub starts-done : (agents : Bool) (f : List ℕ) (m : Metadata) (start : ℕ) → metadata agents f ≡ done m start → whole (starts agents) f ≡ done (m, start) (length f)
-starts-done agents f m start e =
+pub starts-done : (from : Side) (f : List ℕ) (m : Head) (start : ℕ) → head (sender from) f ≡ done m start → oneFrame (upToPayload from) f ≡ done (m, start) (length f)
+starts-done from f m start e =
     let at : start + 0 ≡ start = omega arith in
-    let all : start + length (drop start f) ≡ length f = omega (arith, length-drop start f, metadata-start agents f m start e) in
-    head-done (starts agents) f m start e ∙ ap₂ (λ (x y : ℕ). done (m, x) y) at all
+    let all : start + length (drop start f) ≡ length f = omega (arith, length-drop start f, head-start (sender from) f m start e) in
+    one-done (upToPayload from) f m start e ∙ ap₂ (λ (x y : ℕ). done (m, x) y) at all
 
--- What any entry comes to, by what is said of the frame up to its payload: the same wait, the same refusal, or what it reads of the payload there.
-module _ {A : Type 0} (x : Entry A) (limit : ℕ) (s : List ℕ) where
+-- What any entry for a side's frames comes to, by what is said of the frame up to its payload: the same wait, the same refusal, or what it reads of the
+-- payload there.
+module _ {A : Type 0} (x : Entry A) (from : Side) (theirs : x .side ≡ sender from) (limit : ℕ) (s : List ℕ) where
   abbrev before : Entry ℕ
-  before = starts (x .agents)
+  before = upToPayload from
 
-  pub from-wait : (n : ℕ) → front before limit s ≡ wait n → front x limit s ≡ wait n
-  from-wait n e = front-waits x limit s n .1 (front-waits before limit s n .0 e)
+  pub from-wait : (n : ℕ) → atFront before limit s ≡ wait n → atFront x limit s ≡ wait n
+  from-wait n e = front-wait x limit s n (front-waited before limit s n e)
 
-  pub from-refused : (n place : ℕ) → front before limit s ≡ answered (refused n place) → front x limit s ≡ answered (refused n place)
+  pub from-refused : (n place : ℕ) → atFront before limit s ≡ answered (refused n place) → atFront x limit s ≡ answered (refused n place)
   from-refused n place e =
-      by-cut limit s
-      (λ h. wait-answered (sym (cut-start before limit s h) ∙ e))
-      (λ h l. let q = refused-same (answered-same (sym (cut-over before limit s h l) ∙ e)) in cut-over x limit s h l ∙ ap₂ (λ (a b : ℕ). answered (refused a b)) (q .0) (q .1))
-      (λ h l w. wait-answered (sym (cut-wait before limit s h l w) ∙ e))
-      (λ h l w. cut-whole x limit s h l w ∙ ap answered (same (take (4 + fourNumber s) s) (answered-same (sym (cut-whole before limit s h l w) ∙ e))))
+      ⊎-elim
+      (λ c. front-over x limit s n place c)
+      (λ o. front-whole x limit s (o .0) (o .1) (o .2) ∙ ap answered (same (o .0) (o .3)))
+      (front-refused before limit s n place e)
     where
-      same : (f : List ℕ) → whole before f ≡ refused n place → whole x f ≡ refused n place
+      same : (f : List ℕ) → oneFrame before f ≡ refused n place → oneFrame x f ≡ refused n place
       same f is =
-          answer-cases (metadata (x .agents) f)
-          (λ m start d. not-both (starts-done (x .agents) f m start d) is)
-          (λ k p r. let q = refused-same (sym (head-refused before f k p r) ∙ is) in head-refused x f k p r ∙ ap₂ refused (q .0) (q .1))
+          answer-cases (head (sender from) f)
+          (λ m start d. not-both (starts-done from f m start d) is)
+          (λ k p r.
+          let q = refused-same (sym (one-refused before f k p r) ∙ is) in
+          one-refused x f k p (ap (λ (y : _). head y f) theirs ∙ r) ∙ ap₂ refused (q .0) (q .1))
 
   -- the payload stands in the bytes, from a place to another
-  pub record Begun (m : Metadata) (start end : ℕ) : Type 0 where
+  pub record Begun (m : Head) (start end : ℕ) : Type 0 where
     pub inside : start ≤ end
     pub there : end ≤ length s
-    pub reads : front x limit s
-        ≡ answered (next (behind (x .moved) start (x .payloadOf (m .kind) (drop start (take end s)))) (λ (c : A) (n : ℕ). done (m, c) n))
+    pub reads : atFront x limit s
+        ≡ answered (next (behind (x .moved) start (x .payloadOf (m .«frame_type») (drop start (take end s)))) (λ (c : A) (n : ℕ). done (m, c) n))
 
-  pub from-done : (m : Metadata) (start end : ℕ) → front before limit s ≡ answered (done (m, start) end) → Begun m start end
+  pub from-done : (m : Head) (start end : ℕ) → atFront before limit s ≡ answered (done (m, start) end) → Begun m start end
   from-done m start end e =
-      by-cut limit s
-      (λ h. wait-answered (sym (cut-start before limit s h) ∙ e))
-      (λ h l. not-both refl (answered-same (sym e ∙ cut-over before limit s h l)))
-      (λ h l w. wait-answered (sym (cut-wait before limit s h l w) ∙ e))
-      (λ h l w. cut (4 + fourNumber s) w (cut-whole x limit s h l w) (answered-same (sym (cut-whole before limit s h l w) ∙ e)))
+      let o = front-done before limit s (m, start) end e in
+      let c = cut-out limit s (o .2) in
+      found (o .0) (o .1) (c .all) (c .is) (front-whole x limit s (o .0) (o .1) (o .2)) (o .3)
     where
-      cut : (n : ℕ) → n ≤ length s → front x limit s ≡ answered (whole x (take n s)) → whole before (take n s) ≡ done (m, start) end → Begun m start end
-      cut n w reads is =
-          answer-cases (metadata (x .agents) (take n s))
-          (λ k from d.
-          let o = done-same (sym (starts-done (x .agents) (take n s) k from d) ∙ is) in
-          let one : k ≡ m = ap (λ (y : Metadata × ℕ). y .0) (o .0) in
-          let at : from ≡ start = ap (λ (y : Metadata × ℕ). y .1) (o .0) in
-          let last : n ≡ end = sym (length-take-le n s w) ∙ o .1 in
-          let low = metadata-start (x .agents) (take n s) k from d in
+      found : (f : List ℕ) (n : ℕ) → n ≤ length s → f ≡ take n s → atFront x limit s ≡ answered (oneFrame x f) → oneFrame before f ≡ done (m, start) end → Begun m start end
+      found f n w cut reads is =
+          answer-cases (head (sender from) f)
+          (λ k at d.
+          let q = done-same (sym (starts-done from f k at d) ∙ is) in
+          let one : k ≡ m = ap (λ (y : Head × ℕ). y .0) (q .0) in
+          let place : at ≡ start = ap (λ (y : Head × ℕ). y .1) (q .0) in
+          let last : n ≡ end = sym (length-take-le n s w) ∙ ap length (sym cut) ∙ q .1 in
+          let low = head-start (sender from) f k at d in
           record {
-            inside = omega (arith, low, o .1, at);
+            inside = omega (arith, low, q .1, place);
             there = omega (arith, w, last);
             reads =
-                rw (sym last, sym at, sym one) (reads ∙ ap answered (head-done x (take n s) k from d));
+                rw (sym last, sym place, sym one, sym cut) (reads ∙ ap answered (one-done x f k at (ap (λ (y : _). head y f) theirs ∙ d)));
           })
-          (λ k p r. not-both is (head-refused before (take n s) k p r))
+          (λ k p r. not-both is (one-refused before f k p r))

@@ -4,15 +4,15 @@ use mathlib.Core.Bool.{Bool}
 use mathlib.Core.List.{List}
 use Prim.Native.Nat.{ℕ}
 use native.Mathlib.Omega.{arith}
-use Rattle.answer.specs.Answer.{Answer, done}
+use Rattle.answer.specs.Answer.{Answer}
 use Rattle.answer.proofs.Same.{refusal-same}
-use Rattle.frame.specs.declared.Pair.{Pair}
 use Rattle.parser.specs.declared.PairRead.{PairRead}
 use Rattle.parser.specs.declared.PairRead.the-variants as p
 use Rattle.parser.specs.declared.PayloadRead.{PayloadRead}
 use Rattle.parser.specs.declared.PayloadRead.the-variants as l
 use Rattle.parser.specs.declared.Rooms.{Rooms}
-use Rattle.parser.specs.declared.Metadata.{Metadata}
+use Rattle.frame.specs.declared.Head.{Head}
+use Rattle.frame.specs.declared.Side.{Side}
 use Rattle.parser.specs.declared.FrameRead.{FrameRead}
 use Rattle.parser.specs.declared.FrameRead.the-variants as f
 use Rattle.parser.specs.declared.StartRead.{StartRead}
@@ -43,10 +43,10 @@ payload-same (l.Refused r) (l.Refused q) e = ap l.Refused (refusal-same r q (cc)
 
 pub frame-same : (a b : FrameRead) → frameSaid a ≡ frameSaid b → a ≡ b
 frame-same (f.Done x m n u) (f.Done x′ m′ n′ u′) e =
-    let k = done-same {A = Metadata × Counts} {x = (x, (m, n))} {y = (x′, (m′, n′))} {m = u} {k = u′} (cc) in
-    let w = ap (λ (y : Metadata × Counts). y .0) (k .0) in
-    let q = ap (λ (y : Metadata × Counts). y .1 .0) (k .0) in
-    let o = ap (λ (y : Metadata × Counts). y .1 .1) (k .0) in
+    let k = done-same {A = Head × Counts} {x = (x, (m, n))} {y = (x′, (m′, n′))} {m = u} {k = u′} (cc) in
+    let w = ap (λ (y : Head × Counts). y .0) (k .0) in
+    let q = ap (λ (y : Head × Counts). y .1 .0) (k .0) in
+    let o = ap (λ (y : Head × Counts). y .1 .1) (k .0) in
     let z = k .1 in
     cc
 frame-same (f.Done x m n u) (f.Wait k) e = let z : _≡_ {A = ℕ} 0 1 = cc in absurd (omega arith)
@@ -83,9 +83,9 @@ read-list-unique frame start r q old new other p s = (payload-same r q (p .says 
 
 start-same : (a b : StartRead) → startSaid a ≡ startSaid b → a ≡ b
 start-same (s.Done x m u) (s.Done x′ m′ u′) e =
-    let k = done-same {A = Metadata × ℕ} {x = (x, m)} {y = (x′, m′)} {m = u} {k = u′} (cc) in
-    let w = ap (λ (y : Metadata × ℕ). y .0) (k .0) in
-    let q = ap (λ (y : Metadata × ℕ). y .1) (k .0) in
+    let k = done-same {A = Head × ℕ} {x = (x, m)} {y = (x′, m′)} {m = u} {k = u′} (cc) in
+    let w = ap (λ (y : Head × ℕ). y .0) (k .0) in
+    let q = ap (λ (y : Head × ℕ). y .1) (k .0) in
     let z = k .1 in
     cc
 start-same (s.Done x m u) (s.Wait k) e = let z : _≡_ {A = ℕ} 0 1 = cc in absurd (omega arith)
@@ -97,8 +97,8 @@ start-same (s.Refused r) (s.Done x m u) e = let z : _≡_ {A = ℕ} 0 1 = cc in 
 start-same (s.Refused r) (s.Wait k) e = let z : _≡_ {A = ℕ} 0 1 = cc in absurd (omega arith)
 start-same (s.Refused r) (s.Refused q) e = ap s.Refused (refusal-same r q (cc) (cc))
 
-pub read-start-unique : (input : List ℕ) (limit : ℕ) (agents : Bool) (r q : StartRead) → ReadStart input limit agents r → ReadStart input limit agents q → r ≡ q
-read-start-unique input limit agents r q p s = start-same r q (p ∙ sym s)
+pub read-start-unique : (input : List ℕ) (limit : ℕ) (from : Side) (r q : StartRead) → ReadStart input limit from r → ReadStart input limit from q → r ≡ q
+read-start-unique input limit from r q p s = start-same r q (p ∙ sym s)
 
 pub look-frame-unique : (input : List ℕ) (limit : ℕ) (rooms : Rooms) (r q : FrameRead) → LookFrame input limit rooms r → LookFrame input limit rooms q → r ≡ q
 look-frame-unique input limit rooms r q p s = frame-same r q (p ∙ sym s)

@@ -6,12 +6,11 @@ use Prim.Native.Nat.{ℕ, _+_, _-_, _*_, _≤_, _<_}
 use lib.ListN.{length, getD}
 use Rattle.answer.specs.Answer.{Answer, done, refused, behind, written, leaves}
 use Rattle.types.specs.Value.{span}
+use Rattle.frame.specs.declared.Head.{Head}
 use Rattle.frame.specs.declared.Pair.{Pair}
+use Rattle.frame.specs.Read.{answered}
 use Rattle.frame.specs.Records.{messageNumbers, pairWidth, pairIn, pairNumbers}
 use Rattle.parser.specs.declared.Rooms.{Rooms}
-use Rattle.parser.specs.declared.Metadata.{Metadata}
-use Rattle.parser.specs.declared.MetadataRead.{MetadataRead}
-use Rattle.parser.specs.declared.MetadataRead.the-variants as m
 use Rattle.parser.specs.declared.FrameRead.{FrameRead}
 use Rattle.parser.specs.declared.Few.{Few}
 use Rattle.parser.specs.declared.Once.{Once}
@@ -21,7 +20,7 @@ use Rattle.parser.specs.declared.Step.{Step}
 use Rattle.parser.specs.declared.Step.the-variants as v
 use Rattle.parser.specs.Pair.{movedPair, pairFrom}
 use Rattle.parser.specs.Payload.{Contents, stringFrom, payload, movedContents}
-use Rattle.parser.specs.Frame.{whole, answered, haproxys}
+use Rattle.parser.specs.Frame.{oneFrame, haproxys}
 use Rattle.parser.specs.Promise.{payloadTells, frameSaid, frameTells, roomsOf, contentsRead, Fills}
 
 -- how far a pass is behind a pair, and behind a message with so many arguments
@@ -119,13 +118,8 @@ fewIn table =
 -- ---- the frame
 
 -- one of HAProxy's that was cut out, with its length bytes
-unfoldable pub wholeFrame : Rooms → List ℕ → Answer (Metadata × Contents)
-wholeFrame rooms f = whole (haproxys rooms) f
-
--- what the reader of metadata answers
-abbrev pub metadataSaid : MetadataRead → Answer Metadata
-metadataSaid (m.Done x start) = done x start
-metadataSaid (m.Refused r) = refused (r .number) (r .place)
+unfoldable pub wholeFrame : Rooms → List ℕ → Answer (Head × Contents)
+wholeFrame rooms f = oneFrame (haproxys rooms) f
 
 -- What the reader of a frame that was cut out says, and what it leaves in the tables.
 pub record ReadsWhole (f : List ℕ) (r : FrameRead) (oldMessages newMessages oldPairs newPairs : List ℕ) : Type 0 where

@@ -6,14 +6,16 @@ use Prim.Native.Nat.{ℕ, _+_, _/_}
 use lib.ListN.{length, drop, getD}
 use Rattle.answer.specs.Answer.{Answer, done, refused, next, behind, written, leaves}
 use Rattle.answer.specs.Table.{joined}
+use Rattle.frame.specs.declared.Head.{Head}
+use Rattle.frame.specs.declared.Side.{Side}
 use Rattle.frame.specs.declared.Pair.{Pair}
+use Rattle.frame.specs.Read.{Reading, wait, answered, answerOf, sender}
 use Rattle.frame.specs.Records.{messageWidth, messageNumbers, pairWidth, pairNumbers}
 use Rattle.parser.specs.declared.PairRead.{PairRead}
 use Rattle.parser.specs.declared.PairRead.the-variants as p
 use Rattle.parser.specs.declared.PayloadRead.{PayloadRead}
 use Rattle.parser.specs.declared.PayloadRead.the-variants as l
 use Rattle.parser.specs.declared.Rooms.{Rooms}
-use Rattle.parser.specs.declared.Metadata.{Metadata}
 use Rattle.parser.specs.declared.FrameRead.{FrameRead}
 use Rattle.parser.specs.declared.FrameRead.the-variants as f
 use Rattle.parser.specs.declared.StartRead.{StartRead}
@@ -22,7 +24,7 @@ use Rattle.parser.specs.declared.Few.{Few}
 use Rattle.parser.specs.declared.FewRead.{FewRead}
 use Rattle.parser.specs.Pair.{pair}
 use Rattle.parser.specs.Payload.{Contents, payload, movedContents}
-use Rattle.parser.specs.Frame.{Entry, Reading, wait, answered, answerOf, front, frameRead}
+use Rattle.parser.specs.Frame.{Entry, atFront, frameRead}
 
 -- ---- what the answers say
 
@@ -41,7 +43,7 @@ abbrev pub payloadSaid : PayloadRead → Answer Counts
 payloadSaid (l.Done messages pairs used) = done (messages, pairs) used
 payloadSaid (l.Refused r) = refused (r .number) (r .place)
 
-abbrev pub frameSaid : FrameRead → Reading (Metadata × Counts)
+abbrev pub frameSaid : FrameRead → Reading (Head × Counts)
 frameSaid (f.Done m messages pairs used) = answered (done (m, (messages, pairs)) used)
 frameSaid (f.Wait missing) = wait missing
 frameSaid (f.Refused r) = answered (refused (r .number) (r .place))
@@ -50,7 +52,7 @@ frameSaid (f.Refused r) = answered (refused (r .number) (r .place))
 abbrev pub payloadTells : Answer Contents → Answer Counts
 payloadTells a = next a (λ c used. done (countsOf c) used)
 
-abbrev pub frameTells : Reading (Metadata × Contents) → Reading (Metadata × Counts)
+abbrev pub frameTells : Reading (Head × Contents) → Reading (Head × Counts)
 frameTells (wait missing) = wait missing
 frameTells (answered a) = answered (next a (λ x used. done (x .0, countsOf (x .1)) used))
 
@@ -66,7 +68,7 @@ pub record Fills (a : Answer Contents) (oldMessages newMessages oldPairs newPair
   pub pairs : newPairs ≡ leaves (next a (λ c used. written (joined pairNumbers (c .pairs)))) oldPairs
 
 -- what a frame holds, where it is accepted
-abbrev pub contentsRead : Reading (Metadata × Contents) → Answer Contents
+abbrev pub contentsRead : Reading (Head × Contents) → Answer Contents
 contentsRead x = next (answerOf x) (λ y used. done (y .1) used)
 
 -- ---- the promises
@@ -93,16 +95,16 @@ pub record ReadList (frame : List ℕ) (start : ℕ) (r : PayloadRead) (old new 
   pub fills : new ≡ leaves (next (listFrom frame start (length old / pairWidth)) (λ c used. written (joined pairNumbers (c .pairs)))) old
 
 -- `read_start` reads a frame up to its payload: it is an entry of which the payload holds only where it starts.
-abbrev pub starts : Bool → Entry ℕ
-starts agents = record { agents = agents; payloadOf = λ kind s. done 0 (length s); moved = λ n at. n + at }
+abbrev pub upToPayload : Side → Entry ℕ
+upToPayload side = record { side = sender side; payloadOf = λ type s. done 0 (length s); moved = λ n at. n + at }
 
-abbrev pub startSaid : StartRead → Reading (Metadata × ℕ)
+abbrev pub startSaid : StartRead → Reading (Head × ℕ)
 startSaid (s.Done m start end) = answered (done (m, start) end)
 startSaid (s.Wait missing) = wait missing
 startSaid (s.Refused r) = answered (refused (r .number) (r .place))
 
-abbrev pub ReadStart : List ℕ → ℕ → Bool → StartRead → Type 0
-ReadStart input limit agents r = startSaid r ≡ front (starts agents) limit input
+abbrev pub ReadStart : List ℕ → ℕ → Side → StartRead → Type 0
+ReadStart input limit side r = startSaid r ≡ atFront (upToPayload side) limit input
 
 -- `look_frame` says what the frame reader says with tables of such rooms.
 abbrev pub LookFrame : List ℕ → ℕ → Rooms → FrameRead → Type 0

@@ -2,17 +2,17 @@
 use crate::Few;
 use crate::FewRead;
 use crate::FrameRead;
-use crate::Metadata;
-use crate::MetadataRead;
 use crate::PayloadRead;
-use crate::head::four;
 use crate::head::read_frame;
-use crate::head::read_metadata;
 use crate::small::copy;
 use crate::small::take;
+use frame::FrameCut;
+use frame::Head;
+use frame::HeadRead;
 use frame::MESSAGE_WIDTH;
 use frame::PAIR_WIDTH;
 use frame::Pair;
+use frame::Side;
 use types::Value;
 ghost use mathlib.Core.Path.{_≡_};
 ghost use mathlib.Core.Bool.{false};
@@ -20,7 +20,8 @@ ghost use Prim.Native.Nat.{ℕ, _+_, _*_, _≤_};
 ghost use lib.ListN.{length, getD};
 ghost use Rattle.answer.specs.Answer.{done};
 ghost use Rattle.frame.specs.Records.{pairWidth, pairIn};
-ghost use Rattle.parser.specs.Frame.{metadata as metadataOf, answered, frameRead};
+ghost use Rattle.frame.specs.Read.{answered, sender, head as headOf};
+ghost use Rattle.parser.specs.Frame.{frameRead};
 ghost use Rattle.parser.specs.Inner.{fewIn, wholeFrame};
 ghost use Rattle.parser.specs.Promise.{roomForFew, ReadFew};
 
@@ -69,20 +70,20 @@ fn few_slow(input: &[u8], limit: u32, messages: &mut [u64]) -> FewRead
     }
 }
 
-// Reads the payload of a NOTIFY that was cut out of `input` and whose metadata end at `start`: straight into a table of four pairs, where it has no
+// Reads the payload of a NOTIFY that was cut out of `input` and whose head ends at `start`: straight into a table of four pairs, where it has no
 // more than these and two messages.
 fn few_small(
     f: &[u8],
-    metadata: Metadata,
+    head: Head,
     start: usize,
     input: &[u8],
     limit: u32,
     messages: &mut [u64],
 ) -> FewRead
     requires { ⌜ frameRead limit (roomForFew (now messages)) (now input) ≡ answered (wholeFrame (roomForFew (now messages)) (now f)) ⌝ }
-    requires { ⌜ metadataOf false (now f) ≡ done metadata start ⌝ }
+    requires { ⌜ headOf (sender Side.HAProxy) (now f) ≡ done head start ⌝ }
     requires { ⌜ start ≤ length (now f) ⌝ }
-    requires { ⌜ metadata .kind ≡ 3 ⌝ }
+    requires { ⌜ head .«frame_type» ≡ 3 ⌝ }
     ensures { λ r. ⌜ ReadFew (now (input .entry)) limit r (now (messages .entry)) (now (messages .exit)) ⌝ }
 {
     let mut own_messages = [0; 2 * MESSAGE_WIDTH];
@@ -103,7 +104,7 @@ fn few_small(
     copy(&own_messages[..message_numbers], messages);
     FewRead {
         answer: FrameRead::Done {
-            metadata,
+            head,
             messages: message_count,
             pairs: pair_count,
             used: start + used,
@@ -117,31 +118,26 @@ fn few_whole(f: &[u8], input: &[u8], limit: u32, messages: &mut [u64]) -> FewRea
     requires { ⌜ frameRead limit (roomForFew (now messages)) (now input) ≡ answered (wholeFrame (roomForFew (now messages)) (now f)) ⌝ }
     ensures { λ r. ⌜ ReadFew (now (input .entry)) limit r (now (messages .entry)) (now (messages .exit)) ⌝ }
 {
-    let found = read_metadata(f, false);
-    let MetadataRead::Done { metadata, start } = found else {
+    let found = frame::read_head(f, Side::HAProxy);
+    let HeadRead::Done { head, start } = found else {
         return few_slow(input, limit, messages);
     };
-    if metadata.kind != frame::NOTIFY {
+    if head.frame_type != frame::NOTIFY {
         return few_slow(input, limit, messages);
     }
-    few_small(f, metadata, start, input, limit, messages)
+    few_small(f, head, start, input, limit, messages)
 }
 
 // Reads the frame at the front of `input`, as `read_frame` does with room for four pairs, and gives them by value.
 pub fn read_few(input: &[u8], limit: u32, messages: &mut [u64]) -> FewRead
     ensures { λ r. ⌜ ReadFew (now (input .entry)) limit r (now (messages .entry)) (now (messages .exit)) ⌝ }
 {
-    let have = input.len();
-    if 4 <= have {
-        let len = four(input);
-        let end = 4 + len as usize;
-        if len <= limit {
-            if end <= have {
-                if end < SHORT {
-                    return few_whole(&input[..end], input, limit, messages);
-                }
-            }
-        }
+    let found = frame::cut(input, limit);
+    let FrameCut::Whole(end) = found else {
+        return few_slow(input, limit, messages);
+    };
+    if SHORT <= end {
+        return few_slow(input, limit, messages);
     }
-    few_slow(input, limit, messages)
+    few_whole(&input[..end], input, limit, messages)
 }

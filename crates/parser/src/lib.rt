@@ -15,6 +15,7 @@ use answer::Refusal;
 pub use by_value::read_few;
 pub use fill::read_list;
 pub use fill::read_payload;
+use frame::Head;
 use frame::Pair;
 pub use head::look_frame;
 pub use head::read_frame;
@@ -43,18 +44,10 @@ pub struct Rooms {
     pub pairs: usize,
 }
 
-// A frame's type, its flags, and the numbers of its stream and of the frame in it.
-pub struct Metadata {
-    pub kind: u64,
-    pub flags: u64,
-    pub stream: u64,
-    pub frame: u64,
-}
-
 // What the frame reader answers: the frame, with how many messages and pairs it has, and its bytes; or how many bytes are missing.
 pub enum FrameRead {
     Done {
-        metadata: Metadata,
+        head: Head,
         messages: usize,
         pairs: usize,
         used: usize,
@@ -66,7 +59,7 @@ pub enum FrameRead {
 // What the reader of a frame up to its payload answers: where the payload starts, and where it ends.
 pub enum StartRead {
     Done {
-        metadata: Metadata,
+        head: Head,
         start: usize,
         end: usize,
     },
@@ -99,12 +92,6 @@ pub(crate) struct State {
 // What a step of a pass finds: how far the pass is behind it, or why it is refused.
 pub(crate) enum Step {
     On(State),
-    Refused(Refusal),
-}
-
-// What the reader of metadata answers: the metadata, and where the payload starts.
-pub(crate) enum MetadataRead {
-    Done { metadata: Metadata, start: usize },
     Refused(Refusal),
 }
 

@@ -17,14 +17,16 @@ use Rattle.types.proofs.Reading.{string-accepted, string-accepted-kept, typed-a
 use Rattle.frame.specs.declared.Pair.{Pair}
 use Rattle.frame.specs.declared.Message.{Message}
 use Rattle.parser.specs.declared.Rooms.{Rooms}
-use Rattle.parser.specs.declared.Metadata.{Metadata}
+use Rattle.frame.specs.declared.Head.{Head}
 use Rattle.parser.specs.Pair.{movedPair, pair, pairFrom}
 use Rattle.parser.specs.Payload.{Contents, withPair, withMessage, stringFrom, movedSpan, oneItem, ended, toEnd, payload, movedMessage}
-use Rattle.parser.specs.Frame.{answered, frameRead}
+use Rattle.frame.specs.declared.Side.the-variants as side
+use Rattle.frame.specs.Read.{answered, sender}
+use Rattle.parser.specs.Frame.{frameRead}
 use Rattle.parser.specs.Inner.{Run}
 use Rattle.parser.proofs.Pairs.{pair-key, pair-value, pair-whole}
 use Rattle.parser.proofs.Runs.{from-next, run-moved}
-use Rattle.parser.proofs.Frames.{metadata-start}
+use Rattle.frame.proofs.Heads.{head-start}
 use Rattle.parser.proofs.Walk.{string-next, pair-says, message-says, item-pair, item-message}
 use Rattle.walker.specs.declared.Place.{Place}
 use Rattle.walker.specs.Walk.{kvOf}
@@ -260,37 +262,37 @@ module _ (rooms : Rooms) (s : List ℕ) where
 -- ---- an accepted frame
 
 -- Where its payload starts, what it holds lies in the bytes.
-pub record Lies (s : List ℕ) (m : Metadata) (c : Contents) (used : ℕ) : Type 0 where
+pub record Lies (s : List ℕ) (m : Head) (c : Contents) (used : ℕ) : Type 0 where
   pub within : used ≤ length s
-  pub list : (m .kind ≡ 3 → ⊥) → (end : ℕ) × Run s (kvOf (take used s) .at) (c .pairs) end × ([] ≡ c .messages)
-  pub messages : m .kind ≡ 3 → (end : ℕ) × Laid s (kvOf (take used s) .at) 0 (c .messages) (c .pairs) end
+  pub list : (m .«frame_type» ≡ 3 → ⊥) → (end : ℕ) × Run s (kvOf (take used s) .at) (c .pairs) end × ([] ≡ c .messages)
+  pub messages : m .«frame_type» ≡ 3 → (end : ℕ) × Laid s (kvOf (take used s) .at) 0 (c .messages) (c .pairs) end
 
 take-drop : (n : ℕ) (xs : List ℕ) → take n xs ++ drop n xs ≡ xs
 take-drop zero xs = refl
 take-drop (suc n) [] = refl
 take-drop (suc n) (x ∷ xs) = ap (λ (l : List ℕ). x ∷ l) (take-drop n xs)
 
-pub accepted-lies : (limit : ℕ) (rooms : Rooms) (s : List ℕ) (m : Metadata) (c : Contents) (used : ℕ) → frameRead limit rooms s ≡ answered (done (m, c) used) → Lies s m c used
+pub accepted-lies : (limit : ℕ) (rooms : Rooms) (s : List ℕ) (m : Head) (c : Contents) (used : ℕ) → frameRead limit rooms s ≡ answered (done (m, c) used) → Lies s m c used
 accepted-lies limit rooms s m c used e =
     let h = frame-cut limit rooms s m c used e .holds in
     let f = take used s in
     let n = h .start in
     let at : kvOf f .at ≡ n = ap (λ (x : Place). x .at) (kv-start f m n (h .head)) in
-    let most : n ≤ length f = metadata-start false f m n (h .head) in
+    let most : n ≤ length f = head-start (sender side.HAProxy) f m n (h .head) in
     let pairs : map (movedPair n) (h .held .pairs) ≡ c .pairs = ap (λ (x : Contents). x .pairs) (h .moved) in
     let messages : map (movedMessage n) (h .held .messages) ≡ c .messages = ap (λ (x : Contents). x .messages) (h .moved) in
     let from : n + 0 ≡ n = omega arith in
     record {
-      within = omega (arith, h .sum, payload-all (not (eqb (m .kind) 3)) rooms (drop n f) (h .held) (h .end) (h .is), length-drop n f, most, take-short used s);
+      within = omega (arith, h .sum, payload-all (not (eqb (m .«frame_type») 3)) rooms (drop n f) (h .held) (h .end) (h .is), length-drop n f, most, take-short used s);
       list = λ ne.
-          let is : payload true rooms (drop n f) ≡ done (h .held) (h .end) = ap (λ (b : Bool). payload (not b) rooms (drop n f)) (sym (ne-eqb (m .kind) 3 ne)) ∙ h .is in
+          let is : payload true rooms (drop n f) ≡ done (h .held) (h .end) = ap (λ (b : Bool). payload (not b) rooms (drop n f)) (sym (ne-eqb (m .«frame_type») 3 ne)) ∙ h .is in
           let run = run-moved f n 0 (h .held .pairs) (h .end) (kv-run rooms (drop n f) (h .held) (h .end) is) in (
             n + h .end,
             rw at (rw (take-drop used s) at (run-kept f (drop used s) n (c .pairs) (n + h .end) (rw (from, pairs) at run))),
             ap (map (movedMessage n)) (kv-none rooms (drop n f) (h .held) (h .end) is) ∙ messages,
           );
       messages = λ is3.
-          let is : payload false rooms (drop n f) ≡ done (h .held) (h .end) = ap (λ (b : Bool). payload (not b) rooms (drop n f)) (sym (eq-eqb (m .kind) 3 is3)) ∙ h .is in
+          let is : payload false rooms (drop n f) ≡ done (h .held) (h .end) = ap (λ (b : Bool). payload (not b) rooms (drop n f)) (sym (eq-eqb (m .«frame_type») 3 is3)) ∙ h .is in
           let laid = laid-moved f n 0 0 (h .held .messages) (h .held .pairs) (h .end) most (messages-laid rooms (drop n f) (h .held) (h .end) is) in
           (n + h .end, rw at (rw (take-drop used s) at (laid-kept f (drop used s) n 0 (c .messages) (c .pairs) (n + h .end) (rw (from, pairs, messages) at laid))));
     }

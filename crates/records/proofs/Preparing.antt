@@ -12,21 +12,22 @@ use denote.Enum.Declared.{tagOf, declared}
 use Rattle.answer.specs.Answer.{Answer, done, refused, next, written, leaves}
 use Rattle.answer.specs.Table.{joined}
 use Rattle.answer.proofs.Cases.{bool-cases, not-both}
-use Rattle.frame.specs.Head.{fourNumber}
 use Rattle.frame.specs.declared.Pair.{Pair}
 use Rattle.frame.specs.declared.Message.{Message}
 use Rattle.frame.specs.Records.{messageWidth, messageNumbers}
 use Rattle.parser.specs.declared.Rooms.{Rooms}
-use Rattle.parser.specs.declared.Metadata.{Metadata}
+use Rattle.frame.specs.declared.Head.{Head}
 use Rattle.parser.specs.declared.FrameRead.{FrameRead}
 use Rattle.parser.specs.declared.FrameRead.the-variants as f
 use Rattle.parser.specs.declared.Few.{Few}
 use Rattle.parser.specs.declared.FewRead.{FewRead}
 use Rattle.parser.specs.Payload.{Contents}
-use Rattle.parser.specs.Frame.{Reading, wait, answered, frameRead}
+use Rattle.frame.specs.Read.{Reading, wait, answered, cut}
+use Rattle.frame.proofs.Answers.{answered-same, reading-cases}
+use Rattle.parser.specs.Frame.{frameRead}
 use Rattle.parser.specs.Promise.{Counts, countsOf, frameSaid, frameTells, contentsRead, fewOf, pairsRead, roomForFew, ReadFew}
-use Rattle.parser.proofs.Frames.{frame-start, frame-over, frame-wait, frame-whole}
-use Rattle.parser.proofs.Kept.{Larger, by-cut, answered-same, whole-kept}
+use Rattle.parser.proofs.Frames.{frame-wait, frame-over, frame-whole}
+use Rattle.parser.proofs.Kept.{Larger, whole-kept}
 use Rattle.parser.proofs.Fitting.{Fit, Fits, frame-fits}
 use Rattle.parser.proofs.Entries.{said-done}
 use Rattle.parser.proofs.FrameRead.{enum}
@@ -34,19 +35,18 @@ use Rattle.walker.specs.Walk.{kvOf}
 use Rattle.records.specs.declared.Source.{Source}
 use Rattle.records.specs.declared.Far.{Far}
 use Rattle.records.specs.declared.Found.{Found}
-use Rattle.records.specs.Promise.{pairsLeft}
 use Rattle.records.specs.Inner.{Laid, FromMessages, four, InFew, Comes, noneFound, Prepared}
 use Rattle.records.proofs.Laying.{Lies, accepted-lies}
 
 -- ---- there is room for what is accepted
 
-frame-fit : (limit : ℕ) (rooms : Rooms) (s : List ℕ) (m : Metadata) (c : Contents) (used : ℕ) → frameRead limit rooms s ≡ answered (done (m, c) used) → Fit rooms c
-frame-fit limit rooms s m c used e = subst (λ (x : Reading (Metadata × Contents)). Fits rooms (contentsRead x)) e (frame-fits limit rooms s)
+frame-fit : (limit : ℕ) (rooms : Rooms) (s : List ℕ) (m : Head) (c : Contents) (used : ℕ) → frameRead limit rooms s ≡ answered (done (m, c) used) → Fit rooms c
+frame-fit limit rooms s m c used e = subst (λ (x : Reading (Head × Contents)). Fits rooms (contentsRead x)) e (frame-fits limit rooms s)
 
 -- ---- not accepted
 
 -- what is not said to be done holds nothing
-said-nothing : (x : Reading (Metadata × Contents)) (a : FrameRead) → frameSaid a ≡ frameTells x → (tagOf (declared enum) a ≡ 1) ⊎ (tagOf (declared enum) a ≡ 2)
+said-nothing : (x : Reading (Head × Contents)) (a : FrameRead) → frameSaid a ≡ frameTells x → (tagOf (declared enum) a ≡ 1) ⊎ (tagOf (declared enum) a ≡ 2)
     → (n : ℕ) × (place : ℕ) × (contentsRead x ≡ refused n place)
 said-nothing (wait n) a e t = (1, n, refl)
 said-nothing (answered (refused n place)) a e t = (n, place, refl)
@@ -73,7 +73,7 @@ module _ (input : List ℕ) (limit room : ℕ) (old : List ℕ) where
 
   -- ---- accepted
 
-  module _ (m : Metadata) (i j used : ℕ) (says : answered (done (m, (i, j)) used) ≡ frameTells (frameRead limit rooms input)) where
+  module _ (m : Head) (i j used : ℕ) (says : answered (done (m, (i, j)) used) ≡ frameTells (frameRead limit rooms input)) where
     pub found : (c : Contents) × (frameRead limit rooms input ≡ answered (done (m, c) used)) × (countsOf c ≡ (i, j))
     found = said-done (frameRead limit rooms input) m (i, j) used says
 
@@ -107,11 +107,11 @@ module _ (input : List ℕ) (limit room : ℕ) (old : List ℕ) where
         }
 
     -- A KV list has all its pairs before the first of no messages, and a list of messages has none before the first.
-    module _ (at left : ℕ) (e : at ≡ kvOf (take used input) .at) (t : (m .kind ≡ 3 → left ≡ 0) × ((m .kind ≡ 3 → ⊥) → left ≡ j)) where
+    module _ (at left : ℕ) (e : at ≡ kvOf (take used input) .at) (t : (m .«frame_type» ≡ 3 → left ≡ 0) × ((m .«frame_type» ≡ 3 → ⊥) → left ≡ j)) where
       abbrev first : Far
       first = record { at = at; left = left; messages = 0 }
 
-      list-first : (m .kind ≡ 3 → ⊥) → FromMessages input i 0 first old filled (found .0 .pairs)
+      list-first : (m .«frame_type» ≡ 3 → ⊥) → FromMessages input i 0 first old filled (found .0 .pairs)
       list-first ne =
           let l = lies .list ne in
           record {
@@ -129,7 +129,7 @@ module _ (input : List ℕ) (limit room : ℕ) (old : List ℕ) where
             goes = ap (λ (ms : List Message). leaves (written (joined messageNumbers ms)) old) (sym (l .2));
           }
 
-      messages-first : m .kind ≡ 3 → FromMessages input i 0 first old filled (found .0 .pairs)
+      messages-first : m .«frame_type» ≡ 3 → FromMessages input i 0 first old filled (found .0 .pairs)
       messages-first is3 =
           let l = lies .messages is3 in
           record {
@@ -149,9 +149,9 @@ module _ (input : List ℕ) (limit room : ℕ) (old : List ℕ) where
 
       pub from-first : FromMessages input i 0 first old filled (found .0 .pairs)
       from-first =
-          bool-cases (eqb (m .kind) 3)
-          (λ b. messages-first (eqb-true (m .kind) 3 b))
-          (λ b. list-first (eqb-false (m .kind) 3 b))
+          bool-cases (eqb (m .«frame_type») 3)
+          (λ b. messages-first (eqb-true (m .«frame_type») 3 b))
+          (λ b. list-first (eqb-false (m .«frame_type») 3 b))
 
 -- ---- a few pairs, by value
 
@@ -159,13 +159,12 @@ module _ (input : List ℕ) (limit room : ℕ) (old : List ℕ) where
 rooms-same : (limit : ℕ) (rooms others : Rooms) (s : List ℕ) → Larger rooms others → ((place : ℕ) → frameRead limit rooms s ≡ answered (refused 10 place) → ⊥)
     → frameRead limit others s ≡ frameRead limit rooms s
 rooms-same limit rooms others s larger full =
-    by-cut limit s
-    (λ h. frame-start limit others s h ∙ sym (frame-start limit rooms s h))
-    (λ h l. frame-over limit others s h l ∙ sym (frame-over limit rooms s h l))
-    (λ h l w. frame-wait limit others s h l w ∙ sym (frame-wait limit rooms s h l w))
-    (λ h l w.
-    let cut = frame-whole limit rooms s h l w in
-    frame-whole limit others s h l w ∙ ap answered (whole-kept rooms others larger (take (4 + fourNumber s) s) (λ place e. full place (cut ∙ ap answered e))) ∙ sym cut)
+    reading-cases (cut limit s)
+    (λ n e. frame-wait limit others s n e ∙ sym (frame-wait limit rooms s n e))
+    (λ n place e. frame-over limit others s n place e ∙ sym (frame-over limit rooms s n place e))
+    (λ f end e.
+    let is = frame-whole limit rooms s f end e in
+    frame-whole limit others s f end e ∙ ap answered (whole-kept rooms others larger f (λ place g. full place (is ∙ ap answered g))) ∙ sym is)
 
 -- four pairs or fewer are all there
 few-all : (ps : List Pair) → length ps ≤ 4 → InFew (fewOf ps) 0 ps
@@ -186,7 +185,7 @@ module _ (input : List ℕ) (limit room : ℕ) (old new : List ℕ) (h : 4 ≤ r
       rooms-same limit (roomForFew old) (rooms input limit room old) input (record { messages = omega arith; pairs = h })
       (λ place e. full place (read .says ∙ ap frameTells e))
 
-  pub few-prepared : (m : Metadata) (i j used : ℕ) → r .answer ≡ f.Done m i j used
+  pub few-prepared : (m : Head) (i j used : ℕ) → r .answer ≡ f.Done m i j used
       → Prepared input limit room (record { answer = f.Done m i j used; count = j; source = record { own = true; few = r .few; total = 0 }; start = record { at = 0; left = 0; messages = 0 } }) old new
   few-prepared m i j used e =
       let four-says : answered (done (m, (i, j)) used) ≡ frameTells (frameRead limit (roomForFew old) input) = ap frameSaid (sym e) ∙ read .says in
@@ -194,11 +193,11 @@ module _ (input : List ℕ) (limit room : ℕ) (old new : List ℕ) (h : 4 ≤ r
       let says : answered (done (m, (i, j)) used) ≡ frameTells (frameRead limit (rooms input limit room old) input) = four-says ∙ ap frameTells (sym same) in
       let c = found input limit room old m i j used says .0 in
       let is : frameRead limit (roomForFew old) input ≡ answered (done (m, c) used) = sym same ∙ found input limit room old m i j used says .1 in
-      let few : r .few ≡ fewOf (c .pairs) = read .few ∙ ap (λ (x : Reading (Metadata × Contents)). fewOf (pairsRead (contentsRead x))) is in
+      let few : r .few ≡ fewOf (c .pairs) = read .few ∙ ap (λ (x : Reading (Head × Contents)). fewOf (pairsRead (contentsRead x))) is in
       let fits = frame-fit limit (roomForFew old) input m c used is in
       found-prepared input limit room old m i j used says new _ _ (
         subst (λ (x : Few). InFew x 0 (c .pairs)) (sym few) (few-all (c .pairs) (fits .1)),
-        read .messages ∙ ap (λ (x : Reading (Metadata × Contents)). leaves (next (contentsRead x) (λ (d : Contents) (n : ℕ). written (joined messageNumbers (d .messages)))) old) is,
+        read .messages ∙ ap (λ (x : Reading (Head × Contents)). leaves (next (contentsRead x) (λ (d : Contents) (n : ℕ). written (joined messageNumbers (d .messages)))) old) is,
       )
 
   module _ (t : (tagOf (declared enum) (r .answer) ≡ 1) ⊎ (tagOf (declared enum) (r .answer) ≡ 2)) where

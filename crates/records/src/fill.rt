@@ -250,10 +250,10 @@ fn nothing(answer: FrameRead) -> Found
 }
 
 // How many pairs come before the first message, where a payload has so many: all of a KV list.
-fn before_messages(kind: u64, pairs: usize) -> usize
-    ensures { λ r. ⌜ ((kind ≡ 3 → r ≡ 0) × ((kind ≡ 3 → ⊥) → r ≡ pairs)) ⌝ }
+fn before_messages(frame_type: u8, pairs: usize) -> usize
+    ensures { λ r. ⌜ ((«frame_type» ≡ 3 → r ≡ 0) × ((«frame_type» ≡ 3 → ⊥) → r ≡ pairs)) ⌝ }
 {
-    if kind == frame::NOTIFY {
+    if frame_type == frame::NOTIFY {
         return 0;
     }
     pairs
@@ -269,7 +269,7 @@ fn prepare_many(input: &[u8], limit: u32, room: usize, messages: &mut [u64]) -> 
     };
     let answer = parser::look_frame(input, limit, rooms);
     let FrameRead::Done {
-        metadata,
+        head,
         messages: message_count,
         pairs: pair_count,
         used,
@@ -280,7 +280,7 @@ fn prepare_many(input: &[u8], limit: u32, room: usize, messages: &mut [u64]) -> 
     let place = walker::kv_of(&input[..used]);
     let start = Far {
         at: place.at,
-        left: before_messages(metadata.kind, pair_count),
+        left: before_messages(head.frame_type, pair_count),
         messages: 0,
     };
     Found {
@@ -306,7 +306,7 @@ pub(crate) fn prepare(input: &[u8], limit: u32, room: usize, messages: &mut [u64
     let answer = read.answer;
     match answer {
         FrameRead::Done {
-            metadata: _,
+            head: _,
             messages: _,
             pairs,
             used: _,

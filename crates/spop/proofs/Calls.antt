@@ -87,10 +87,10 @@ module _ (fin abort : Bool) (stream frame limit : ℕ) (buffer : List ℕ) (at :
       let h = headOf 103 fin abort stream frame in
       zero-writes (actionsAnswer h limit buffer actions count) (length old) (actions-numbered h limit buffer actions count) p
 
-  pub kv-call : (kind : ℕ) (pairs : List ℕ) (count : ℕ) → SpopWriteKv fin abort stream frame limit buffer kind pairs count 0 at old new
-      → WriteKv fin abort stream frame limit buffer kind pairs count (w.Done at) old new
-  kv-call kind pairs count p =
-      let h = headOf kind fin abort stream frame in
+  pub kv-call : (type : ℕ) (pairs : List ℕ) (count : ℕ) → SpopWriteKv fin abort stream frame limit buffer type pairs count 0 at old new
+      → WriteKv fin abort stream frame limit buffer type pairs count (w.Done at) old new
+  kv-call type pairs count p =
+      let h = headOf type fin abort stream frame in
       zero-writes (kvAnswer h limit buffer pairs count) (length old) (kv-numbered h limit buffer pairs count) p
 
   pub notify-call : (messages : List ℕ) (count : ℕ) (pairs : List ℕ) (total : ℕ) → SpopWriteNotify fin abort stream frame limit buffer messages count pairs total 0 at old new

@@ -6,9 +6,9 @@ use native.Mathlib.Omega.{arith}
 use Rattle.answer.specs.declared.Written.{Written}
 use Rattle.answer.specs.Answer.{Answer, done, refused, next, tells}
 use Rattle.answer.specs.Writes.{said, Writes}
-use Rattle.parser.specs.declared.Metadata.{Metadata}
+use Rattle.frame.specs.declared.Head.{Head}
 use Rattle.parser.specs.Payload.{Contents}
-use Rattle.parser.specs.Frame.{Reading, wait, answered, answerOf}
+use Rattle.frame.specs.Read.{Reading, wait, answered, answerOf}
 use Rattle.parser.specs.Promise.{countsOf, frameTells}
 use Rattle.agent.specs.Frame.{Sent}
 use Rattle.agent.specs.Promise.{agentTells}
@@ -51,36 +51,36 @@ answered-apart : {A : Type 0} {a b : Answer A} → answered a ≡ answered b →
 answered-apart e = cc
 
 -- what is said of a frame whose contents are counted so; the frame reader's, and that of agents' frames
-abbrev pub tellsBy : {A : Type 0} → (A → ℕ × ℕ) → Reading (Metadata × A) → Reading (Metadata × (ℕ × ℕ))
+abbrev pub tellsBy : {A : Type 0} → (A → ℕ × ℕ) → Reading (Head × A) → Reading (Head × (ℕ × ℕ))
 tellsBy counts (wait missing) = wait missing
 tellsBy counts (answered a) = answered (next a (λ x used. done (x .0, counts (x .1)) used))
 
-pub frame-tells : (x : Reading (Metadata × Contents)) → frameTells x ≡ tellsBy countsOf x
+pub frame-tells : (x : Reading (Head × Contents)) → frameTells x ≡ tellsBy countsOf x
 frame-tells (wait n) = refl
 frame-tells (answered a) = refl
 
-pub agent-tells : (x : Reading (Metadata × Sent)) → agentTells x ≡ tellsBy sentCounts x
+pub agent-tells : (x : Reading (Head × Sent)) → agentTells x ≡ tellsBy sentCounts x
 agent-tells (wait n) = refl
 agent-tells (answered a) = refl
 
 -- each is the answer's, and the head's numbers are its own or stay as they were
 module _ {A : Type 0} (counts : A → ℕ × ℕ) (before : List ℕ) where
-  pub head-done : (x : Reading (Metadata × A)) (m : Metadata) (k : ℕ × ℕ) (n : ℕ) → answered (done (m, k) n) ≡ tellsBy counts x
-      → Told (answerOf x) 0 n × (m .kind ∷ m .flags ∷ m .stream ∷ m .frame ∷ k .0 ∷ k .1 ∷ [] ≡ valueOr (headNumbers counts) (answerOf x) before)
+  pub head-done : (x : Reading (Head × A)) (m : Head) (k : ℕ × ℕ) (n : ℕ) → answered (done (m, k) n) ≡ tellsBy counts x
+      → Told (answerOf x) 0 n × (m .«frame_type» ∷ m .flags ∷ m .stream ∷ m .frame ∷ k .0 ∷ k .1 ∷ [] ≡ valueOr (headNumbers counts) (answerOf x) before)
   head-done (wait w) m k n e = let z : _≡_ {A = ℕ} 0 1 = cc in absurd (omega arith)
   head-done (answered (done y u)) m k n e =
       let o = done-apart (answered-apart e) in (
         record { says = refl; where-at = o .1 },
-        ap (λ (h : Metadata × (ℕ × ℕ)). h .0 .kind ∷ h .0 .flags ∷ h .0 .stream ∷ h .0 .frame ∷ h .1 .0 ∷ h .1 .1 ∷ []) (o .0),
+        ap (λ (h : Head × (ℕ × ℕ)). h .0 .«frame_type» ∷ h .0 .flags ∷ h .0 .stream ∷ h .0 .frame ∷ h .1 .0 ∷ h .1 .1 ∷ []) (o .0),
       )
   head-done (answered (refused a p)) m k n e = let q = answered-apart e in let z : _≡_ {A = ℕ} 0 1 = cc in absurd (omega arith)
 
-  pub head-wait : (x : Reading (Metadata × A)) (n : ℕ) → wait n ≡ tellsBy counts x → Told (answerOf x) 1 n × (before ≡ valueOr (headNumbers counts) (answerOf x) before)
+  pub head-wait : (x : Reading (Head × A)) (n : ℕ) → wait n ≡ tellsBy counts x → Told (answerOf x) 1 n × (before ≡ valueOr (headNumbers counts) (answerOf x) before)
   head-wait (wait w) n e = (record { says = refl; where-at = cc }, refl)
   head-wait (answered (done y u)) n e = let z : _≡_ {A = ℕ} 0 1 = cc in absurd (omega arith)
   head-wait (answered (refused a p)) n e = let z : _≡_ {A = ℕ} 0 1 = cc in absurd (omega arith)
 
-  pub head-refused : (x : Reading (Metadata × A)) (number place : ℕ) → answered (refused number place) ≡ tellsBy counts x
+  pub head-refused : (x : Reading (Head × A)) (number place : ℕ) → answered (refused number place) ≡ tellsBy counts x
       → {r at : ℕ} → (r ≡ number) × (at ≡ place) → Told (answerOf x) r at × (before ≡ valueOr (headNumbers counts) (answerOf x) before)
   head-refused (wait w) number place e t = let z : _≡_ {A = ℕ} 0 1 = cc in absurd (omega arith)
   head-refused (answered (done y u)) number place e t = let q = answered-apart e in let z : _≡_ {A = ℕ} 0 1 = cc in absurd (omega arith)

@@ -117,11 +117,11 @@ module _ (r q at also : ℕ) (old new other : List ℕ) where
   spop-write-value-unique value buffer p s = call-unique p s
 
   module _ (fin abort : Bool) (stream frame limit : ℕ) (buffer : List ℕ) where
-    pub spop-write-kv-unique : (kind : ℕ) (pairs : List ℕ) (count : ℕ)
-        → SpopWriteKv fin abort stream frame limit buffer kind pairs count r at old new
-        → SpopWriteKv fin abort stream frame limit buffer kind pairs count q also old other
+    pub spop-write-kv-unique : (type : ℕ) (pairs : List ℕ) (count : ℕ)
+        → SpopWriteKv fin abort stream frame limit buffer type pairs count r at old new
+        → SpopWriteKv fin abort stream frame limit buffer type pairs count q also old other
         → (r ≡ q) × (at ≡ also) × (new ≡ other)
-    spop-write-kv-unique kind pairs count p s = call-unique p s
+    spop-write-kv-unique type pairs count p s = call-unique p s
 
     pub spop-write-actions-unique : (actions : List ℕ) (count : ℕ)
         → SpopWriteActions fin abort stream frame limit buffer actions count r at old new

@@ -15,7 +15,8 @@ use Rattle.types.specs.Check.{valueChecks}
 use Rattle.frame.specs.declared.Pair.{Pair}
 use Rattle.frame.specs.Records.{pairNumbers}
 use Rattle.parser.specs.Pair.{pair}
-use Rattle.parser.specs.Frame.{answerOf, frameRead}
+use Rattle.frame.specs.Read.{answerOf}
+use Rattle.parser.specs.Frame.{frameRead}
 use Rattle.parser.specs.Promise.{countsOf, roomsOf, contentsRead, Fills}
 use Rattle.agent.specs.Promise.{sentRead, readInto}
 use Rattle.agent.specs.Promise as sent
@@ -80,7 +81,7 @@ pub record SpopReadAgentFrame (input : List ℕ) (limit r at : ℕ) (before head
 
 module _ (fin abort : Bool) (stream frame limit : ℕ) (buffer : List ℕ) where
   abbrev pub SpopWriteKv : ℕ → List ℕ → ℕ → ℕ → ℕ → List ℕ → List ℕ → Type 0
-  SpopWriteKv kind pairs count r at old new = Left (kvAnswer (headOf kind fin abort stream frame) limit buffer pairs count) r at old new
+  SpopWriteKv type pairs count r at old new = Left (kvAnswer (headOf type fin abort stream frame) limit buffer pairs count) r at old new
 
   abbrev pub SpopWriteActions : List ℕ → ℕ → ℕ → ℕ → List ℕ → List ℕ → Type 0
   SpopWriteActions actions count r at old new = Left (actionsAnswer (headOf 103 fin abort stream frame) limit buffer actions count) r at old new

@@ -21,9 +21,9 @@ use varint::NumberRead;
 ghost use mathlib.Core.Path.{_≡_};
 ghost use Rattle.answer.specs.Writes.{said};
 ghost use Rattle.types.specs.Promise.{recordOf};
-ghost use Rattle.parser.specs.declared.Metadata.{Metadata as MetadataRecord};
+ghost use Rattle.frame.specs.declared.Head.{Head};
+ghost use Rattle.frame.specs.Read.{Reading, answerOf};
 ghost use Rattle.parser.specs.Payload.{Contents};
-ghost use Rattle.parser.specs.Frame.{Reading, answerOf};
 ghost use Rattle.parser.specs.Promise.{countsOf, frameSaid, frameTells};
 ghost use Rattle.agent.specs.Frame.{Sent};
 ghost use Rattle.agent.specs.Promise.{agentSaid, agentTells};
@@ -360,18 +360,18 @@ fn tell(answer: Written, at: &mut u64) -> u64
 
 // What the frame reader answers.
 fn tell_frame(answer: FrameRead, head: &mut [u64; 6], at: &mut u64) -> u64
-    ensures { λ r. ⌜ ((x : Reading (MetadataRecord × Contents)) → frameSaid answer ≡ frameTells x → Told (answerOf x) r (now (at .exit)) × (now (head .exit) ≡ valueOr (headNumbers countsOf) (answerOf x) (now (head .entry)))) ⌝ }
+    ensures { λ r. ⌜ ((x : Reading (Head × Contents)) → frameSaid answer ≡ frameTells x → Told (answerOf x) r (now (at .exit)) × (now (head .exit) ≡ valueOr (headNumbers countsOf) (answerOf x) (now (head .entry)))) ⌝ }
 {
     match answer {
         FrameRead::Done {
-            metadata: m,
+            head: m,
             messages,
             pairs,
             used,
         } => {
             *head = [
-                m.kind,
-                m.flags,
+                m.frame_type as u64,
+                m.flags as u64,
                 m.stream,
                 m.frame,
                 messages as u64,
@@ -390,18 +390,18 @@ fn tell_frame(answer: FrameRead, head: &mut [u64; 6], at: &mut u64) -> u64
 
 // What the reader of agents' frames answers.
 fn tell_agent(answer: AgentRead, head: &mut [u64; 6], at: &mut u64) -> u64
-    ensures { λ r. ⌜ ((x : Reading (MetadataRecord × Sent)) → agentSaid answer ≡ agentTells x → Told (answerOf x) r (now (at .exit)) × (now (head .exit) ≡ valueOr (headNumbers sentCounts) (answerOf x) (now (head .entry)))) ⌝ }
+    ensures { λ r. ⌜ ((x : Reading (Head × Sent)) → agentSaid answer ≡ agentTells x → Told (answerOf x) r (now (at .exit)) × (now (head .exit) ≡ valueOr (headNumbers sentCounts) (answerOf x) (now (head .entry)))) ⌝ }
 {
     match answer {
         AgentRead::Done {
-            metadata: m,
+            head: m,
             pairs: pair_count,
             actions: action_count,
             used,
         } => {
             *head = [
-                m.kind,
-                m.flags,
+                m.frame_type as u64,
+                m.flags as u64,
                 m.stream,
                 m.frame,
                 pair_count as u64,

@@ -10,7 +10,8 @@ use Rattle.types.specs.Value.{string, typed, shape, signExtended}
 use Rattle.frame.specs.Head.{fourNumber}
 use Rattle.parser.specs.Pair.{pair}
 use Rattle.parser.specs.Payload.{onePair, oneMessage, toEnd, payload}
-use Rattle.parser.specs.Frame.{lastId, ids, metadata, whole, front, frameRead}
+use Rattle.frame.specs.Read.{cut, head}
+use Rattle.parser.specs.Frame.{oneFrame, atFront, frameRead}
 use Rattle.agent.specs.Action.{variable, action, oneAction, toEnd as actionsToEnd, actions}
 use Rattle.listing.specs.Digits.{letters, digits, decimal, signed, shown}
 use Rattle.listing.specs.Lines.{filled, valueText, frameLine, messageLine, pairLine, actionLine, endLine}
@@ -33,7 +34,7 @@ lines =
 
 pub example : listing 65532 (record { messages = 64; pairs = 256 }) input ≡ lines
 unfolding more number string typed shape signExtended fourNumber inOrder some joined
-    pair onePair oneMessage toEnd payload lastId ids metadata whole front frameRead
+    pair onePair oneMessage toEnd payload head cut oneFrame atFront frameRead
     digits decimal signed shown filled valueText frameLine messageLine pairLine endLine pairLines itemLines frameLines stopFrom linesFrom
 example = refl
 
@@ -54,6 +55,6 @@ sentLinesOf =
 
 pub sent-example : sentListing 65532 256 256 sent ≡ sentLinesOf
 unfolding more number string typed shape signExtended fourNumber inOrder some joined
-    pair variable action oneAction actionsToEnd actions lastId ids metadata whole front
+    pair variable action oneAction actionsToEnd actions head cut oneFrame atFront
     digits decimal signed shown filled valueText frameLine actionLine endLine pairLines actionLines sentLines stopFrom linesFrom
 sent-example = refl

@@ -9,9 +9,10 @@ use lib.ListN.{length, take, drop}
 use Rattle.answer.specs.Answer.{done, refused}
 use Rattle.types.proofs.Roundtrip.{Meaning}
 use Rattle.parser.specs.declared.Rooms.{Rooms}
-use Rattle.parser.specs.declared.Metadata.{Metadata}
+use Rattle.frame.specs.declared.Head.{Head}
 use Rattle.parser.specs.Payload.{Contents}
-use Rattle.parser.specs.Frame.{Reading, wait, answered, answerOf, frameRead}
+use Rattle.frame.specs.Read.{Reading, wait, answered, answerOf}
+use Rattle.parser.specs.Frame.{frameRead}
 use Rattle.parser.proofs.Accepted.{frame-cut}
 use Rattle.agent.specs.Frame.{Sent, agentRead}
 use Rattle.agent.proofs.Standing.{agent-cut}
@@ -20,22 +21,22 @@ use Rattle.listing.proofs.Frames.{itemLines, frameLines, pairLines, actionLines
 use Rattle.listing.proofs.Lossless.{messageMeans, pairMeans, Over, listing-apart-then, frame-over, end-over, end-apart}
 use Rattle.listing.proofs.Sent.{HeldSent, sent-held}
 use Rattle.listing.proofs.SentLossless.{actionMeans, sent-apart-then}
-use Rattle.spoplist.specs.Listing.{Stop, taken, onward, stopOf}
+use Rattle.spoplist.specs.Listing.{Stop, taken, goesOn, stopOf}
 
 -- ---- the listing of an input
 
 -- how a frame at the front is read, and what its lines are
 abbrev Reader : Type 0 → Type 0
-Reader A = List ℕ → Reading (Metadata × A)
+Reader A = List ℕ → Reading (Head × A)
 
 abbrev Lines : Type 0 → Type 0
-Lines A = ℕ → List ℕ → Metadata → A → List ℕ
+Lines A = ℕ → List ℕ → Head → A → List ℕ
 
 -- The lines of the frames from this index on, in order.
 unfoldable pub linesFrom : {A : Type 0} → Reader A → Lines A → ℕ → ℕ → List ℕ → List ℕ
 linesFrom read lines zero index s = []
 linesFrom read lines (suc k) index s =
-    onward (answerOf (read s)) (λ x n. lines index (take n s) (x .0) (x .1) ++ linesFrom read lines k (suc index) (drop n s)) (λ number place. [])
+    goesOn (answerOf (read s)) (λ x n. lines index (take n s) (x .0) (x .1) ++ linesFrom read lines k (suc index) (drop n s)) (λ number place. [])
 
 abbrev pub stopBy : {A : Type 0} → Reader A → List ℕ → Stop
 stopBy read s = stopOf (λ t. taken (read t)) s
@@ -55,17 +56,17 @@ sentListing limit pairs actions s = listingOf (agentRead limit pairs actions) se
 
 -- What a frame means as far as lines say it: its type and ids, how many bytes it takes, and what its records mean but for flags.
 pub record FrameMeans (M : Type 0) : Type 0 where
-  pub kind : ℕ
+  pub type : ℕ
   pub stream : ℕ
   pub id : ℕ
   pub bytes : ℕ
   pub records : M
 
 -- messages and pairs
-abbrev pub frameMeans : List ℕ → Metadata → Contents → FrameMeans (List (List ℕ × ℕ) × List (List ℕ × Meaning))
+abbrev pub frameMeans : List ℕ → Head → Contents → FrameMeans (List (List ℕ × ℕ) × List (List ℕ × Meaning))
 frameMeans f m c =
     record {
-      kind = m .kind;
+      type = m .«frame_type»;
       stream = m .stream;
       id = m .frame;
       bytes = length f;
@@ -73,10 +74,10 @@ frameMeans f m c =
     }
 
 -- pairs and actions
-abbrev pub sentMeans : List ℕ → Metadata → Sent → FrameMeans (List (List ℕ × Meaning) × List (ℕ × ℕ × (List ℕ × Meaning)))
+abbrev pub sentMeans : List ℕ → Head → Sent → FrameMeans (List (List ℕ × Meaning) × List (ℕ × ℕ × (List ℕ × Meaning)))
 sentMeans f m c =
     record {
-      kind = m .kind;
+      type = m .«frame_type»;
       stream = m .stream;
       id = m .frame;
       bytes = length f;
@@ -84,14 +85,14 @@ sentMeans f m c =
     }
 
 -- the frames of an input, as many as are counted down at most
-unfoldable pub meaningsFrom : {A M : Type 0} → Reader A → (List ℕ → Metadata → A → M) → ℕ → List ℕ → List M
+unfoldable pub meaningsFrom : {A M : Type 0} → Reader A → (List ℕ → Head → A → M) → ℕ → List ℕ → List M
 meaningsFrom read means zero s = []
 meaningsFrom read means (suc k) s =
-    onward (answerOf (read s)) (λ x n. means (take n s) (x .0) (x .1) ∷ meaningsFrom read means k (drop n s)) (λ number place. [])
+    goesOn (answerOf (read s)) (λ x n. means (take n s) (x .0) (x .1) ∷ meaningsFrom read means k (drop n s)) (λ number place. [])
 
 -- ---- one frame after the other
 
-frame-starts : (index : ℕ) (m : Metadata) (bytes : ℕ) → (t : List ℕ) × (frameLine index m bytes ≡ 102 ∷ t)
+frame-starts : (index : ℕ) (m : Head) (bytes : ℕ) → (t : List ℕ) × (frameLine index m bytes ≡ 102 ∷ t)
 unfolding frameLine filled
 frame-starts index m bytes = (_, refl)
 
@@ -104,8 +105,8 @@ abbrev last : Stop → List ℕ
 last z = endLine (z .used) (z .number) (z .at)
 
 -- Lines that begin with the frame's own.
-module _ {A M : Type 0} (lines : Lines A) (means : List ℕ → Metadata → A → M)
-    (begins : (index : ℕ) (f : List ℕ) (m : Metadata) (c : A) (t : List ℕ) → (r : List ℕ) × (lines index f m c ++ t ≡ frameLine index m (length f) ++ r)) where
+module _ {A M : Type 0} (lines : Lines A) (means : List ℕ → Head → A → M)
+    (begins : (index : ℕ) (f : List ℕ) (m : Head) (c : A) (t : List ℕ) → (r : List ℕ) × (lines index f m c ++ t ≡ frameLine index m (length f) ++ r)) where
   module _ (read : Reader A) where
     -- no frame is at the front, or one is and others follow
     record Ended (k index : ℕ) (s : List ℕ) : Type 0 where
@@ -113,12 +114,12 @@ module _ {A M : Type 0} (lines : Lines A) (means : List ℕ → Metadata → A �
       meanings : meaningsFrom read means k s ≡ []
 
     record Going (k index : ℕ) (s : List ℕ) : Type 0 where
-      metadata : Metadata
+      head : Head
       contents : A
       used : ℕ
-      is : read s ≡ answered (done (metadata, contents) used)
-      on : linesFrom read lines (suc k) index s ≡ lines index (take used s) metadata contents ++ linesFrom read lines k (suc index) (drop used s)
-      meanings : meaningsFrom read means (suc k) s ≡ means (take used s) metadata contents ∷ meaningsFrom read means k (drop used s)
+      is : read s ≡ answered (done (head, contents) used)
+      on : linesFrom read lines (suc k) index s ≡ lines index (take used s) head contents ++ linesFrom read lines k (suc index) (drop used s)
+      meanings : meaningsFrom read means (suc k) s ≡ means (take used s) head contents ∷ meaningsFrom read means k (drop used s)
 
     ended-zero : (index : ℕ) (s : List ℕ) → Ended 0 index s
     unfolding linesFrom meaningsFrom
@@ -128,10 +129,10 @@ module _ {A M : Type 0} (lines : Lines A) (means : List ℕ → Metadata → A �
     unfolding linesFrom meaningsFrom
     view k index s = by-answer (read s) refl
       where
-        by-answer : (x : Reading (Metadata × A)) → read s ≡ x → Ended (suc k) index s ⊎ Going k index s
+        by-answer : (x : Reading (Head × A)) → read s ≡ x → Ended (suc k) index s ⊎ Going k index s
         by-answer (wait n) is = inl (record { none = rw is; meanings = rw is })
         by-answer (answered (refused n place)) is = inl (record { none = rw is; meanings = rw is })
-        by-answer (answered (done (m, c) n)) is = inr (record { metadata = m; contents = c; used = n; is = is; on = rw is; meanings = rw is })
+        by-answer (answered (done (m, c) n)) is = inr (record { head = m; contents = c; used = n; is = is; on = rw is; meanings = rw is })
 
     -- the lines of the frames, and a last line
     abbrev closed : Stop → ℕ → ℕ → List ℕ → List ℕ
@@ -142,20 +143,20 @@ module _ {A M : Type 0} (lines : Lines A) (means : List ℕ → Metadata → A �
       closed-ended k index s v = rw (v .none)
 
       closed-going : (k index : ℕ) (s : List ℕ) (g : Going k index s)
-          → closed z (suc k) index s ≡ lines index (take (g .used) s) (g .metadata) (g .contents) ++ closed z k (suc index) (drop (g .used) s)
+          → closed z (suc k) index s ≡ lines index (take (g .used) s) (g .head) (g .contents) ++ closed z k (suc index) (drop (g .used) s)
       closed-going k index s g =
-          rw (g .on) (append-assoc (lines index (take (g .used) s) (g .metadata) (g .contents)) (linesFrom read lines k (suc index) (drop (g .used) s)) (last z))
+          rw (g .on) (append-assoc (lines index (take (g .used) s) (g .head) (g .contents)) (linesFrom read lines k (suc index) (drop (g .used) s)) (last z))
 
       closed-over : (k index : ℕ) (s : List ℕ) → Over (closed z k index s)
       closed-over zero index s = rw (closed-ended 0 index s (ended-zero index s)) (end-over (z .used) (z .number) (z .at))
       closed-over (suc k) index s =
           ⊎-elim (λ v. rw (closed-ended (suc k) index s v) (end-over (z .used) (z .number) (z .at)))
           (λ (g : Going k index s).
-          let b = begins index (take (g .used) s) (g .metadata) (g .contents) (closed z k (suc index) (drop (g .used) s)) in
-          rw (closed-going k index s g, b .1) (frame-over index (g .metadata) (length (take (g .used) s)) (b .0)))
+          let b = begins index (take (g .used) s) (g .head) (g .contents) (closed z k (suc index) (drop (g .used) s)) in
+          rw (closed-going k index s g, b .1) (frame-over index (g .head) (length (take (g .used) s)) (b .0)))
           (view k index s)
 
-  not-end : {G : Type 0} (index : ℕ) (f : List ℕ) (m : Metadata) (c : A) (t : List ℕ) (z : Stop) → lines index f m c ++ t ≡ last z → G
+  not-end : {G : Type 0} (index : ℕ) (f : List ℕ) (m : Head) (c : A) (t : List ℕ) (z : Stop) → lines index f m c ++ t ≡ last z → G
   not-end index f m c t z e =
       let b = begins index f m c t in
       let q = rw (b .1, frame-starts index m (length f) .1, end-starts (z .used) (z .number) (z .at) .1) at e in
@@ -165,7 +166,7 @@ module _ {A M : Type 0} (lines : Lines A) (means : List ℕ → Metadata → A �
 
   -- Frames whose lines are told apart.
   module _ (read other : Reader A)
-      (same : (index : ℕ) (s t : List ℕ) (m n : Metadata) (c d : A) (used bytes : ℕ) → read s ≡ answered (done (m, c) used) → other t ≡ answered (done (n, d) bytes)
+      (same : (index : ℕ) (s t : List ℕ) (m n : Head) (c d : A) (used bytes : ℕ) → read s ≡ answered (done (m, c) used) → other t ≡ answered (done (n, d) bytes)
       → (u v : List ℕ) → Over u → Over v → lines index (take used s) m c ++ u ≡ lines index (take bytes t) n d ++ v
       → (means (take used s) m c ≡ means (take bytes t) n d) × (u ≡ v)) where
     module _ (y z : Stop) where
@@ -174,7 +175,7 @@ module _ {A M : Type 0} (lines : Lines A) (means : List ℕ → Metadata → A �
       apart-ended zero index t e = let v = ended-zero other index t in (v .meanings, e ∙ closed-ended other z 0 index t v)
       apart-ended (suc j) index t e =
           ⊎-elim (λ v. (v .meanings, e ∙ closed-ended other z (suc j) index t v))
-          (λ g. not-end index (take (g .used) t) (g .metadata) (g .contents) _ y (sym (e ∙ closed-going other z j index t g)))
+          (λ g. not-end index (take (g .used) t) (g .head) (g .contents) _ y (sym (e ∙ closed-going other z j index t g)))
           (view other j index t)
 
       -- Law: the same lines have the same frames, and the same last line.
@@ -188,16 +189,16 @@ module _ {A M : Type 0} (lines : Lines A) (means : List ℕ → Metadata → A �
           let w = ended-zero other index t in
           ⊎-elim (λ v. (v .meanings ∙ sym (w .meanings), sym (closed-ended read y (suc k) index s v) ∙ e ∙ closed-ended other z 0 index t w))
           (λ g.
-          not-end index (take (g .used) s) (g .metadata) (g .contents) _ z (sym (closed-going read y k index s g) ∙ e ∙ closed-ended other z 0 index t w))
+          not-end index (take (g .used) s) (g .head) (g .contents) _ z (sym (closed-going read y k index s g) ∙ e ∙ closed-ended other z 0 index t w))
           (view read k index s)
       lines-apart (suc k) (suc j) index s t e =
           ⊎-elim
           (λ v. let o = apart-ended (suc j) index t (sym (closed-ended read y (suc k) index s v) ∙ e) in (v .meanings ∙ sym (o .0), o .1))
           (λ g.
           ⊎-elim
-          (λ w. not-end index (take (g .used) s) (g .metadata) (g .contents) _ z (sym (closed-going read y k index s g) ∙ e ∙ closed-ended other z (suc j) index t w))
+          (λ w. not-end index (take (g .used) s) (g .head) (g .contents) _ z (sym (closed-going read y k index s g) ∙ e ∙ closed-ended other z (suc j) index t w))
           (λ h.
-          let o = same index s t (g .metadata) (h .metadata) (g .contents) (h .contents) (g .used) (h .used) (g .is) (h .is) _ _
+          let o = same index s t (g .head) (h .head) (g .contents) (h .contents) (g .used) (h .used) (g .is) (h .is) _ _
           (closed-over read y k (suc index) (drop (g .used) s)) (closed-over other z j (suc index) (drop (h .used) t))
           (sym (closed-going read y k index s g) ∙ e ∙ closed-going other z j index t h) in
           let r = lines-apart k j (suc index) (drop (g .used) s) (drop (h .used) t) (o .1) in
@@ -217,7 +218,7 @@ module _ {A M : Type 0} (lines : Lines A) (means : List ℕ → Metadata → A �
 
 -- ---- HAProxy's frames
 
-frame-begins : (index : ℕ) (f : List ℕ) (m : Metadata) (c : Contents) (t : List ℕ) → (r : List ℕ) × (frameLines index f m c ++ t ≡ frameLine index m (length f) ++ r)
+frame-begins : (index : ℕ) (f : List ℕ) (m : Head) (c : Contents) (t : List ℕ) → (r : List ℕ) × (frameLines index f m c ++ t ≡ frameLine index m (length f) ++ r)
 unfolding frameLines
 frame-begins index f m c t = (_, append-assoc (frameLine index m (length f)) (itemLines f 0 0 (c .messages) (c .pairs)) t)
 
@@ -231,18 +232,18 @@ listings-apart limit higher rooms others s t e =
     let o = listing-apart-then rooms others (take used s) (take bytes t) m n c d used bytes (frame-cut limit rooms s m c used is .is) (frame-cut higher others t n d bytes also .is)
     index index u v x y e in
     let a = o .0 in
-    ((λ i. record { kind = a .kind i; stream = a .stream i; id = a .id i; bytes = a .bytes i; records = (a .messages i, a .pairs i) }), o .1))
+    ((λ i. record { type = a .type i; stream = a .stream i; id = a .id i; bytes = a .bytes i; records = (a .messages i, a .pairs i) }), o .1))
     s
     t
     e
 
 -- ---- agents' frames
 
-sent-begins : (index : ℕ) (f : List ℕ) (m : Metadata) (c : Sent) (t : List ℕ) → (r : List ℕ) × (sentLines index f m c ++ t ≡ frameLine index m (length f) ++ r)
+sent-begins : (index : ℕ) (f : List ℕ) (m : Head) (c : Sent) (t : List ℕ) → (r : List ℕ) × (sentLines index f m c ++ t ≡ frameLine index m (length f) ++ r)
 unfolding sentLines
 sent-begins index f m c t = (_, append-assoc (frameLine index m (length f)) (pairLines f 0 (c .pairs) ++ actionLines f 0 (c .actions)) t)
 
-held : (limit pairs actions : ℕ) (s : List ℕ) (m : Metadata) (c : Sent) (used : ℕ) → agentRead limit pairs actions s ≡ answered (done (m, c) used) → HeldSent (length (take used s)) c
+held : (limit pairs actions : ℕ) (s : List ℕ) (m : Head) (c : Sent) (used : ℕ) → agentRead limit pairs actions s ≡ answered (done (m, c) used) → HeldSent (length (take used s)) c
 held limit pairs actions s m c used e = sent-held pairs actions (take used s) m c used (agent-cut limit pairs actions s m c used e .holds)
 
 -- Law: the same of the listing of what agents send.
@@ -254,7 +255,7 @@ sent-listings-apart limit higher pairs others actions rows s t e =
     (λ index s t m n c d used bytes is also u v x y e.
     let o = sent-apart-then index index (take used s) (take bytes t) m n c d (held limit pairs actions s m c used is) (held higher others rows t n d bytes also) u v x y e in
     let a = o .0 in
-    ((λ i. record { kind = a .kind i; stream = a .stream i; id = a .id i; bytes = a .bytes i; records = (a .pairs i, a .actions i) }), o .1))
+    ((λ i. record { type = a .type i; stream = a .stream i; id = a .id i; bytes = a .bytes i; records = (a .pairs i, a .actions i) }), o .1))
     s
     t
     e

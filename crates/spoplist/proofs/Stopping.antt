@@ -8,8 +8,9 @@ use lib.Seq.{drop-drop}
 use borrow.Author.Tests.{lt-ltb, le-ltb}
 use Rattle.answer.specs.Answer.{Answer, done, refused}
 use Rattle.parser.specs.declared.Rooms.{Rooms}
-use Rattle.parser.specs.declared.Metadata.{Metadata}
-use Rattle.parser.specs.Frame.{Reading, wait, answered, frameRead}
+use Rattle.frame.specs.declared.Head.{Head}
+use Rattle.frame.specs.Read.{Reading, wait, answered}
+use Rattle.parser.specs.Frame.{frameRead}
 use Rattle.parser.specs.Promise.{Counts, countsOf, frameTells}
 use Rattle.agent.specs.Frame.{agentRead}
 use Rattle.agent.specs.Promise.{agentTells}
@@ -23,15 +24,15 @@ use Rattle.spoplist.specs.Inner.{Accepts}
 -- ---- what a reader said
 
 -- Of any reader, by what is told of its answers: counts stand for the records.
-module _ {A : Type 0} (count : A → Counts) (tells : Reading (Metadata × A) → Reading (Metadata × Counts)) (waits : (n : ℕ) → tells (wait n) ≡ wait n)
-    (does : (m : Metadata) (c : A) (n : ℕ) → tells (answered (done (m, c) n)) ≡ answered (done (m, count c) n))
+module _ {A : Type 0} (count : A → Counts) (tells : Reading (Head × A) → Reading (Head × Counts)) (waits : (n : ℕ) → tells (wait n) ≡ wait n)
+    (does : (m : Head) (c : A) (n : ℕ) → tells (answered (done (m, c) n)) ≡ answered (done (m, count c) n))
     (refuses : (n place : ℕ) → tells (answered (refused n place)) ≡ answered (refused n place)) where
-  pub told-wait : (x : Reading (Metadata × A)) (n : ℕ) → wait n ≡ tells x → taken x ≡ refused 1 n
+  pub told-wait : (x : Reading (Head × A)) (n : ℕ) → wait n ≡ tells x → taken x ≡ refused 1 n
   told-wait (wait m) n q = let e = q ∙ waits m in let same : n ≡ m = cc in ap (refused 1) (sym same)
   told-wait (answered (refused m place)) n q = let e = q ∙ refuses m place in let z : _≡_ {A = ℕ} 0 1 = cc in absurd (omega arith)
   told-wait (answered (done (m, c) u)) n q = let e = q ∙ does m c u in let z : _≡_ {A = ℕ} 0 1 = cc in absurd (omega arith)
 
-  pub told-refused : (x : Reading (Metadata × A)) (number place : ℕ) → answered (refused number place) ≡ tells x → taken x ≡ refused number place
+  pub told-refused : (x : Reading (Head × A)) (number place : ℕ) → answered (refused number place) ≡ tells x → taken x ≡ refused number place
   told-refused (wait m) number place q = let e = q ∙ waits m in let z : _≡_ {A = ℕ} 0 1 = cc in absurd (omega arith)
   told-refused (answered (refused m p)) number place q =
       let e = q ∙ refuses m p in
@@ -42,7 +43,7 @@ module _ {A : Type 0} (count : A → Counts) (tells : Reading (Metadata × A) �
 
 -- of HAProxy's frames
 module _ (limit : ℕ) (rooms : Rooms) (s : List ℕ) where
-  pub said-taken : (m : Metadata) (k : Counts) (used : ℕ) → answered (done (m, k) used) ≡ frameTells (frameRead limit rooms s)
+  pub said-taken : (m : Head) (k : Counts) (used : ℕ) → answered (done (m, k) used) ≡ frameTells (frameRead limit rooms s)
       → Accepts s (haproxysTake limit rooms s) used
   said-taken m k used e =
       let o = said-done (frameRead limit rooms s) m k used e in
@@ -57,7 +58,7 @@ module _ (limit : ℕ) (rooms : Rooms) (s : List ℕ) where
 
 -- and of agents'
 module _ (limit pairs room : ℕ) (s : List ℕ) where
-  pub sent-taken : (m : Metadata) (k : Counts) (used : ℕ) → answered (done (m, k) used) ≡ agentTells (agentRead limit pairs room s)
+  pub sent-taken : (m : Head) (k : Counts) (used : ℕ) → answered (done (m, k) used) ≡ agentTells (agentRead limit pairs room s)
       → Accepts s (agentsTake limit pairs room s) used
   sent-taken m k used e =
       let o = said-done-by (agentRead limit pairs room s) m k used e in

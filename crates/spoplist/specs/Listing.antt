@@ -7,7 +7,8 @@ use lib.Dec.{ltb}
 use lib.ListN.{length, drop}
 use Rattle.answer.specs.Answer.{Answer, done, refused, next}
 use Rattle.parser.specs.declared.Rooms.{Rooms}
-use Rattle.parser.specs.Frame.{Reading, answerOf, frameRead}
+use Rattle.frame.specs.Read.{Reading, answerOf}
+use Rattle.parser.specs.Frame.{frameRead}
 use Rattle.agent.specs.Frame.{agentRead}
 
 -- The last line's numbers: the bytes used by accepted frames, the answer that stopped it, and the missing count or the place within that frame.
@@ -21,9 +22,9 @@ abbrev pub taken : {A : Type 0} → Reading A → Answer Unit
 taken x = next (answerOf x) (λ y n. done tt n)
 
 -- what a frame that was read leads on to, and what one that was not comes to
-abbrev pub onward : {A B : Type 0} → Answer A → (A → ℕ → B) → (ℕ → ℕ → B) → B
-onward (done x n) go stop = go x n
-onward (refused number place) go stop = stop number place
+abbrev pub goesOn : {A B : Type 0} → Answer A → (A → ℕ → B) → (ℕ → ℕ → B) → B
+goesOn (done x n) go stop = go x n
+goesOn (refused number place) go stop = stop number place
 
 -- Behind so many bytes of accepted frames, as many frames more as are counted down at most, each read by the same reader. With no byte left the
 -- answer is 0.
@@ -31,7 +32,7 @@ unfoldable pub stopFrom : (List ℕ → Answer Unit) → ℕ → ℕ → List �
 stopFrom read zero used s = record { used = used; number = 0; at = 0 }
 stopFrom read (suc k) used s =
     cond (ltb 0 (length s))
-    (onward (read s) (λ x n. stopFrom read k (used + n) (drop n s))
+    (goesOn (read s) (λ x n. stopFrom read k (used + n) (drop n s))
     (λ number place. record { used = used; number = number; at = place }))
     (record { used = used; number = 0; at = 0 })
 

@@ -159,13 +159,13 @@ fn list_next(
 {
     match parser::read_frame(rest, LIMIT, messages, pairs) {
         FrameRead::Done {
-            metadata,
+            head,
             messages: count,
             pairs: total,
             used,
         } => {
             if !print(
-                listing::write_frame_line(index, metadata, used as u64, out),
+                listing::write_frame_line(index, head, used as u64, out),
                 out,
             ) {
                 return Listed::Closed;
@@ -195,13 +195,13 @@ fn list_sent(
 {
     match agent::read_agent_frame(rest, LIMIT, pairs, actions) {
         AgentRead::Done {
-            metadata,
+            head,
             pairs: total,
             actions: count,
             used,
         } => {
             if !print(
-                listing::write_frame_line(index, metadata, used as u64, out),
+                listing::write_frame_line(index, head, used as u64, out),
                 out,
             ) {
                 return Listed::Closed;

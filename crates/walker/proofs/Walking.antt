@@ -6,30 +6,30 @@ use mathlib.Core.Logic.{_⊎_, inl, inr, ⊎-elim}
 use mathlib.Core.List.{List, [], _∷_, _++_, map}
 use Prim.Native.Nat.{ℕ, zero, suc, _+_, _-_, _≤_, _<_, _^_}
 use native.Mathlib.Omega.{arith}
-use lib.Dec.{ltb, eqb}
+use lib.Dec.{ltb}
 use lib.ListN.{length, take, drop, getD, length-append, length-drop, length-map}
 use lib.Seq.{take-append-le, drop-append-le, take-all, length-take-le, drop-length}
-use borrow.Author.Tests.{lt-ltb, le-ltb, eq-eqb, ne-eqb, eqb-true, eqb-false}
+use borrow.Author.Tests.{lt-ltb, le-ltb, eq-eqb, ne-eqb}
 use Rattle.answer.specs.Answer.{Answer, done, refused, behind}
 use Rattle.answer.proofs.Each.{Each, each-on, each-more, each-map}
 use Rattle.answer.proofs.Cases.{lt-or-le, bool-cases, answer-cases, not-both, true-false}
-use Rattle.answer.specs.Table.{some}
 use Rattle.varint.specs.Number.{number}
 use Rattle.types.specs.Value.{Span, span, string}
 use Rattle.types.proofs.Reading.{string-accepted}
 use Rattle.frame.specs.declared.Pair.{Pair}
 use Rattle.frame.specs.declared.Message.{Message}
-use Rattle.frame.specs.Head.{fourNumber}
 use Rattle.parser.specs.declared.Rooms.{Rooms}
-use Rattle.parser.specs.declared.Metadata.{Metadata}
+use Rattle.frame.specs.declared.Head.{Head}
 use Rattle.parser.specs.Pair.{movedPair, pair, pairFrom}
 use Rattle.parser.specs.Payload.{Contents, withMessage, stringFrom, movedSpan, oneItem, ended, toEnd, payload, movedMessage}
-use Rattle.parser.specs.Frame.{frameTypes, same, sentBy, lastId, ids, metadata, answered, frameRead}
+use Rattle.frame.specs.declared.Side.the-variants as side
+use Rattle.frame.specs.Read.{answered, sender, still, head}
+use Rattle.frame.proofs.Heads.{head-says, head-start}
+use Rattle.parser.specs.Frame.{frameRead}
 use Rattle.parser.specs.Inner.{Run}
 use Rattle.parser.proofs.Pairs.{done-same}
 use Rattle.parser.proofs.Runs.{from-next, run-more, run-moved}
 use Rattle.parser.proofs.Walk.{pair-says, message-says, item-pair, item-message, ends}
-use Rattle.parser.proofs.Frames.{last-refused, last-other, last-done, ids-refused, ids-on, metadata-none, metadata-type, metadata-short, metadata-flags, metadata-abort, metadata-ids, metadata-start}
 use Rattle.parser.proofs.Accepted.{ended-same, kv-run, payload-all, frame-cut}
 use Rattle.walker.specs.declared.Place.{Place}
 use Rattle.walker.specs.declared.Step.the-variants as v
@@ -200,59 +200,25 @@ module _ (rooms : Rooms) (s : List ℕ) where
 -- ---- in a frame
 
 -- where a frame's payload starts
-module _ (f : List ℕ) (m : Metadata) (start : ℕ) where
+module _ (f : List ℕ) (m : Head) (start : ℕ) where
   number-ends : (at n used : ℕ) → number (drop at f) ≡ done n used → behindNumber f at ≡ at + used
-  number-ends at n used d = ap (λ (a : Answer ℕ). endOr (length f) (behind same at a)) d
-
-  last-numbers : (kind flags stream at : ℕ) → lastId false kind flags stream at f ≡ done m start → behindNumber f at ≡ start
-  last-numbers kind flags stream at e =
-      answer-cases (number (drop at f))
-      (λ n used d.
-      bool-cases (sentBy false kind)
-      (λ h. number-ends at n used d ∙ done-same (sym (last-done false kind flags stream at f n used d h) ∙ e) .1)
-      (λ h. not-both e (last-other false kind flags stream at f n used d h)))
-      (λ n place r. not-both e (last-refused false kind flags stream at f n place r))
-
-  ids-numbers : (kind flags : ℕ) → ids false kind flags f ≡ done m start → behindNumber f (behindNumber f 9) ≡ start
-  ids-numbers kind flags e =
-      answer-cases (number (drop 9 f))
-      (λ n used d. ap (behindNumber f) (number-ends 9 n used d) ∙ last-numbers kind flags n (9 + used) (sym (ids-on false kind flags f n used d) ∙ e))
-      (λ n place r. not-both e (ids-refused false kind flags f n place r))
+  number-ends at n used d = ap (λ (a : Answer ℕ). endOr (length f) (behind still at a)) d
 
   -- Law: in a frame whose head is accepted, a KV list starts where the payload does.
-  pub kv-start : metadata false f ≡ done m start → kvOf f ≡ kvAt start
+  pub kv-start : head (sender side.HAProxy) f ≡ done m start → kvOf f ≡ kvAt start
   unfolding kvOf
   kv-start e =
-      ap kvAt
-      (⊎-elim
-      (λ h.
-      bool-cases (some (eqb (getD f 4 0)) frameTypes)
-      (λ t.
-      ⊎-elim
-      (λ l. not-both e (metadata-short false f h t l))
-      (λ l. by-flags h t l (fourNumber (drop 5 f)) refl)
-      (lt-or-le (length f) 9))
-      (λ t. not-both e (metadata-type false f h t)))
-      (λ h. not-both e (metadata-none false f h))
-      (lt-or-le 4 (length f)))
-    where
-      by-flags : 4 < length f → some (eqb (getD f 4 0)) frameTypes ≡ true → 9 ≤ length f → (n : ℕ) → fourNumber (drop 5 f) ≡ n → behindNumber f (behindNumber f 9) ≡ start
-      by-flags h t l n is =
-          bool-cases (eqb n 1)
-          (λ one. ids-numbers (getD f 4 0) (fourNumber (drop 5 f)) (sym (metadata-ids false f h t l (is ∙ eqb-true n 1 one)) ∙ e))
-          (λ one.
-          bool-cases (eqb n 3)
-          (λ three. not-both e (metadata-abort false f h t l (is ∙ eqb-true n 3 three)))
-          (λ three. not-both e (metadata-flags false f h t l (λ z. eqb-false n 1 one (sym is ∙ z)) (λ z. eqb-false n 3 three (sym is ∙ z)))))
+      let p = head-says (sender side.HAProxy) f m start e in
+      ap kvAt (ap (behindNumber f) (number-ends 9 (m .stream) (p .first) (p .stream)) ∙ number-ends (9 + p .first) (m .frame) (p .second) (p .frame) ∙ p .ends)
 
 -- Law: a walk over the KV list of an accepted frame finds the pairs that the frame reader gives, in order, and then the end.
-pub kv-walked : (limit : ℕ) (rooms : Rooms) (s : List ℕ) (m : Metadata) (c : Contents) (used : ℕ) → frameRead limit rooms s ≡ answered (done (m, c) used)
-    → (m .kind ≡ 3 → ⊥) → FindsAll (take used s) (kvOf (take used s)) (c .pairs)
+pub kv-walked : (limit : ℕ) (rooms : Rooms) (s : List ℕ) (m : Head) (c : Contents) (used : ℕ) → frameRead limit rooms s ≡ answered (done (m, c) used)
+    → (m .«frame_type» ≡ 3 → ⊥) → FindsAll (take used s) (kvOf (take used s)) (c .pairs)
 kv-walked limit rooms s m c used e ne =
     let h = frame-cut limit rooms s m c used e .holds in
     let f = take used s in
     let n = h .start in
-    let is : payload true rooms (drop n f) ≡ done (h .held) (h .end) = ap (λ (b : Bool). payload (not b) rooms (drop n f)) (sym (ne-eqb (m .kind) 3 ne)) ∙ h .is in
+    let is : payload true rooms (drop n f) ≡ done (h .held) (h .end) = ap (λ (b : Bool). payload (not b) rooms (drop n f)) (sym (ne-eqb (m .«frame_type») 3 ne)) ∙ h .is in
     let run = run-moved f n 0 (h .held .pairs) (h .end) (kv-run rooms (drop n f) (h .held) (h .end) is) in
     let from : n + 0 ≡ n = omega arith in
     let pairs : map (movedPair n) (h .held .pairs) ≡ c .pairs = ap (λ (x : Contents). x .pairs) (h .moved) in
@@ -260,7 +226,7 @@ kv-walked limit rooms s m c used e ne =
     (record {
       last = kvAt (n + h .end);
       finds = kv-finds f n (c .pairs) (n + h .end) (rw (from, pairs) at run);
-      ends = step-end f (kvAt (n + h .end)) (le-ltb (n + h .end) (length f) (omega (arith, payload-all true rooms (drop n f) (h .held) (h .end) is, length-drop n f, metadata-start false f m n (h .head))));
+      ends = step-end f (kvAt (n + h .end)) (le-ltb (n + h .end) (length f) (omega (arith, payload-all true rooms (drop n f) (h .held) (h .end) is, length-drop n f, head-start (sender side.HAProxy) f m n (h .head))));
     })
 
 take-map : {A B : Type 0} (g : A → B) (n : ℕ) (xs : List A) → take n (map g xs) ≡ map g (take n xs)
@@ -284,15 +250,15 @@ unfolding argumentsPlace
 arguments-start x h = rw (lt-ltb (behindCount x) (2 ^ 64) h)
 
 -- Law: a walk over a message's arguments finds those pairs that the message's record names, in order, and then the end.
-pub messages-walked : (limit : ℕ) (rooms : Rooms) (s : List ℕ) (m : Metadata) (c : Contents) (used : ℕ) → frameRead limit rooms s ≡ answered (done (m, c) used)
-    → m .kind ≡ 3 → length s < 2 ^ 64 → Each (λ x. FindsAll (take used s) (argumentsPlace x) (argumentsIn (c .pairs) x)) (c .messages)
+pub messages-walked : (limit : ℕ) (rooms : Rooms) (s : List ℕ) (m : Head) (c : Contents) (used : ℕ) → frameRead limit rooms s ≡ answered (done (m, c) used)
+    → m .«frame_type» ≡ 3 → length s < 2 ^ 64 → Each (λ x. FindsAll (take used s) (argumentsPlace x) (argumentsIn (c .pairs) x)) (c .messages)
 messages-walked limit rooms s m c used e is3 small =
     let h = frame-cut limit rooms s m c used e .holds in
     let f = take used s in
     let n = h .start in
-    let is : payload false rooms (drop n f) ≡ done (h .held) (h .end) = ap (λ (b : Bool). payload (not b) rooms (drop n f)) (sym (eq-eqb (m .kind) 3 is3)) ∙ h .is in
+    let is : payload false rooms (drop n f) ≡ done (h .held) (h .end) = ap (λ (b : Bool). payload (not b) rooms (drop n f)) (sym (eq-eqb (m .«frame_type») 3 is3)) ∙ h .is in
     rw (sym (h .moved)) (each-map (λ x. FindsAll f (argumentsPlace x) (argumentsIn (map (movedPair n) (h .held .pairs)) x)) (movedMessage n)
-    (λ x w. one f n (metadata-start false f m n (h .head)) (omega (arith, small, take-short used s)) (h .held .pairs) x w) (h .held .messages) (messages-whole rooms (drop n f) (h .held) (h .end) is))
+    (λ x w. one f n (head-start (sender side.HAProxy) f m n (h .head)) (omega (arith, small, take-short used s)) (h .held .pairs) x w) (h .held .messages) (messages-whole rooms (drop n f) (h .held) (h .end) is))
   where
     one : (f : List ℕ) (n : ℕ) → n ≤ length f → length f < 2 ^ 64 → (ps : List Pair) (x : Message) → Whole (drop n f) ps x
         → FindsAll f (argumentsPlace (movedMessage n x)) (argumentsIn (map (movedPair n) ps) (movedMessage n x))

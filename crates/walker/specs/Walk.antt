@@ -4,13 +4,13 @@ use mathlib.Core.Bool.{Bool, true, false, cond}
 use mathlib.Core.List.{List}
 use Prim.Native.Nat.{ℕ, _+_, _-_, _^_}
 use lib.Dec.{ltb}
-use lib.ListN.{length, drop}
-use Rattle.answer.specs.Answer.{Answer, done, refused, behind}
+use lib.ListN.{length}
+use Rattle.answer.specs.Answer.{Answer, done, refused}
 use Rattle.varint.specs.Number.{number}
 use Rattle.frame.specs.declared.Pair.{Pair}
 use Rattle.frame.specs.declared.Message.{Message}
 use Rattle.parser.specs.Pair.{pairFrom}
-use Rattle.parser.specs.Frame.{same}
+use Rattle.frame.specs.Read.{numberFrom}
 use Rattle.walker.specs.declared.Place.{Place}
 use Rattle.walker.specs.declared.Step.{Step}
 use Rattle.walker.specs.declared.Step.the-variants as v
@@ -21,7 +21,7 @@ endOr last (done x end) = end
 endOr last (refused n place) = last
 
 abbrev pub behindNumber : List ℕ → ℕ → ℕ
-behindNumber s at = endOr (length s) (behind same at (number (drop at s)))
+behindNumber s at = endOr (length s) (numberFrom at s)
 
 -- A frame's KV list starts behind its two numbers, the first of which stands behind the length bytes, the type and the flags.
 unfoldable pub kvOf : List ℕ → Place

@@ -42,10 +42,11 @@ use denote.Triple.Clauses.{ensured, lasts}
 use Rattle.frame.specs.declared.Pair.{Pair}
 use Rattle.frame.proofs.Pair as Q
 use Rattle.frame.proofs.Pair.Laws as Q′
-use Rattle.parser.specs.declared.Metadata.{Metadata}
+use Rattle.frame.specs.declared.Head.{Head}
 use Rattle.parser.specs.declared.FrameRead.{FrameRead}
 use Rattle.parser.specs.Payload.{Contents}
-use Rattle.parser.specs.Frame.{Reading, answerOf, frameRead}
+use Rattle.frame.specs.Read.{Reading, answerOf}
+use Rattle.parser.specs.Frame.{frameRead}
 use Rattle.parser.specs.Promise.{countsOf, frameSaid, frameTells}
 use Rattle.parser.proofs.FrameRead as F
 use Rattle.parser.proofs.FrameRead.Laws as F′
@@ -189,7 +190,7 @@ module _ {M : Type 1} (𝓤 : URA M) (H : Heap 𝓤) (A : Atoms 𝓤) (W : Given
   Reads f ms ws = ReadFrameRecords (now s) n f (now m) ms (now r) ws
 
   abbrev Tells : FrameRead → ℕ → List ℕ → ℕ → Type 0
-  Tells f k hs at = (x : Reading (Metadata × Contents)) → frameSaid f ≡ frameTells x → Told (answerOf x) k at × (hs ≡ valueOr (headNumbers countsOf) (answerOf x) (now h))
+  Tells f k hs at = (x : Reading (Head × Contents)) → frameSaid f ≡ frameTells x → Told (answerOf x) k at × (hs ≡ valueOr (headNumbers countsOf) (answerOf x) (now h))
 
   kept : (f : FrameRead) (ms : List ℕ) (ws : List Pair) (k : ℕ) (hs : List ℕ) (at : ℕ) → Reads f ms ws → Tells f k hs at → SpopReadFrameRecords (now s) n k at (now h) hs (now m) ms (now r) ws
   kept f ms ws k hs at e e′ = let o = e′ (frameRead n (roomsFor (now m) (now r)) (now s)) (e .says) in record { told = o .0; numbers = o .1; fills = e .fills }

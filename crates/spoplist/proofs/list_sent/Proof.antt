@@ -15,19 +15,19 @@ use borrow.Author.Needs.{needs}
 use Rattle.spoplist.proofs.list_sent.Statement.{statement}
 use Rattle.spoplist.proofs.list_sent.Tie as tie
 
-taken : (c : tie.After-metadata)
+taken : (c : tie.After-head)
     → let a = c .before .before .before .before .before .before .before .before .before .before .before .before .before .args in
-    Accepts (a .rest .now) (sentIn (a .pairs .now) (a .actions .now) (a .rest .now)) (c .metadata .given .0 .1 .1 .1 .0)
+    Accepts (a .rest .now) (sentIn (a .pairs .now) (a .actions .now) (a .rest .now)) (c .head .given .0 .1 .1 .1 .0)
 taken c =
     let a = c .before .before .before .before .before .before .before .before .before .before .before .before .before .args in
-    let g = c .metadata .given in
+    let g = c .head .given in
     sent-taken limit (length (a .pairs .now) / pairWidth) (length (a .actions .now) / actionWidth) (a .rest .now) (g .0 .0) (g .0 .1 .0, g .0 .1 .1 .0) (g .0 .1 .1 .1 .0)
     (sym (ap agentSaid (g .1)) ∙ c .before .before .before .before .before .before .read-agent-frame .ensures .says)
 
 print-requires : tie.Need-print-requires
 print-requires c κs =
     let a = c .before .before .before .before .before .before .before .before .before .before .before .before .before .before .before .before .before .before .before .args in
-    let m = c .before .before .before .before .before .before .metadata .given in
+    let m = c .before .before .before .before .before .before .head .given in
     let w = c .before .before .before .write-frame-line in
     omega (arith, told-fits (written (frameLine (a .index) (m .0 .0) (m .0 .1 .1 .1 .0))) (length (a .out .now)) (w .result) (w .ensures .says), w .kept .1 .1 .1 .0)
 

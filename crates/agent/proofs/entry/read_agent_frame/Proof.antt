@@ -7,6 +7,7 @@ use Prim.Native.Nat.{ℕ, _/_}
 use native.Mathlib.Omega.{arith}
 use lib.ListN.{length}
 use lib.Seq.{length-take-le}
+use Rattle.frame.specs.declared.Side.the-variants as side
 use Rattle.frame.specs.Records.{pairWidth, actionWidth}
 use Rattle.parser.specs.Frame.{Entry}
 use Rattle.parser.specs.Promise.{startSaid}
@@ -33,7 +34,7 @@ returns : tie.Need-returns
 returns c =
     let t = c .before .before .before in
     let a = start t .args in
-    let e = from-wait (entry t) (a .limit) (a .input .now) _ (sym (t .read-start .ensures) ∙ ap startSaid (c .before .missing .given .1)) in
+    let e = from-wait (entry t) side.Agents refl (a .limit) (a .input .now) _ (sym (t .read-start .ensures) ∙ ap startSaid (c .before .missing .given .1)) in
     record { says = ap agentTells (sym e); fills = fills-nothing _ _ _ (ap sentRead e) _ _ }
 
 enum-known-r : tie.Need-enum-known-r
@@ -43,22 +44,22 @@ returns-2 : tie.Need-returns-2
 returns-2 c =
     let t = c .before .before .before in
     let a = start t .args in
-    let e = from-refused (entry t) (a .limit) (a .input .now) _ _ (sym (t .read-start .ensures) ∙ ap startSaid (c .before .r .given .1)) in
+    let e = from-refused (entry t) side.Agents refl (a .limit) (a .input .now) _ _ (sym (t .read-start .ensures) ∙ ap startSaid (c .before .r .given .1)) in
     record { says = ap agentTells (sym e); fills = fills-nothing _ _ _ (ap sentRead e) _ _ }
 
-enum-known-metadata : tie.Need-enum-known-metadata
-enum-known-metadata c = search needs
+enum-known-head : tie.Need-enum-known-head
+enum-known-head c = search needs
 
 -- where the payload stands, and what the frame comes to there
 begun : (k : tie.After-known-told3)
     → let t = k .before .before .before in
     let a = start t .args in
-    let g = k .before .metadata .given .0 in
-    Begun (entry t) (a .limit) (a .input .now) (g .0) (g .1 .0) (g .1 .1 .0)
+    let g = k .before .head .given .0 in
+    Begun (entry t) side.Agents refl (a .limit) (a .input .now) (g .0) (g .1 .0) (g .1 .1 .0)
 begun k =
     let t = k .before .before .before in
     let a = start t .args in
-    from-done (entry t) (a .limit) (a .input .now) _ _ _ (sym (t .read-start .ensures) ∙ ap startSaid (k .before .metadata .given .1))
+    from-done (entry t) side.Agents refl (a .limit) (a .input .now) _ _ _ (sym (t .read-start .ensures) ∙ ap startSaid (k .before .head .given .1))
 
 slice-aggregate-read-rest : tie.Need-slice-aggregate-read-rest
 slice-aggregate-read-rest c = sym (length-take-le _ _ (begun (c .before) .there))
@@ -67,7 +68,7 @@ read-rest-requires : tie.Need-read-rest-requires
 read-rest-requires c κs =
     let k = c .before .before .before in
     let b = begun k in
-    rw (length-take-le (k .before .metadata .given .0 .1 .1 .0) (start (k .before .before .before) .args .input .now) (b .there)) (b .inside)
+    rw (length-take-le (k .before .head .given .0 .1 .1 .0) (start (k .before .before .before) .args .input .now) (b .there)) (b .inside)
 
 same-length : tie.Need-same-length
 same-length c = search needs
@@ -90,7 +91,7 @@ read-agent-frame-spec =
     returns
     enum-known-r
     returns-2
-    enum-known-metadata
+    enum-known-head
     slice-aggregate-read-rest
     read-rest-requires
     same-length

@@ -12,9 +12,10 @@ use Rattle.answer.specs.Answer.{done, behind}
 use Rattle.answer.proofs.Output.{lent-tail}
 use Rattle.frame.specs.Records.{messageWidth}
 use Rattle.parser.specs.declared.Rooms.{Rooms}
-use Rattle.parser.specs.declared.Metadata.{Metadata}
+use Rattle.frame.specs.declared.Head.{Head}
 use Rattle.parser.specs.Payload.{Contents, payload, movedContents}
-use Rattle.parser.specs.Frame.{Reading, answered, frameRead}
+use Rattle.frame.specs.Read.{Reading, answered}
+use Rattle.parser.specs.Frame.{frameRead}
 use Rattle.parser.specs.Promise.{payloadSaid, payloadTells, frameTells, roomForFew, contentsRead, Fills}
 use Rattle.parser.proofs.Walk.{ends, payload-ends}
 use Rattle.parser.proofs.Frames.{tells-ends, inFrame, frame-done, frame-contents}
@@ -104,14 +105,14 @@ rest k = let a = start k .args in take (length (a .f .now) - a .start) (drop (a 
 abbrev rooms : tie.After-known-told → Rooms
 rooms k = roomForFew (start k .args .messages .now)
 
-abbrev frame : tie.After-known-told → Reading (Metadata × Contents)
+abbrev frame : tie.After-known-told → Reading (Head × Contents)
 frame k = frameRead (start k .args .limit) (rooms k) (start k .args .input .now)
 
-whole : (k : tie.After-known-told) → frame k ≡ answered (inFrame (start k .args .metadata) (start k .args .start) (payload false (rooms k) (rest k)))
+whole : (k : tie.After-known-told) → frame k ≡ answered (inFrame (start k .args .head) (start k .args .start) (payload false (rooms k) (rest k)))
 whole k =
     let s = start k in
     let a = s .args in
-    s .pre .0 ∙ ap answered (few-cut (rooms k) (a .f .now) (a .metadata) (a .start) (s .pre .1 .0) (s .pre .1 .1 .1))
+    s .pre .0 ∙ ap answered (few-cut (rooms k) (a .f .now) (a .head) (a .start) (s .pre .1 .0) (s .pre .1 .1 .1))
 
 -- what is said of it with the lent table, and that it ends within the frame
 tells : (e : tie.Else1)
@@ -154,10 +155,10 @@ returns-3 c =
     let t = took k in
     let a = start k .args in
     let f : Fills (contentsRead (frame k)) (a .messages .now) (copied .copy .last .1 .0) noNumbers (t .take .last .1 .1 .1 .0) =
-    rw (ap contentsRead (whole k) ∙ frame-contents (a .metadata) (behind movedContents (a .start) (payload false (rooms k) (rest k))))
+    rw (ap contentsRead (whole k) ∙ frame-contents (a .head) (behind movedContents (a .start) (payload false (rooms k) (rest k))))
     (stay-fills _ _ _ _ _ _ _ _ _ (said k ∙ t .take .ensures .0) (t .take .ensures .1) (a .messages .now) _ (e .if1 .left) (copied .copy .ensures)) in
     record {
-      says = frame-done (a .metadata) (a .start) (payload false (rooms k) (rest k)) _ _ (tells e) ∙ ap frameTells (sym (whole k));
+      says = frame-done (a .head) (a .start) (payload false (rooms k) (rest k)) _ _ (tells e) ∙ ap frameTells (sym (whole k));
       few = c .few-of .ensures ∙ few-read (a .limit) (a .input .now) (a .messages .now) _ _ f;
       messages = f .messages;
     }

@@ -1,14 +1,14 @@
--- `parser::by_value::few_whole` meets its contract: behind the metadata of a NOTIFY its payload, and else what the frame reader reads.
+-- `parser::by_value::few_whole` meets its contract: behind the head of a NOTIFY its payload, and else what the frame reader reads.
 -- Assumes nothing.
 use borrow.Author.Needs.{needs}
 use mathlib.Core.Path.{sym, ap, _∙_}
-use Rattle.parser.specs.Inner.{metadataSaid}
-use Rattle.parser.proofs.Frames.{metadata-start}
+use Rattle.frame.specs.Promise.{headSaid}
+use Rattle.frame.proofs.Heads.{head-start}
 use Rattle.parser.proofs.by_value.few_whole.Statement.{statement}
 use Rattle.parser.proofs.by_value.few_whole.Tie as tie
 
-read-metadata-requires : tie.Need-read-metadata-requires
-read-metadata-requires c κs = search needs
+read-head-requires : tie.Need-read-head-requires
+read-head-requires c κs = search needs
 
 enum-known-found : tie.Need-enum-known-found
 enum-known-found c = search needs
@@ -38,8 +38,8 @@ few-small-requires : tie.Need-few-small-requires
 few-small-requires c κs =
     let k = c .before .before .before in
     let t = k .before .before .before in
-    let e = sym (t .read-metadata .ensures) ∙ ap metadataSaid (k .before .found .given .1) in
-    (t .before .before .before .before .pre, (e, (metadata-start _ _ _ _ e, c .before .if1 .left)))
+    let e = sym (t .read-head .ensures) ∙ ap headSaid (k .before .found .given .1) in
+    (t .before .before .before .before .pre, (e, (head-start _ _ _ _ e, c .before .if1 .left)))
 
 same-length-3 : tie.Need-same-length-3
 same-length-3 c = search needs
@@ -51,7 +51,7 @@ pub few-whole-spec : {M : Type 1} → statement M
 few-whole-spec =
     tie.close
     (tie.spec
-    read-metadata-requires
+    read-head-requires
     enum-known-found
     enum-told
     few-slow-requires

@@ -9,9 +9,9 @@ use lib.Dec.{eqb}
 use lib.ListN.{length, take, drop, length-drop}
 use Rattle.answer.specs.Answer.{Answer}
 use Rattle.answer.proofs.Output.{lent-tail}
-use Rattle.parser.specs.declared.Metadata.{Metadata}
+use Rattle.frame.specs.declared.Head.{Head}
 use Rattle.parser.specs.Payload.{Contents, payload}
-use Rattle.parser.specs.Frame.{answered}
+use Rattle.frame.specs.Read.{answered}
 use Rattle.parser.specs.Inner.{wholeFrame}
 use Rattle.parser.specs.Promise.{Counts, payloadSaid, frameTells}
 use Rattle.parser.proofs.Walk.{ends, payload-ends}
@@ -43,16 +43,16 @@ abbrev bytes : tie.After-look-either → List ℕ
 bytes t = start t .args .f .now
 
 abbrev kv : tie.After-look-either → Bool
-kv t = not (eqb (start t .args .metadata .kind) 3)
+kv t = not (eqb (start t .args .head .«frame_type») 3)
 
 abbrev rest : tie.After-look-either → Answer Contents
 rest t = payload (kv t) (start t .args .rooms) (take (length (bytes t) - start t .args .start) (drop (start t .args .start) (bytes t)))
 
-whole : (t : tie.After-look-either) → wholeFrame (start t .args .rooms) (bytes t) ≡ inFrame (start t .args .metadata) (start t .args .start) (rest t)
+whole : (t : tie.After-look-either) → wholeFrame (start t .args .rooms) (bytes t) ≡ inFrame (start t .args .head) (start t .args .start) (rest t)
 whole t =
     let a = start t .args in
-    whole-payload (a .rooms) (bytes t) (a .metadata) (a .start) (start t .pre .0)
-    ∙ ap (λ (l : List ℕ). inFrame (a .metadata) (a .start) (payload (kv t) (a .rooms) l)) (sym (lent-tail (a .start) (bytes t)))
+    whole-payload (a .rooms) (bytes t) (a .head) (a .start) (start t .pre .0)
+    ∙ ap (λ (l : List ℕ). inFrame (a .head) (a .start) (payload (kv t) (a .rooms) l)) (sym (lent-tail (a .start) (bytes t)))
 
 -- it ends within the frame
 inside : (t : tie.After-look-either) (x : Answer Counts) → payloadSaid (t .look-either .result) ≡ x → start t .args .start + ends x ≤ length (bytes t)
@@ -67,8 +67,8 @@ returns : tie.Need-returns
 returns c =
     let t = c .before .before .before .before in
     let a = start t .args in
-    frame-refused (a .metadata) (a .start) (rest t) _ _ (ap payloadSaid (sym (c .before .before .r .given .1)) ∙ t .look-either .ensures)
-    ∙ ap (λ (x : Answer (Metadata × Contents)). frameTells (answered x)) (sym (whole t))
+    frame-refused (a .head) (a .start) (rest t) _ _ (ap payloadSaid (sym (c .before .before .r .given .1)) ∙ t .look-either .ensures)
+    ∙ ap (λ (x : Answer (Head × Contents)). frameTells (answered x)) (sym (whole t))
 
 enum-known-message-count : tie.Need-enum-known-message-count
 enum-known-message-count c = search needs
@@ -80,8 +80,8 @@ returns-2 : tie.Need-returns-2
 returns-2 c =
     let t = c .before .before .before in
     let a = start t .args in
-    frame-done (a .metadata) (a .start) (rest t) _ _ (ap payloadSaid (sym (c .before .message-count .given .1)) ∙ t .look-either .ensures)
-    ∙ ap (λ (x : Answer (Metadata × Contents)). frameTells (answered x)) (sym (whole t))
+    frame-done (a .head) (a .start) (rest t) _ _ (ap payloadSaid (sym (c .before .message-count .given .1)) ∙ t .look-either .ensures)
+    ∙ ap (λ (x : Answer (Head × Contents)). frameTells (answered x)) (sym (whole t))
 
 pub look-rest-spec : {M : Type 1} → statement M
 look-rest-spec =

@@ -11,9 +11,9 @@ use lib.ListN.{length, take, drop, length-drop}
 use Rattle.answer.specs.Answer.{Answer, behind}
 use Rattle.answer.proofs.Output.{lent-tail}
 use Rattle.parser.specs.declared.Rooms.{Rooms}
-use Rattle.parser.specs.declared.Metadata.{Metadata}
+use Rattle.frame.specs.declared.Head.{Head}
 use Rattle.parser.specs.Payload.{Contents, payload, movedContents}
-use Rattle.parser.specs.Frame.{answered}
+use Rattle.frame.specs.Read.{answered}
 use Rattle.parser.specs.Inner.{wholeFrame}
 use Rattle.parser.specs.Promise.{Counts, payloadSaid, frameTells, roomsOf, contentsRead, Fills}
 use Rattle.parser.proofs.Walk.{ends, payload-ends}
@@ -44,7 +44,7 @@ abbrev bytes : tie.After-into-tables → List ℕ
 bytes t = start t .args .f .now
 
 abbrev kv : tie.After-into-tables → Bool
-kv t = not (eqb (start t .args .metadata .kind) 3)
+kv t = not (eqb (start t .args .head .«frame_type») 3)
 
 abbrev rooms : tie.After-into-tables → Rooms
 rooms t = roomsOf (start t .args .messages .now) (start t .args .pairs .now)
@@ -52,11 +52,11 @@ rooms t = roomsOf (start t .args .messages .now) (start t .args .pairs .now)
 abbrev rest : tie.After-into-tables → Answer Contents
 rest t = payload (kv t) (rooms t) (take (length (bytes t) - start t .args .start) (drop (start t .args .start) (bytes t)))
 
-whole : (t : tie.After-into-tables) → wholeFrame (rooms t) (bytes t) ≡ inFrame (start t .args .metadata) (start t .args .start) (rest t)
+whole : (t : tie.After-into-tables) → wholeFrame (rooms t) (bytes t) ≡ inFrame (start t .args .head) (start t .args .start) (rest t)
 whole t =
     let a = start t .args in
-    whole-payload (rooms t) (bytes t) (a .metadata) (a .start) (start t .pre .0)
-    ∙ ap (λ (l : List ℕ). inFrame (a .metadata) (a .start) (payload (kv t) (rooms t) l)) (sym (lent-tail (a .start) (bytes t)))
+    whole-payload (rooms t) (bytes t) (a .head) (a .start) (start t .pre .0)
+    ∙ ap (λ (l : List ℕ). inFrame (a .head) (a .start) (payload (kv t) (rooms t) l)) (sym (lent-tail (a .start) (bytes t)))
 
 -- it ends within the frame
 inside : (t : tie.After-into-tables) (x : Answer Counts) → payloadSaid (t .into-tables .result) ≡ x → start t .args .start + ends x ≤ length (bytes t)
@@ -68,7 +68,7 @@ inside t x e =
 filled : (t : tie.After-into-tables) (messages pairs : List ℕ)
     → Fills (behind movedContents (start t .args .start) (rest t)) (start t .args .messages .now) messages (start t .args .pairs .now) pairs
     → Fills (contentsRead (answered (wholeFrame (rooms t) (bytes t)))) (start t .args .messages .now) messages (start t .args .pairs .now) pairs
-filled t messages pairs f = rw (ap (λ (x : Answer (Metadata × Contents)). contentsRead (answered x)) (whole t) ∙ frame-contents (start t .args .metadata) (behind movedContents (start t .args .start) (rest t))) f
+filled t messages pairs f = rw (ap (λ (x : Answer (Head × Contents)). contentsRead (answered x)) (whole t) ∙ frame-contents (start t .args .head) (behind movedContents (start t .args .start) (rest t))) f
 
 add-t20 : tie.Need-add-t20
 add-t20 c =
@@ -87,8 +87,8 @@ returns c =
     let a = start t .args in
     record {
       says =
-          frame-refused (a .metadata) (a .start) (rest t) _ _ (ap payloadSaid (sym (c .before .before .r .given .1)) ∙ t .into-tables .ensures .0)
-          ∙ ap (λ (x : Answer (Metadata × Contents)). frameTells (answered x)) (sym (whole t));
+          frame-refused (a .head) (a .start) (rest t) _ _ (ap payloadSaid (sym (c .before .before .r .given .1)) ∙ t .into-tables .ensures .0)
+          ∙ ap (λ (x : Answer (Head × Contents)). frameTells (answered x)) (sym (whole t));
       fills = filled t _ _ (t .into-tables .ensures .1);
     }
 
@@ -112,8 +112,8 @@ returns-2 c =
     let a = start t .args in
     record {
       says =
-          frame-done (a .metadata) (a .start) (rest t) _ _ (ap payloadSaid (sym (c .before .message-count .given .1)) ∙ t .into-tables .ensures .0)
-          ∙ ap (λ (x : Answer (Metadata × Contents)). frameTells (answered x)) (sym (whole t));
+          frame-done (a .head) (a .start) (rest t) _ _ (ap payloadSaid (sym (c .before .message-count .given .1)) ∙ t .into-tables .ensures .0)
+          ∙ ap (λ (x : Answer (Head × Contents)). frameTells (answered x)) (sym (whole t));
       fills = filled t _ _ (t .into-tables .ensures .1);
     }
 

@@ -9,7 +9,7 @@ use denote.Enum.Declared.{tagOf, declared}
 use Rattle.parser.specs.declared.FrameRead.{FrameRead}
 use Rattle.parser.specs.Promise.{frameSaid}
 use Rattle.parser.proofs.FrameRead.{enum}
-use Rattle.parser.proofs.Kept.{wait-answered, answered-same}
+use Rattle.frame.proofs.Answers.{wait-answered, answered-same}
 use Rattle.parser.proofs.Pairs.{refused-same}
 use Rattle.records.specs.Inner.{noneFound}
 use Rattle.records.proofs.Preparing.{few-prepared, few-nothing, few-again}

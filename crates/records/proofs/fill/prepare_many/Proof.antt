@@ -7,8 +7,9 @@ use Prim.Native.Nat.{ℕ, _≤_}
 use lib.ListN.{length}
 use lib.Seq.{length-take-le}
 use Rattle.answer.specs.Answer.{done}
-use Rattle.parser.specs.declared.Metadata.{Metadata}
-use Rattle.parser.specs.Frame.{answered, frameRead}
+use Rattle.frame.specs.declared.Head.{Head}
+use Rattle.frame.specs.Read.{answered}
+use Rattle.parser.specs.Frame.{frameRead}
 use Rattle.parser.specs.Promise.{frameSaid, frameTells}
 use Rattle.walker.specs.declared.Place.{Place}
 use Rattle.records.specs.declared.Found.{Found}
@@ -37,7 +38,7 @@ returns c =
 abbrev start : tie.After-known-told → tie.Start
 start k = k .before .before .before .before .before .before
 
-abbrev head : tie.After-known-told → Metadata
+abbrev head : tie.After-known-told → Head
 head k = k .before .answer .given .0 .0
 
 abbrev messages : tie.After-known-told → ℕ

@@ -10,7 +10,7 @@ use Rattle.answer.specs.Answer.{Answer, behind}
 use Rattle.varint.specs.Number.{number}
 use Rattle.varint.specs.Promise.{numberSaid}
 use Rattle.varint.proofs.Reading.{accepted}
-use Rattle.parser.specs.Frame.{same}
+use Rattle.frame.specs.Read.{still}
 use Rattle.parser.proofs.Pairs.{lent}
 use Rattle.walker.specs.Walk.{endOr}
 use Rattle.walker.proofs.Stepping.{number-past}
@@ -18,7 +18,7 @@ use Rattle.walker.proofs.steps.behind_number.Statement.{statement}
 use Rattle.walker.proofs.steps.behind_number.Tie as tie
 
 returns : tie.Need-returns
-returns c = let a = c .before .before .args in sym (ap (λ (x : Answer ℕ). endOr (length (a .frame .now)) (behind same (a .at) x)) (number-past (a .frame .now) (a .at) (omega (arith, c .if1 .taken))))
+returns c = let a = c .before .before .args in sym (ap (λ (x : Answer ℕ). endOr (length (a .frame .now)) (behind still (a .at) x)) (number-past (a .frame .now) (a .at) (omega (arith, c .if1 .taken))))
 
 -- what was read there
 abbrev start : tie.After-decode-varint → tie.Start
@@ -31,8 +31,8 @@ read : (t : tie.After-decode-varint) (a : Answer ℕ) → numberSaid (t .decode-
 read t a e = lent number (bytes t) (start t .args .at) (t .decode-varint .ensures) e
 
 ends : (t : tie.After-decode-varint) (a : Answer ℕ) → numberSaid (t .decode-varint .result) ≡ a
-    → endOr (length (bytes t)) (behind same (start t .args .at) a) ≡ endOr (length (bytes t)) (behind same (start t .args .at) (number (drop (start t .args .at) (bytes t))))
-ends t a e = ap (λ (x : Answer ℕ). endOr (length (bytes t)) (behind same (start t .args .at) x)) (sym (read t a e))
+    → endOr (length (bytes t)) (behind still (start t .args .at) a) ≡ endOr (length (bytes t)) (behind still (start t .args .at) (number (drop (start t .args .at) (bytes t))))
+ends t a e = ap (λ (x : Answer ℕ). endOr (length (bytes t)) (behind still (start t .args .at) x)) (sym (read t a e))
 
 returns-2 : tie.Need-returns-2
 returns-2 c = ends (c .before .before) _ (ap numberSaid (c .enum-told .given .1))

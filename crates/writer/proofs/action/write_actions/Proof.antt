@@ -89,12 +89,12 @@ returns-3 c =
 none : (c : tie.Else3) → let s = start (c .before .before .before .before .before .before) in Sound (checks s) (s .args .action-count)
 none c = c .before .before .before .check-actions .ensures .sound (c .if3 .left)
 
-cast-t21 : tie.Need-cast-t21
-cast-t21 c = search needs
+head-of-requires : tie.Need-head-of-requires
+head-of-requires c κs = search needs
 
 action-frame-requires : tie.Need-action-frame-requires
 action-frame-requires c κs =
-    let f = c .before in
+    let f = c .before .before in
     let k = f .before .before .before in
     let s = start (k .before .before .before) in
     (held (k .before), (none f, k .check-actions .ensures .measured (f .if3 .left)))
@@ -105,10 +105,11 @@ same-length c = search needs
 returns-4 : tie.Need-returns-4
 returns-4 c =
     let w = c .before .before in
-    let f = w .before .before in
+    let h = w .before .before in
+    let f = h .before in
     let e = f .before .before .before .before in
     let s = start (e .before .before) in
-    rw (is-held e ∙ each-pass (checks s) (frame s) (s .args .action-count) (none f)) (w .action-frame .ensures)
+    rw (is-held e ∙ each-pass (checks s) (frame s) (s .args .action-count) (none f)) (rw (h .head-of .ensures) at (w .action-frame .ensures))
 
 pub write-actions-spec : {M : Type 1} → statement M
 write-actions-spec =
@@ -119,7 +120,7 @@ write-actions-spec =
     returns-2
     check-actions-requires
     returns-3
-    cast-t21
+    head-of-requires
     action-frame-requires
     same-length
     returns-4)

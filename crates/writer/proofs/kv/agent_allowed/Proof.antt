@@ -2,12 +2,14 @@
 -- Assumes nothing.
 use borrow.Author.Needs.{needs}
 use mathlib.Core.Path.{_≡_, sym, _∙_}
-use mathlib.Core.Bool.{true, not, _&&_}
+use mathlib.Core.Bool.{true}
+use lib.Dec.{eqb}
 use borrow.Author.Tests.{not-true, not-false, eq-eqb, ne-eqb}
+use Rattle.writer.specs.Frame.{flagsOf}
 use Rattle.writer.proofs.kv.agent_allowed.Statement.{statement}
 use Rattle.writer.proofs.kv.agent_allowed.Tie as tie
 
-alone : (c : tie.Else1) → let a = c .before .before .args in a .fin && not (a .abort) ≡ true
+alone : (c : tie.Else1) → let a = c .before .before .args in eqb (flagsOf (a .fin) (a .abort)) 1 ≡ true
 alone c = sym (c .before .fin-alone .ensures) ∙ not-false _ (c .if1 .left)
 
 fin-alone-requires : tie.Need-fin-alone-requires

@@ -18,7 +18,7 @@ use Rattle.answer.specs.Inner.{Sound}
 use Rattle.writer.specs.Pair.{kvChecks}
 use Rattle.writer.specs.Frame.{headOf, limited, kvAllowed, pairsBytes, kvAnswer}
 use Rattle.writer.proofs.Pairs.{kv-sound, run-sound}
-use Rattle.writer.proofs.Answers.{kv-kind, listAnswer, kv-list, list-metadata, list-count, list-held}
+use Rattle.writer.proofs.Answers.{kv-type, listAnswer, kv-list, list-metadata, list-count, list-held}
 use Rattle.writer.proofs.kv.write_kv.Statement.{statement}
 use Rattle.writer.proofs.kv.write_kv.Tie as tie
 
@@ -26,7 +26,7 @@ abbrev start : tie.After-kv-allowed → tie.Start
 start c = c .before .before .before .before
 
 abbrev head : tie.Start → Head
-head s = let a = s .args in headOf (a .kind) (a .fin) (a .abort) (a .stream-id) (a .frame-id)
+head s = let a = s .args in headOf (a .frame-type) (a .fin) (a .abort) (a .stream-id) (a .frame-id)
 
 abbrev checks : tie.Start → ℕ → List Check
 checks s = kvChecks (s .args .buffer .now) (s .args .pairs .now)
@@ -90,12 +90,15 @@ returns-3 c =
 none : (c : tie.Else3) → let s = start (c .before .before .before .before .before .before) in Sound (checks s) (s .args .pair-count)
 none c = c .before .before .before .check-pairs .ensures .sound (c .if3 .left)
 
-cast-t22 : tie.Need-cast-t22
-cast-t22 c = let e = c .before .before .before .before .before in omega (arith, kv-kind (head (start (e .before))) (allowed e))
+cast-head-of : tie.Need-cast-head-of
+cast-head-of c = let e = c .before .before .before .before .before in omega (arith, kv-type (head (start (e .before))) (allowed e))
+
+head-of-requires : tie.Need-head-of-requires
+head-of-requires c κs = search needs
 
 kv-frame-requires : tie.Need-kv-frame-requires
 kv-frame-requires c κs =
-    let f = c .before in
+    let f = c .before .before in
     let k = f .before .before .before in
     let s = start (k .before .before .before) in
     (run-sound (s .args .buffer .now) (s .args .pairs .now) (s .args .pair-count) (held (k .before)) (kv-sound (s .args .buffer .now) (s .args .pairs .now) (none f)), k .check-pairs .ensures .measured (f .if3 .left))
@@ -106,10 +109,11 @@ same-length c = search needs
 returns-4 : tie.Need-returns-4
 returns-4 c =
     let w = c .before .before in
-    let f = w .before .before in
+    let h = w .before .before in
+    let f = h .before in
     let e = f .before .before .before .before in
     let s = start (e .before .before) in
-    rw (is-held e ∙ each-pass (checks s) (frame s) (s .args .pair-count) (none f)) (w .kv-frame .ensures)
+    rw (is-held e ∙ each-pass (checks s) (frame s) (s .args .pair-count) (none f)) (rw (h .head-of .ensures) at (w .kv-frame .ensures))
 
 pub write-kv-spec : {M : Type 1} → statement M
 write-kv-spec =
@@ -120,7 +124,8 @@ write-kv-spec =
     returns-2
     check-pairs-requires
     returns-3
-    cast-t22
+    cast-head-of
+    head-of-requires
     kv-frame-requires
     same-length
     returns-4)

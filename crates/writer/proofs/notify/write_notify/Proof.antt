@@ -158,12 +158,12 @@ add-cap c =
 cap-requires : tie.Need-cap-requires
 cap-requires c κs = search needs
 
-cast-t29 : tie.Need-cast-t29
-cast-t29 c = search needs
+head-of-requires : tie.Need-head-of-requires
+head-of-requires c κs = search needs
 
 notify-frame-requires : tie.Need-notify-frame-requires
 notify-frame-requires c κs =
-    let k = c .before in
+    let k = c .before .before in
     let e = k .before .before .before in
     let s = begin e in
     let a = s .args in
@@ -188,9 +188,10 @@ same-length c = search needs
 returns-7 : tie.Need-returns-7
 returns-7 c =
     let w = c .before .before in
-    let e = w .before .before .before .before .before in
+    let h = w .before .before in
+    let e = h .before .before .before .before in
     let g = past-messages e in
-    rw (is-held (g .before .before .before .before) ∙ each-pass _ _ _ (sound-messages g) ∙ each-pass _ _ _ (sound-pairs e)) (w .notify-frame .ensures)
+    rw (is-held (g .before .before .before .before) ∙ each-pass _ _ _ (sound-messages g) ∙ each-pass _ _ _ (sound-pairs e)) (rw (h .head-of .ensures) at (w .notify-frame .ensures))
 
 pub write-notify-spec : {M : Type 1} → statement M
 write-notify-spec =
@@ -207,7 +208,7 @@ write-notify-spec =
     returns-6
     add-cap
     cap-requires
-    cast-t29
+    head-of-requires
     notify-frame-requires
     same-length
     returns-7)

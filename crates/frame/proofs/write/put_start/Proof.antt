@@ -1,0 +1,93 @@
+-- `frame::write::put_start` meets its contract: nine stores, one after the other, of the bytes that it is to write.
+-- Assumes nothing.
+use mathlib.Core.List.{_∷_, _++_}
+use borrow.Author.Needs.{needs}
+use native.Mathlib.Omega.{arith}
+use lib.ListN.{length-set}
+use lib.Seq.{sets-eq}
+use Rattle.frame.specs.Head.{fourBytes}
+use Rattle.frame.proofs.write.put_start.Statement.{statement}
+use Rattle.frame.proofs.write.put_start.Tie as tie
+
+cast-out : tie.Need-cast-out
+cast-out c = search needs
+
+slice-write-out : tie.Need-slice-write-out
+slice-write-out c = search needs
+
+cast-out-2 : tie.Need-cast-out-2
+cast-out-2 c = search needs
+
+slice-write-out-2 : tie.Need-slice-write-out-2
+slice-write-out-2 c = simp length-set (omega arith)
+
+cast-out-3 : tie.Need-cast-out-3
+cast-out-3 c = search needs
+
+slice-write-out-3 : tie.Need-slice-write-out-3
+slice-write-out-3 c = simp length-set (omega arith)
+
+cast-out-4 : tie.Need-cast-out-4
+cast-out-4 c = search needs
+
+slice-write-out-4 : tie.Need-slice-write-out-4
+slice-write-out-4 c = simp length-set (omega arith)
+
+slice-write-out-5 : tie.Need-slice-write-out-5
+slice-write-out-5 c = simp length-set (omega arith)
+
+cast-out-5 : tie.Need-cast-out-5
+cast-out-5 c = search needs
+
+slice-write-out-6 : tie.Need-slice-write-out-6
+slice-write-out-6 c = simp length-set (omega arith)
+
+cast-out-6 : tie.Need-cast-out-6
+cast-out-6 c = search needs
+
+slice-write-out-7 : tie.Need-slice-write-out-7
+slice-write-out-7 c = simp length-set (omega arith)
+
+cast-out-7 : tie.Need-cast-out-7
+cast-out-7 c = search needs
+
+slice-write-out-8 : tie.Need-slice-write-out-8
+slice-write-out-8 c = simp length-set (omega arith)
+
+cast-out-8 : tie.Need-cast-out-8
+cast-out-8 c = search needs
+
+slice-write-out-9 : tie.Need-slice-write-out-9
+slice-write-out-9 c = simp length-set (omega arith)
+
+same-length : tie.Need-same-length
+same-length c = search needs depth 12
+
+returns : tie.Need-returns
+unfolding fourBytes
+returns c =
+    let a = c .args in sets-eq (fourBytes (a .behind) ++ (a .frame-type ∷ fourBytes (a .flags))) (a .out .now) 0 (c .pre)
+
+pub put-start-spec : {M : Type 1} → statement M
+put-start-spec =
+    tie.close
+    (tie.spec
+    cast-out
+    slice-write-out
+    cast-out-2
+    slice-write-out-2
+    cast-out-3
+    slice-write-out-3
+    cast-out-4
+    slice-write-out-4
+    slice-write-out-5
+    cast-out-5
+    slice-write-out-6
+    cast-out-6
+    slice-write-out-7
+    cast-out-7
+    slice-write-out-8
+    cast-out-8
+    slice-write-out-9
+    same-length
+    returns)
