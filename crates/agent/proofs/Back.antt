@@ -17,7 +17,7 @@ use Rattle.frame.specs.declared.Action.{Action}
 use Rattle.frame.proofs.Meaning.{pairMeaning, actionMeaning}
 use Rattle.parser.specs.Pair.{pairOf, movedPair, pair}
 use Rattle.parser.proofs.Back.{pair-moved, PairBack, pair-back}
-use Rattle.agent.specs.Action.{action, movedAction, actionFrom, oneAction, toEnd, actions}
+use Rattle.agent.specs.Action.{action, movedAction, actionFrom, oneAction, actionsToEnd, actions}
 use Rattle.agent.proofs.Actions.{Inside, action-headed, action-inside, set-done, name-done}
 use Rattle.agent.proofs.Lists.{one-taken, one-more}
 
@@ -71,17 +71,17 @@ module _ (room : ℕ) (buffer : List ℕ) (bytes : Action → List ℕ) (at : �
 
   pub record Read (met : List Action) (first n k place : ℕ) : Type 0 where
     pub more : List Action
-    pub reads : toEnd room k place met s ≡ done (met ++ more) (length s)
+    pub reads : actionsToEnd room k place met s ≡ done (met ++ more) (length s)
     pub same : map (actionMeaning (s ++ t)) more ≡ map (actionMeaning buffer) (records at first n)
 
-  ended : (met : List Action) (k place : ℕ) → length s ≤ place → toEnd room k place met s ≡ done met place
-  unfolding toEnd
+  ended : (met : List Action) (k place : ℕ) → length s ≤ place → actionsToEnd room k place met s ≡ done met place
+  unfolding actionsToEnd
   ended met zero place h = refl
   ended met (suc k) place h = rw (le-ltb place (length s) h)
 
   step : (met more : List Action) (k place end : ℕ) → place < length s → length s ≤ place + k → oneAction room place met s ≡ done more end
-      → (m : ℕ) × (length s ≤ place + suc m) × (toEnd room k place met s ≡ toEnd room m end more s)
-  unfolding toEnd
+      → (m : ℕ) × (length s ≤ place + suc m) × (actionsToEnd room k place met s ≡ actionsToEnd room m end more s)
+  unfolding actionsToEnd
   step met more zero place end h l e = absurd (omega arith)
   step met more (suc m) place end h l e = (m, l, rw (lt-ltb place (length s) h, e) refl)
 

@@ -15,7 +15,8 @@ use Rattle.parser.proofs.Entries.{left-in}
 use Rattle.agent.specs.declared.AgentRead.{AgentRead}
 use Rattle.agent.specs.declared.AgentRead.the-variants as a
 use Rattle.agent.specs.Frame.{Sent}
-use Rattle.agent.specs.Promise.{Counts, agentSaid, agentTells, sentRead, readInto, ReadAgentFrame}
+use Rattle.parser.specs.Promise.{Counts}
+use Rattle.agent.specs.Promise.{agentSaid, agentTells, sentRead, readInto, ReadAgentFrame}
 use Rattle.agent.proofs.Unique.{agent-same}
 use Rattle.agent.proofs.Kept.{agent-accepted-kept}
 

@@ -20,7 +20,7 @@ use Rattle.parser.proofs.Frames.{length-map, tells-refused, tells-done}
 use Rattle.parser.proofs.Pairs.{done-same, refused-same}
 use Rattle.agent.specs.Action.{actions, movedAction, movedActions}
 use Rattle.agent.specs.Frame.{Sent, ofPairs, ofActions, movedSent, sentOf}
-use Rattle.agent.specs.Promise.{agentTells, sentRead, Fills}
+use Rattle.agent.specs.Promise.{agentTells, sentRead, FillsSent}
 use Rattle.agent.specs.Inner.{listTells, listLeft}
 
 -- ---- a list
@@ -81,7 +81,7 @@ module _ (m : Head) (start pairs room : ℕ) (s : List ℕ) where
   rest-pairs t = rw t (ap (inFrame m) (pairs-moved start (payload true (record { messages = 0; pairs = pairs }) s)))
 
 -- a refusal fills nothing in
-pub fills-nothing : (a : Answer Sent) (n place : ℕ) → a ≡ refused n place → (pairs rows : List ℕ) → Fills a pairs pairs rows rows
+pub fills-nothing : (a : Answer Sent) (n place : ℕ) → a ≡ refused n place → (pairs rows : List ℕ) → FillsSent a pairs pairs rows rows
 fills-nothing a n place e pairs rows = rw e (record { pairs = refl; actions = refl })
 
 -- what is said, and what is left
@@ -92,11 +92,11 @@ module _ (m : Head) (a : Answer (List Action)) where
   pub ack-done : (count used : ℕ) → done count used ≡ listTells a → answered (done (m, (0, count)) used) ≡ agentTells (answered (inFrame m (ofActions a)))
   ack-done count used e = let o = list-done a count used e in rw (o .1) (ap (λ (n : ℕ). answered (done (m, (0, n)) used)) (sym (o .2)))
 
-  pub ack-fills : (pairs old new : List ℕ) → new ≡ listLeft a old → Fills (sentRead (answered (inFrame m (ofActions a)))) pairs pairs old new
+  pub ack-fills : (pairs old new : List ℕ) → new ≡ listLeft a old → FillsSent (sentRead (answered (inFrame m (ofActions a)))) pairs pairs old new
   unfolding joined
   ack-fills pairs old new e = by-list a e
     where
-      by-list : (b : Answer (List Action)) → new ≡ listLeft b old → Fills (sentRead (answered (inFrame m (ofActions b)))) pairs pairs old new
+      by-list : (b : Answer (List Action)) → new ≡ listLeft b old → FillsSent (sentRead (answered (inFrame m (ofActions b)))) pairs pairs old new
       by-list (done xs used) e = record { pairs = refl; actions = e }
       by-list (refused n place) e = record { pairs = refl; actions = e }
 
@@ -107,10 +107,10 @@ module _ (m : Head) (a : Answer Contents) where
   pub kv-done : (k : Counts) (used : ℕ) → done k used ≡ payloadTells a → answered (done (m, (k .1, 0)) used) ≡ agentTells (answered (inFrame m (ofPairs a)))
   kv-done k used e = let o = tells-done a k used e in rw (o .1) (ap (λ (x : Counts). answered (done (m, (x .1, 0)) used)) (sym (o .2)))
 
-  pub kv-fills : (old new rows : List ℕ) → new ≡ pairsLeft a old → Fills (sentRead (answered (inFrame m (ofPairs a)))) old new rows rows
+  pub kv-fills : (old new rows : List ℕ) → new ≡ pairsLeft a old → FillsSent (sentRead (answered (inFrame m (ofPairs a)))) old new rows rows
   unfolding joined
   kv-fills old new rows e = by-list a e
     where
-      by-list : (b : Answer Contents) → new ≡ pairsLeft b old → Fills (sentRead (answered (inFrame m (ofPairs b)))) old new rows rows
+      by-list : (b : Answer Contents) → new ≡ pairsLeft b old → FillsSent (sentRead (answered (inFrame m (ofPairs b)))) old new rows rows
       by-list (done c used) e = record { pairs = e; actions = refl }
       by-list (refused n place) e = record { pairs = e; actions = refl }

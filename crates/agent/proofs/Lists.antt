@@ -13,7 +13,7 @@ use Rattle.frame.specs.declared.Action.{Action}
 use Rattle.parser.proofs.Pairs.{done-same, refused-same}
 use Rattle.parser.proofs.Walk.{ends}
 use Rattle.parser.proofs.Kept.{NotFull}
-use Rattle.agent.specs.Action.{action, movedAction, actionFrom, oneAction, toEnd, actions}
+use Rattle.agent.specs.Action.{action, movedAction, actionFrom, oneAction, actionsToEnd, actions}
 use Rattle.agent.proofs.Actions.{action-place, from-next}
 
 -- ---- a step
@@ -61,7 +61,7 @@ one-more met x = length-append met (x ∷ [])
 pub record Goes (room : ℕ) (s : List ℕ) (at : ℕ) (met : List Action) (a : Answer (List Action)) : Type 0 where
   pub fuel : ℕ
   pub enough : length s ≤ at + fuel
-  pub is : toEnd room fuel at met s ≡ a
+  pub is : actionsToEnd room fuel at met s ≡ a
 
 pub goes-none : (room : ℕ) (s : List ℕ) → Goes room s 0 [] (actions room s)
 unfolding actions
@@ -69,9 +69,9 @@ goes-none room s = record { fuel = length s; enough = omega arith; is = refl }
 
 module _ {room : ℕ} {s : List ℕ} {at : ℕ} {met : List Action} {a : Answer (List Action)} (g : Goes room s at met a) where
   module _ (h : at < length s) where
-    steps : (k : ℕ) → length s ≤ at + k → toEnd room k at met s ≡ a
-        → (m : ℕ) × (k ≡ suc m) × (next (oneAction room at met s) (λ more end. toEnd room m end more s) ≡ a)
-    unfolding toEnd
+    steps : (k : ℕ) → length s ≤ at + k → actionsToEnd room k at met s ≡ a
+        → (m : ℕ) × (k ≡ suc m) × (next (oneAction room at met s) (λ more end. actionsToEnd room m end more s) ≡ a)
+    unfolding actionsToEnd
     steps zero l e = absurd (omega arith)
     steps (suc m) l e = (m, refl, rw (lt-ltb at (length s) h) at e)
 
@@ -87,8 +87,8 @@ module _ {room : ℕ} {s : List ℕ} {at : ℕ} {met : List Action} {a : Answer 
     pub goes-accepted : (f : List Action) (end : ℕ) → a ≡ done f end → {G : Type 0} → ((more : List Action) (n : ℕ) → oneAction room at met s ≡ done more n → G) → G
     goes-accepted f end e go = answer-cases (oneAction room at met s) go (λ n place r. not-both e (sym (goes-stop n place r)))
 
-  at-end : length s ≤ at → (k : ℕ) → toEnd room k at met s ≡ a → done met at ≡ a
-  unfolding toEnd
+  at-end : length s ≤ at → (k : ℕ) → actionsToEnd room k at met s ≡ a → done met at ≡ a
+  unfolding actionsToEnd
   at-end h zero e = e
   at-end h (suc k) e = rw (le-ltb at (length s) h) at e
 
@@ -112,8 +112,8 @@ module _ (room : ℕ) (s : List ℕ) where
           (λ x used d. not-both (ap (behind movedAction at) d) e)
           (λ m q r. omega (arith, action-place (drop at s) m q r, length-drop at s, refused-same (sym (ap (behind movedAction at) r) ∙ e)))
 
-  end-in : (k at : ℕ) (met : List Action) → at ≤ length s → ends (toEnd room k at met s) ≤ length s
-  unfolding toEnd
+  end-in : (k at : ℕ) (met : List Action) → at ≤ length s → ends (actionsToEnd room k at met s) ≤ length s
+  unfolding actionsToEnd
   end-in zero at met h = h
   end-in (suc k) at met h =
       ⊎-elim
@@ -143,8 +143,8 @@ module _ (room larger : ℕ) (up : room ≤ larger) (s : List ℕ) where
       (lt-or-le (length met) room))
       (λ n place r. one-refused larger at met s n place r ∙ sym (one-refused room at met s n place r))
 
-  end-kept : (k at : ℕ) (met : List Action) → NotFull (toEnd room k at met s) → toEnd larger k at met s ≡ toEnd room k at met s
-  unfolding toEnd
+  end-kept : (k at : ℕ) (met : List Action) → NotFull (actionsToEnd room k at met s) → actionsToEnd larger k at met s ≡ actionsToEnd room k at met s
+  unfolding actionsToEnd
   end-kept zero at met no10 = refl
   end-kept (suc k) at met no10 =
       ⊎-elim

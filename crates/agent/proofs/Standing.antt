@@ -23,7 +23,7 @@ use Rattle.frame.specs.Read.{answered}
 use Rattle.parser.proofs.Pairs.{done-same, moved-twice}
 use Rattle.parser.proofs.Runs.{from-moved}
 use Rattle.parser.proofs.Accepted.{payload-all, Cut, front-cut}
-use Rattle.agent.specs.Action.{argumentsOf, variable, action, movedAction, movedActions, actionFrom, oneAction, toEnd, actions}
+use Rattle.agent.specs.Action.{argumentsOf, variable, action, movedAction, movedActions, actionFrom, oneAction, actionsToEnd, actions}
 use Rattle.agent.specs.Frame.{Sent, ofPairs, ofActions, sentOf, agents, agentRead}
 use Rattle.agent.specs.Inner.{Headed}
 use Rattle.agent.proofs.Actions.{action-none, action-verb, action-short, action-count, action-shorter, action-scope, action-headed, set-is, unset-refused, unset-done, from-next}
@@ -175,9 +175,9 @@ run-more s at [] mid x end r e = (end, ap (λ (n : ℕ). actionFrom n s) r ∙ e
 run-more s at (y ∷ xs) mid x end r e = (r .0, r .1, run-more s (r .0) xs mid x end (r .2) e)
 
 module _ (room : ℕ) (s : List ℕ) where
-  run-on : (k at : ℕ) (met xs : List Action) (end : ℕ) → toEnd room k at met s ≡ done xs end → at ≤ length s → length s ≤ at + k → ActionRun s 0 met at
+  run-on : (k at : ℕ) (met xs : List Action) (end : ℕ) → actionsToEnd room k at met s ≡ done xs end → at ≤ length s → length s ≤ at + k → ActionRun s 0 met at
       → ActionRun s 0 xs end × (end ≡ length s)
-  unfolding toEnd
+  unfolding actionsToEnd
   run-on zero at met xs end e h g r = let o = done-same e in (rw (sym (o .0), sym (o .1)) r, omega (arith, o .1))
   run-on (suc k) at met xs end e h g r =
       ⊎-elim

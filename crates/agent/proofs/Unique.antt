@@ -8,7 +8,8 @@ use Rattle.frame.specs.declared.Head.{Head}
 use Rattle.parser.proofs.Pairs.{done-same}
 use Rattle.agent.specs.declared.AgentRead.{AgentRead}
 use Rattle.agent.specs.declared.AgentRead.the-variants as a
-use Rattle.agent.specs.Promise.{Counts, agentSaid, ReadAgentFrame}
+use Rattle.parser.specs.Promise.{Counts}
+use Rattle.agent.specs.Promise.{agentSaid, ReadAgentFrame}
 
 -- answers that say the same are the same
 pub agent-same : (r q : AgentRead) → agentSaid r ≡ agentSaid q → r ≡ q

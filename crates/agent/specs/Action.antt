@@ -61,10 +61,10 @@ oneAction room at met s =
     next (actionFrom at s) (λ x end. inOrder ((refused 10 end, ltb (length met) room) ∷ []) (done (met ++ (x ∷ [])) end))
 
 -- From a place to the end, one behind the other, as many as are counted down.
-unfoldable pub toEnd : ℕ → ℕ → ℕ → List Action → List ℕ → Answer (List Action)
-toEnd room zero at met s = done met at
-toEnd room (suc k) at met s = cond (ltb at (length s)) (next (oneAction room at met s) (λ more end. toEnd room k end more s)) (done met at)
+unfoldable pub actionsToEnd : ℕ → ℕ → ℕ → List Action → List ℕ → Answer (List Action)
+actionsToEnd room zero at met s = done met at
+actionsToEnd room (suc k) at met s = cond (ltb at (length s)) (next (oneAction room at met s) (λ more end. actionsToEnd room k end more s)) (done met at)
 
 -- All of it. Each takes a byte at least, so there are no more than bytes.
 unfoldable pub actions : ℕ → List ℕ → Answer (List Action)
-actions room s = toEnd room (length s) 0 [] s
+actions room s = actionsToEnd room (length s) 0 [] s

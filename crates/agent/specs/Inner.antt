@@ -20,7 +20,7 @@ use Rattle.agent.specs.declared.Step.{Step}
 use Rattle.agent.specs.declared.Step.the-variants as v
 use Rattle.agent.specs.Action.{variable, action, actionFrom, actions, movedAction, movedActions}
 use Rattle.agent.specs.Frame.{Sent, movedSent, sentOf}
-use Rattle.agent.specs.Promise.{agentSaid, agentTells, sentRead, Fills}
+use Rattle.agent.specs.Promise.{agentSaid, agentTells, sentRead, FillsSent}
 
 -- what the reader of an action answers: its variable is counted from behind the three bytes
 abbrev pub variableMoved : Action → Action
@@ -87,4 +87,4 @@ restOf cut m start pairs rows =
 
 pub record ReadsRest (cut : List ℕ) (m : Head) (start : ℕ) (r : AgentRead) (oldPairs newPairs oldActions newActions : List ℕ) : Type 0 where
   pub says : agentSaid r ≡ agentTells (answered (restOf cut m start oldPairs oldActions))
-  pub fills : Fills (sentRead (answered (restOf cut m start oldPairs oldActions))) oldPairs newPairs oldActions newActions
+  pub fills : FillsSent (sentRead (answered (restOf cut m start oldPairs oldActions))) oldPairs newPairs oldActions newActions

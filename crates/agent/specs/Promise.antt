@@ -8,14 +8,12 @@ use Rattle.answer.specs.Table.{joined}
 use Rattle.frame.specs.Records.{pairWidth, pairNumbers, actionWidth, actionNumbers}
 use Rattle.frame.specs.declared.Head.{Head}
 use Rattle.frame.specs.Read.{Reading, wait, answered, answerOf}
+use Rattle.parser.specs.Promise.{Counts}
 use Rattle.agent.specs.declared.AgentRead.{AgentRead}
 use Rattle.agent.specs.declared.AgentRead.the-variants as a
 use Rattle.agent.specs.Frame.{Sent, agentRead}
 
--- how many pairs and how many actions
-abbrev pub Counts : Type 0
-Counts = ℕ × ℕ
-
+-- it counts pairs and actions
 abbrev pub agentSaid : AgentRead → Reading (Head × Counts)
 agentSaid (a.Done m pairs actions used) = answered (done (m, (pairs, actions)) used)
 agentSaid (a.Wait missing) = wait missing
@@ -31,7 +29,7 @@ abbrev pub sentRead : Reading (Head × Sent) → Answer Sent
 sentRead x = next (answerOf x) (λ y used. done (y .1) used)
 
 -- Where it is accepted, its records stand at the front of the tables, in order, and what lies behind them stays. Else all stays.
-pub record Fills (a : Answer Sent) (oldPairs newPairs oldActions newActions : List ℕ) : Type 0 where
+pub record FillsSent (a : Answer Sent) (oldPairs newPairs oldActions newActions : List ℕ) : Type 0 where
   pub pairs : newPairs ≡ leaves (next a (λ x used. written (joined pairNumbers (x .pairs)))) oldPairs
   pub actions : newActions ≡ leaves (next a (λ x used. written (joined actionNumbers (x .actions)))) oldActions
 
@@ -42,4 +40,4 @@ readInto pairs actions limit input = agentRead limit (length pairs / pairWidth) 
 -- `read_agent_frame` reads the frame at the front of the bytes and fills both tables.
 pub record ReadAgentFrame (input : List ℕ) (limit : ℕ) (r : AgentRead) (oldPairs newPairs oldActions newActions : List ℕ) : Type 0 where
   pub says : agentSaid r ≡ agentTells (readInto oldPairs oldActions limit input)
-  pub fills : Fills (sentRead (readInto oldPairs oldActions limit input)) oldPairs newPairs oldActions newActions
+  pub fills : FillsSent (sentRead (readInto oldPairs oldActions limit input)) oldPairs newPairs oldActions newActions

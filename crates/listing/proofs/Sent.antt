@@ -31,7 +31,7 @@ use Rattle.frame.proofs.Heads.{head-start}
 use Rattle.parser.proofs.Accepted.{Held as HeldFrame}
 use Rattle.agent.specs.Action.{actions, movedActions}
 use Rattle.agent.specs.Frame.{Sent, agents}
-use Rattle.agent.specs.Promise.{sentRead, readInto, Fills}
+use Rattle.agent.specs.Promise.{sentRead, readInto, FillsSent}
 use Rattle.agent.proofs.Standing.{Stands, stands, by-verb, ActionRun, actions-stand, of-actions, of-pairs, agent-cut}
 use Rattle.listing.specs.Lines.{pairLine, actionLine}
 use Rattle.listing.specs.Check.{isAction, actionLineChecks}
@@ -113,7 +113,7 @@ sent-held pairs room f m c used h =
 -- The bytes of a frame that was accepted, and the tables that its reader left.
 module _ (limit : ℕ) (s oldPairs newPairs oldActions newActions : List ℕ) (m : Head) (c : Sent) (used : ℕ)
     (e : readInto oldPairs oldActions limit s ≡ answered (done (m, c) used))
-    (fills : Fills (sentRead (readInto oldPairs oldActions limit s)) oldPairs newPairs oldActions newActions) where
+    (fills : FillsSent (sentRead (readInto oldPairs oldActions limit s)) oldPairs newPairs oldActions newActions) where
   abbrev f : List ℕ
   f = take used s
 

@@ -28,7 +28,7 @@ use Rattle.parser.specs.Frame.{Entry, atFront, frameRead}
 
 -- ---- what the answers say
 
--- how many messages and how many pairs
+-- how many records of two sorts: messages and pairs here
 abbrev pub Counts : Type 0
 Counts = ℕ × ℕ
 

@@ -20,7 +20,8 @@ use Rattle.frame.specs.Read.{answered}
 use Rattle.agent.specs.declared.AgentRead.{AgentRead}
 use Rattle.agent.specs.declared.AgentRead.the-variants as a
 use Rattle.agent.specs.Frame.{Sent}
-use Rattle.agent.specs.Promise.{Counts, agentSaid, readInto, ReadAgentFrame}
+use Rattle.parser.specs.Promise.{Counts}
+use Rattle.agent.specs.Promise.{agentSaid, readInto, ReadAgentFrame}
 use Rattle.agent.proofs.Entries.{countsOf, said-done}
 use Rattle.writer.specs.Pair.{kvChecks}
 use Rattle.writer.specs.Frame.{headOf, limited, kvAllowed, pairsBytes, kvAnswer, actionsAnswer}

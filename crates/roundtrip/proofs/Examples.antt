@@ -24,7 +24,7 @@ use Rattle.parser.specs.Payload.{onePair, oneMessage, toEnd, payload}
 use Rattle.frame.specs.Read.{answerOf, cut, head}
 use Rattle.parser.specs.Frame.{oneFrame, atFront as frontOf, frameRead}
 use Rattle.parser.specs.declared.Rooms.{Rooms}
-use Rattle.agent.specs.Action.{variable, action, oneAction, toEnd as actionsToEnd, actions}
+use Rattle.agent.specs.Action.{variable, action, oneAction, actionsToEnd, actions}
 use Rattle.agent.specs.Frame.{agentRead}
 use Rattle.writer.specs.Pair.{pairBytes, newKey}
 use Rattle.writer.specs.Action.{actionBytes, actionWritable}

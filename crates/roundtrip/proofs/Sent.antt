@@ -24,7 +24,7 @@ use Rattle.parser.specs.Inner.{Run}
 use Rattle.parser.proofs.Filling.{joined-width}
 use Rattle.agent.specs.Action.{actions}
 use Rattle.agent.specs.Frame.{Sent, agents}
-use Rattle.agent.specs.Promise.{sentRead, readInto, Fills}
+use Rattle.agent.specs.Promise.{sentRead, readInto, FillsSent}
 use Rattle.listing.proofs.Sent.{sent-actions-held}
 use Rattle.writer.specs.Action.{actionBytes}
 use Rattle.writer.specs.Inner.{actionOrder}
@@ -64,7 +64,7 @@ module _ (pairs room limit : ℕ) (s : List ℕ) (m : Head) (c : Sent) (used : �
 
 module _ (limit : ℕ) (s oldPairs newPairs oldActions newActions : List ℕ) (m : Head) (c : Sent) (used : ℕ) (small : Bytes (take used s))
     (e : readInto oldPairs oldActions limit s ≡ answered (done (m, c) used))
-    (fills : Fills (sentRead (readInto oldPairs oldActions limit s)) oldPairs newPairs oldActions newActions) where
+    (fills : FillsSent (sentRead (readInto oldPairs oldActions limit s)) oldPairs newPairs oldActions newActions) where
   abbrev f : List ℕ
   f = take used s
 

@@ -18,8 +18,7 @@ use Rattle.parser.specs.Pair.{pair}
 use Rattle.frame.specs.Read.{answerOf}
 use Rattle.parser.specs.Frame.{frameRead}
 use Rattle.parser.specs.Promise.{countsOf, roomsOf, contentsRead, Fills}
-use Rattle.agent.specs.Promise.{sentRead, readInto}
-use Rattle.agent.specs.Promise as sent
+use Rattle.agent.specs.Promise.{sentRead, readInto, FillsSent}
 use Rattle.records.specs.Promise.{roomsFor, FillsRecords}
 use Rattle.writer.specs.Frame.{headOf, kvAnswer, actionsAnswer, notifyAnswer}
 use Rattle.hello.specs.Hello.{frameSize, announced, choice}
@@ -77,7 +76,7 @@ pub record SpopReadFrameRecords (input : List ℕ) (limit r at : ℕ) (before he
 pub record SpopReadAgentFrame (input : List ℕ) (limit r at : ℕ) (before head oldPairs newPairs oldActions newActions : List ℕ) : Type 0 where
   pub told : Told (answerOf (readInto oldPairs oldActions limit input)) r at
   pub numbers : head ≡ valueOr (headNumbers sentCounts) (answerOf (readInto oldPairs oldActions limit input)) before
-  pub fills : sent.Fills (sentRead (readInto oldPairs oldActions limit input)) oldPairs newPairs oldActions newActions
+  pub fills : FillsSent (sentRead (readInto oldPairs oldActions limit input)) oldPairs newPairs oldActions newActions
 
 module _ (fin abort : Bool) (stream frame limit : ℕ) (buffer : List ℕ) where
   abbrev pub SpopWriteKv : ℕ → List ℕ → ℕ → ℕ → ℕ → List ℕ → List ℕ → Type 0

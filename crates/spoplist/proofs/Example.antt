@@ -12,7 +12,7 @@ use Rattle.parser.specs.Pair.{pair}
 use Rattle.parser.specs.Payload.{onePair, oneMessage, toEnd, payload}
 use Rattle.frame.specs.Read.{cut, head}
 use Rattle.parser.specs.Frame.{oneFrame, atFront, frameRead}
-use Rattle.agent.specs.Action.{variable, action, oneAction, toEnd as actionsToEnd, actions}
+use Rattle.agent.specs.Action.{variable, action, oneAction, actionsToEnd, actions}
 use Rattle.listing.specs.Digits.{letters, digits, decimal, signed, shown}
 use Rattle.listing.specs.Lines.{filled, valueText, frameLine, messageLine, pairLine, actionLine, endLine}
 use Rattle.spoplist.specs.Listing.{stopFrom}
