@@ -11,6 +11,12 @@ use Rattle.spop.proofs.tell_agent.Tie as tie
 enum-known-answer : tie.Need-enum-known-answer
 enum-known-answer c = search needs
 
+cast-at : tie.Need-cast-at
+cast-at c = search needs
+
+cast-t12 : tie.Need-cast-t12
+cast-t12 c = search needs
+
 enum-known-answer-2 : tie.Need-enum-known-answer-2
 enum-known-answer-2 c = search needs
 
@@ -22,7 +28,7 @@ refuse-requires c κs = search needs
 
 returns : tie.Need-returns
 returns c x e =
-    let k = c .before .before in
+    let k = c .before .before .before .before in
     head-done sentCounts (k .before .before .args .head .now) x _ _ _ (ap agentSaid (sym (k .answer .given .1)) ∙ e ∙ agent-tells x)
 
 returns-2 : tie.Need-returns-2
@@ -40,6 +46,8 @@ tell-agent-spec =
     tie.close
     (tie.spec
     enum-known-answer
+    cast-at
+    cast-t12
     enum-known-answer-2
     enum-known-answer-3
     refuse-requires
