@@ -10,7 +10,7 @@ use Rattle.spop.proofs.tell_agent.Tie as tie
 
 returns : tie.Need-returns
 returns c x e =
-    let k = c .before .before in
+    let k = c .before .before .before .before in
     head-done sentCounts (k .before .before .args .head .now) x _ _ _ (ap agentSaid (sym (k .answer .given .1)) ∙ e ∙ agent-tells x)
 
 returns-2 : tie.Need-returns-2
@@ -24,4 +24,6 @@ returns-3 c x e =
     head-refused sentCounts (k .before .before .args .head .now) x _ _ (ap agentSaid (sym (k .answer3 .given .1)) ∙ e ∙ agent-tells x) (c .refuse .ensures)
 
 pub tell-agent-spec : {M : Type 1} → statement M
-tell-agent-spec = tie.close (tie.spec (λ c. search needs) (λ c. search needs) (λ c. search needs) (λ c κs. search needs) returns returns-2 returns-3)
+tell-agent-spec =
+    tie.close (tie.spec (λ c. search needs) (λ c. search needs) (λ c. search needs) (λ c. search needs) (λ c. search needs) (λ c κs. search needs)
+    returns returns-2 returns-3)

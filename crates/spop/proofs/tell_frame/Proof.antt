@@ -9,7 +9,7 @@ use Rattle.spop.proofs.tell_frame.Tie as tie
 
 returns : tie.Need-returns
 returns c x e =
-    let k = c .before .before in
+    let k = c .before .before .before .before in
     head-done countsOf (k .before .before .args .head .now) x _ _ _ (ap frameSaid (sym (k .answer .given .1)) ∙ e ∙ frame-tells x)
 
 returns-2 : tie.Need-returns-2
@@ -23,4 +23,6 @@ returns-3 c x e =
     head-refused countsOf (k .before .before .args .head .now) x _ _ (ap frameSaid (sym (k .answer3 .given .1)) ∙ e ∙ frame-tells x) (c .refuse .ensures)
 
 pub tell-frame-spec : {M : Type 1} → statement M
-tell-frame-spec = tie.close (tie.spec (λ c. search needs) (λ c. search needs) (λ c. search needs) (λ c κs. search needs) returns returns-2 returns-3)
+tell-frame-spec =
+    tie.close (tie.spec (λ c. search needs) (λ c. search needs) (λ c. search needs) (λ c. search needs) (λ c. search needs) (λ c κs. search needs)
+    returns returns-2 returns-3)
