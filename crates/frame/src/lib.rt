@@ -1,8 +1,11 @@
 // A frame's head (SPOE.txt, section 3.2): the four length bytes, the type, the flags, and the stream's and the frame's number. And the
 // records that stand for what its payload holds, as tables of 64-bit numbers have them.
+mod table;
+
 use answer::NO_ROOM;
 use answer::Refusal;
 use answer::Written;
+pub use table::put;
 use types::Value;
 ghost use mathlib.Core.Path.{_≡_};
 ghost use mathlib.Core.List.{_++_, _∷_};
