@@ -7,7 +7,7 @@ use lib.ListN.{length, take, drop, getD, length-append, List·getD-append}
 use lib.Seq.{drop-drop, take-at, drop-at}
 use Rattle.varint.specs.Number.{numberBytes}
 use Rattle.frame.specs.declared.Head.{Head}
-use Rattle.frame.specs.Head.{fourBytes, fourNumber, flagsOf, headBytes, frameBytes}
+use Rattle.frame.specs.Head.{fourBytes, fourNumber, headBytes, frameBytes}
 
 pub four-long : (n : ℕ) → length (fourBytes n) ≡ 4
 unfolding fourBytes
@@ -18,19 +18,9 @@ pub head-length : (h : Head) → length (headBytes h) ≡ 5 + length (numberByte
 unfolding headBytes fourBytes
 head-length h = simp length-append (omega arith)
 
--- a number of one byte
-pub four-small : (n : ℕ) → n < 256 → fourBytes n ≡ 0 ∷ 0 ∷ 0 ∷ n ∷ []
-unfolding fourBytes
-four-small n h =
-    let a : n / 2 ^ 24 % 256 ≡ 0 = omega arith in
-    let b : n / 2 ^ 16 % 256 ≡ 0 = omega arith in
-    let c : n / 2 ^ 8 % 256 ≡ 0 = omega arith in
-    let d : n % 256 ≡ n = omega arith in
-    cc
-
 -- what stands in front of the two numbers has nine bytes
 abbrev pub startBytes : ℕ → Head → List ℕ
-startBytes behind h = fourBytes behind ++ (h .kind ∷ fourBytes (flagsOf (h .fin) (h .abort)))
+startBytes behind h = fourBytes behind ++ (h .«frame_type» ∷ fourBytes (h .flags))
 
 pub start-long : (behind : ℕ) (h : Head) → length (startBytes behind h) ≡ 9
 unfolding fourBytes
@@ -70,8 +60,8 @@ four-kept s t h = rw (byte-kept s t h 0 (omega arith), byte-kept s t h 1 (omega 
 pub record Framed (h : Head) (limit : ℕ) (payload bytes : List ℕ) : Type 0 where
   pub says : fourNumber (take 4 bytes) ≡ length (drop 4 bytes)
   pub fits : length (drop 4 bytes) ≤ limit
-  pub type : take 1 (drop 4 bytes) ≡ h .kind ∷ []
-  pub flags : take 4 (drop 5 bytes) ≡ fourBytes (flagsOf (h .fin) (h .abort))
+  pub type : take 1 (drop 4 bytes) ≡ h .«frame_type» ∷ []
+  pub flags : take 4 (drop 5 bytes) ≡ fourBytes (h .flags)
   pub rest : drop 9 bytes ≡ numberBytes (h .stream) ++ (numberBytes (h .frame) ++ payload)
 
 frame-rest : (h : Head) (payload : List ℕ) → drop 4 (frameBytes h payload) ≡ headBytes h ++ payload
@@ -83,11 +73,11 @@ module _ (h : Head) (payload : List ℕ) where
   unfolding frameBytes
   length-first = take-at (fourBytes (length (headBytes h ++ payload))) (headBytes h ++ payload) 4 (four-long (length (headBytes h ++ payload)))
 
-  type-next : take 1 (headBytes h ++ payload) ≡ h .kind ∷ []
+  type-next : take 1 (headBytes h ++ payload) ≡ h .«frame_type» ∷ []
   unfolding headBytes
   type-next = refl
 
-  flags-next : take 4 (drop 5 (frameBytes h payload)) ≡ fourBytes (flagsOf (h .fin) (h .abort))
+  flags-next : take 4 (drop 5 (frameBytes h payload)) ≡ fourBytes (h .flags)
   unfolding frameBytes fourBytes headBytes
   flags-next = refl
 

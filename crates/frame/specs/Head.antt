@@ -3,7 +3,6 @@
 --     <FRAME-LENGTH:4 bytes> <FRAME>
 --     FRAME       : <FRAME-TYPE:1 byte> <METADATA> <FRAME-PAYLOAD>
 --     METADATA    : <FLAGS:4 bytes> <STREAM-ID:varint> <FRAME-ID:varint>
-use mathlib.Core.Bool.{Bool, cond}
 use mathlib.Core.List.{List, [], _∷_, _++_}
 use Prim.Native.Nat.{ℕ, _+_, _*_, _/_, _%_, _^_}
 use lib.ListN.{length, getD}
@@ -18,13 +17,9 @@ fourBytes n = n / 2 ^ 24 % 256 ∷ n / 2 ^ 16 % 256 ∷ n / 2 ^ 8 % 256 ∷ n % 
 unfoldable pub fourNumber : List ℕ → ℕ
 fourNumber s = getD s 0 0 * 2 ^ 24 + getD s 1 0 * 2 ^ 16 + getD s 2 0 * 2 ^ 8 + getD s 3 0
 
--- bit 0 is FIN, bit 1 is ABORT, the others are reserved
-abbrev pub flagsOf : Bool → Bool → ℕ
-flagsOf fin abort = cond fin 1 0 + cond abort 2 0
-
 -- from the type to the second number
 unfoldable pub headBytes : Head → List ℕ
-headBytes h = (h .kind ∷ fourBytes (flagsOf (h .fin) (h .abort))) ++ (numberBytes (h .stream) ++ numberBytes (h .frame))
+headBytes h = (h .«frame_type» ∷ fourBytes (h .flags)) ++ (numberBytes (h .stream) ++ numberBytes (h .frame))
 
 -- a whole frame: the length of what follows, the head, the payload
 unfoldable pub frameBytes : Head → List ℕ → List ℕ

@@ -23,35 +23,35 @@ use Rattle.writer.specs.Frame.{limited, finAlone, agentAllowed, kvAllowe
 -- ---- which metadata is writable
 
 module _ (h : Head) where
-  pub kv-haproxy-hello : h .kind ≡ 1 → kvAllowed h ≡ true
+  pub kv-haproxy-hello : h .«frame_type» ≡ 1 → kvAllowed h ≡ true
   unfolding kvAllowed
-  kv-haproxy-hello e = simp (eq-eqb (h .kind) 1 e)
+  kv-haproxy-hello e = simp (eq-eqb (h .«frame_type») 1 e)
 
-  pub kv-haproxy-disconnect : h .kind ≡ 2 → kvAllowed h ≡ true
+  pub kv-haproxy-disconnect : h .«frame_type» ≡ 2 → kvAllowed h ≡ true
   unfolding kvAllowed
   kv-haproxy-disconnect e = rw e
 
-  pub kv-agent-hello : h .kind ≡ 101 → kvAllowed h ≡ agentAllowed h
+  pub kv-agent-hello : h .«frame_type» ≡ 101 → kvAllowed h ≡ agentAllowed h
   unfolding kvAllowed
   kv-agent-hello e = rw e
 
-  pub kv-agent-disconnect : h .kind ≡ 102 → kvAllowed h ≡ agentAllowed h
+  pub kv-agent-disconnect : h .«frame_type» ≡ 102 → kvAllowed h ≡ agentAllowed h
   unfolding kvAllowed
   kv-agent-disconnect e = rw e
 
-  pub kv-other : (h .kind ≡ 1 → ⊥) → (h .kind ≡ 2 → ⊥) → (h .kind ≡ 101 → ⊥) → (h .kind ≡ 102 → ⊥) → kvAllowed h ≡ false
+  pub kv-other : (h .«frame_type» ≡ 1 → ⊥) → (h .«frame_type» ≡ 2 → ⊥) → (h .«frame_type» ≡ 101 → ⊥) → (h .«frame_type» ≡ 102 → ⊥) → kvAllowed h ≡ false
   unfolding kvAllowed
-  kv-other a b c d = rw (ne-eqb (h .kind) 1 a, ne-eqb (h .kind) 2 b, ne-eqb (h .kind) 101 c, ne-eqb (h .kind) 102 d)
+  kv-other a b c d = rw (ne-eqb (h .«frame_type») 1 a, ne-eqb (h .«frame_type») 2 b, ne-eqb (h .«frame_type») 101 c, ne-eqb (h .«frame_type») 102 d)
 
   -- a writable type is one byte
-  pub kv-kind : kvAllowed h ≡ true → h .kind < 256
-  kv-kind e =
-      bool-cases (eqb (h .kind) 1) (λ t. omega (arith, eqb-true (h .kind) 1 t))
-      (λ a. bool-cases (eqb (h .kind) 2) (λ t. omega (arith, eqb-true (h .kind) 2 t))
-      (λ b. bool-cases (eqb (h .kind) 101) (λ t. omega (arith, eqb-true (h .kind) 101 t))
-      (λ c. bool-cases (eqb (h .kind) 102) (λ t. omega (arith, eqb-true (h .kind) 102 t))
+  pub kv-type : kvAllowed h ≡ true → h .«frame_type» < 256
+  kv-type e =
+      bool-cases (eqb (h .«frame_type») 1) (λ t. omega (arith, eqb-true (h .«frame_type») 1 t))
+      (λ a. bool-cases (eqb (h .«frame_type») 2) (λ t. omega (arith, eqb-true (h .«frame_type») 2 t))
+      (λ b. bool-cases (eqb (h .«frame_type») 101) (λ t. omega (arith, eqb-true (h .«frame_type») 101 t))
+      (λ c. bool-cases (eqb (h .«frame_type») 102) (λ t. omega (arith, eqb-true (h .«frame_type») 102 t))
       (λ d.
-      true-false e (kv-other (eqb-false (h .kind) 1 a) (eqb-false (h .kind) 2 b) (eqb-false (h .kind) 101 c) (eqb-false (h .kind) 102 d))))))
+      true-false e (kv-other (eqb-false (h .«frame_type») 1 a) (eqb-false (h .«frame_type») 2 b) (eqb-false (h .«frame_type») 101 c) (eqb-false (h .«frame_type») 102 d))))))
 
 -- ---- metadata, a count of records, and then the first record that is refused
 

@@ -107,7 +107,7 @@ actions-told-apart a b e =
 
 -- A call of `write_kv` that was accepted.
 pub record KvCall : Type 0 where
-  pub kind : ℕ
+  pub type : ℕ
   pub fin : Bool
   pub abort : Bool
   pub stream : ℕ
@@ -120,10 +120,10 @@ pub record KvCall : Type 0 where
   pub old : List ℕ
   pub new : List ℕ
   pub small : limit < 2 ^ 32
-  pub kept : WriteKv fin abort stream frame limit buffer kind pairs count (w.Done n) old new
+  pub kept : WriteKv fin abort stream frame limit buffer type pairs count (w.Done n) old new
 
 abbrev pub kvHead : KvCall → Head
-kvHead a = headOf (a .kind) (a .fin) (a .abort) (a .stream) (a .frame)
+kvHead a = headOf (a .type) (a .fin) (a .abort) (a .stream) (a .frame)
 
 abbrev pub kvPayload : KvCall → List ℕ
 kvPayload a = payloadOf (kvHead a) (a .n) (a .new)

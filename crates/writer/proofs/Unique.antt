@@ -8,11 +8,11 @@ use Rattle.answer.proofs.Same.{writes-unique}
 use Rattle.writer.specs.Promise.{WriteKv, WriteActions, WriteNotify}
 
 module _ (fin abort : Bool) (stream frame limit : ℕ) (buffer : List ℕ) (r q : Written) (old new other : List ℕ) where
-  pub write-kv-unique : (kind : ℕ) (pairs : List ℕ) (count : ℕ)
-      → WriteKv fin abort stream frame limit buffer kind pairs count r old new
-      → WriteKv fin abort stream frame limit buffer kind pairs count q old other
+  pub write-kv-unique : (type : ℕ) (pairs : List ℕ) (count : ℕ)
+      → WriteKv fin abort stream frame limit buffer type pairs count r old new
+      → WriteKv fin abort stream frame limit buffer type pairs count q old other
       → (r ≡ q) × (new ≡ other)
-  write-kv-unique kind pairs count p s = writes-unique p s
+  write-kv-unique type pairs count p s = writes-unique p s
 
   pub write-actions-unique : (actions : List ℕ) (count : ℕ)
       → WriteActions fin abort stream frame limit buffer actions count r old new

@@ -1,7 +1,7 @@
 -- What each writer answers, its checks in the order of docs/RULES.md. (11, where the output is too short, is answer's `within`.)
 use mathlib.Core.Bool.{Bool, true, false, cond, not, _&&_, _||_}
 use mathlib.Core.List.{List, [], _∷_, _++_}
-use Prim.Native.Nat.{ℕ}
+use Prim.Native.Nat.{ℕ, _+_}
 use lib.Dec.{eqb, leb}
 use lib.ListN.{length}
 use Rattle.answer.specs.Answer.{Answer, written}
@@ -14,8 +14,12 @@ use Rattle.writer.specs.Pair.{pairBytes, pairRefusal, kvRefusal}
 use Rattle.writer.specs.Action.{actionBytes, actionRefusal}
 use Rattle.writer.specs.Message.{messageBytes, messageRefusal}
 
+-- bit 0 is FIN, bit 1 is ABORT, the others are reserved
+abbrev pub flagsOf : Bool → Bool → ℕ
+flagsOf fin abort = cond fin 1 0 + cond abort 2 0
+
 abbrev pub headOf : ℕ → Bool → Bool → ℕ → ℕ → Head
-headOf kind fin abort stream frame = record { kind = kind; fin = fin; abort = abort; stream = stream; frame = frame }
+headOf type fin abort stream frame = record { «frame_type» = type; flags = flagsOf fin abort; stream = stream; frame = frame }
 
 -- the frame, where what follows its length bytes is within the limit
 unfoldable pub limited : ℕ → Head → List ℕ → Answer (List ℕ)
@@ -24,7 +28,7 @@ limited limit h payload = after ((12, leb (length (headBytes h ++ payload)) limi
 -- ---- KV frames
 
 abbrev pub finAlone : Head → Bool
-finAlone h = h .fin && not (h .abort)
+finAlone h = eqb (h .flags) 1
 
 -- HAPROXY-HELLO and HAPROXY-DISCONNECT, which are 1 and 2, have any metadata; AGENT-HELLO and AGENT-DISCONNECT, which are 101 and
 -- 102, have FIN alone and both numbers 0 (docs/RULES.md)
@@ -33,8 +37,8 @@ agentAllowed h = finAlone h && (eqb (h .stream) 0 && eqb (h .frame) 0)
 
 unfoldable pub kvAllowed : Head → Bool
 kvAllowed h =
-    cond (eqb (h .kind) 1 || eqb (h .kind) 2) true
-    (cond (eqb (h .kind) 101 || eqb (h .kind) 102) (agentAllowed h) false)
+    cond (eqb (h .«frame_type») 1 || eqb (h .«frame_type») 2) true
+    (cond (eqb (h .«frame_type») 101 || eqb (h .«frame_type») 102) (agentAllowed h) false)
 
 -- the pairs, one after the other
 abbrev pub pairsBytes : List ℕ → List ℕ → ℕ → List ℕ

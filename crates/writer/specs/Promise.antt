@@ -10,8 +10,8 @@ use Rattle.writer.specs.Frame.{headOf, kvAnswer, actionsAnswer, notifyAn
 
 module _ (fin abort : Bool) (stream frame limit : ℕ) (buffer : List ℕ) where
   abbrev pub WriteKv : ℕ → List ℕ → ℕ → Written → List ℕ → List ℕ → Type 0
-  WriteKv kind pairs count r old new =
-      Writes (within (length old) (kvAnswer (headOf kind fin abort stream frame) limit buffer pairs count)) r old new
+  WriteKv type pairs count r old new =
+      Writes (within (length old) (kvAnswer (headOf type fin abort stream frame) limit buffer pairs count)) r old new
 
   -- an ACK frame, of type 103
   abbrev pub WriteActions : List ℕ → ℕ → Written → List ℕ → List ℕ → Type 0

@@ -3,6 +3,7 @@ use crate::Checked;
 use crate::begin_frame;
 use crate::cap;
 use crate::fin_alone;
+use crate::head_of;
 use crate::pair::measure_pair;
 use crate::pair::put_pair;
 use answer::NOT_WRITABLE;
@@ -221,13 +222,7 @@ pub fn write_actions(
     if bad.number != 0 {
         return Written::Refused(bad);
     }
-    let head = Head {
-        kind: frame::ACK as u8,
-        fin,
-        abort,
-        stream: stream_id,
-        frame: frame_id,
-    };
+    let head = head_of(frame::ACK, fin, abort, stream_id, frame_id);
     action_frame(head, checked.len, limit, buffer, actions, count, out)
 }
 

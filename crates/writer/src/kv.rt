@@ -3,6 +3,7 @@ use crate::Checked;
 use crate::begin_frame;
 use crate::cap;
 use crate::fin_alone;
+use crate::head_of;
 use crate::pair::measure_pair;
 use crate::pair::pair_at;
 use crate::pair::put_pairs;
@@ -96,8 +97,8 @@ fn check_pairs(pairs: &[u64], count: usize, buffer: &[u8], most: u32) -> Checked
 }
 
 // Whether the metadata of an AGENT-HELLO or an AGENT-DISCONNECT is writable.
-fn agent_allowed(kind: u64, fin: bool, abort: bool, stream_id: u64, frame_id: u64) -> bool
-    ensures { λ r. ⌜ r ≡ agentAllowed (headOf kind fin abort «stream_id» «frame_id») ⌝ }
+fn agent_allowed(frame_type: u64, fin: bool, abort: bool, stream_id: u64, frame_id: u64) -> bool
+    ensures { λ r. ⌜ r ≡ agentAllowed (headOf «frame_type» fin abort «stream_id» «frame_id») ⌝ }
 {
     if !fin_alone(fin, abort) {
         return false;
@@ -109,27 +110,27 @@ fn agent_allowed(kind: u64, fin: bool, abort: bool, stream_id: u64, frame_id: u6
 }
 
 // Whether the metadata of a KV frame is writable.
-fn kv_allowed(kind: u64, fin: bool, abort: bool, stream_id: u64, frame_id: u64) -> bool
-    ensures { λ r. ⌜ r ≡ kvAllowed (headOf kind fin abort «stream_id» «frame_id») ⌝ }
+fn kv_allowed(frame_type: u64, fin: bool, abort: bool, stream_id: u64, frame_id: u64) -> bool
+    ensures { λ r. ⌜ r ≡ kvAllowed (headOf «frame_type» fin abort «stream_id» «frame_id») ⌝ }
 {
-    if kind == frame::HAPROXY_HELLO {
+    if frame_type == frame::HAPROXY_HELLO as u64 {
         return true;
     }
-    if kind == frame::HAPROXY_DISCONNECT {
+    if frame_type == frame::HAPROXY_DISCONNECT as u64 {
         return true;
     }
-    if kind == frame::AGENT_HELLO {
-        return agent_allowed(kind, fin, abort, stream_id, frame_id);
+    if frame_type == frame::AGENT_HELLO as u64 {
+        return agent_allowed(frame_type, fin, abort, stream_id, frame_id);
     }
-    if kind == frame::AGENT_DISCONNECT {
-        return agent_allowed(kind, fin, abort, stream_id, frame_id);
+    if frame_type == frame::AGENT_DISCONNECT as u64 {
+        return agent_allowed(frame_type, fin, abort, stream_id, frame_id);
     }
     false
 }
 
 // Writes a KV frame at the front of `out`: its head, and its pairs in their order.
 pub fn write_kv(
-    kind: u64,
+    frame_type: u64,
     fin: bool,
     abort: bool,
     stream_id: u64,
@@ -140,9 +141,9 @@ pub fn write_kv(
     pair_count: u64,
     out: &mut [u8],
 ) -> Written
-    ensures { λ r. ⌜ WriteKv fin abort «stream_id» «frame_id» limit (now (buffer .entry)) kind (now (pairs .entry)) «pair_count» r (now (out .entry)) (now (out .exit)) ⌝ }
+    ensures { λ r. ⌜ WriteKv fin abort «stream_id» «frame_id» limit (now (buffer .entry)) «frame_type» (now (pairs .entry)) «pair_count» r (now (out .entry)) (now (out .exit)) ⌝ }
 {
-    if !kv_allowed(kind, fin, abort, stream_id, frame_id) {
+    if !kv_allowed(frame_type, fin, abort, stream_id, frame_id) {
         return Written::Refused(Refusal {
             number: NOT_WRITABLE,
             place: 0,
@@ -160,13 +161,7 @@ pub fn write_kv(
     if bad.number != 0 {
         return Written::Refused(bad);
     }
-    let head = Head {
-        kind: kind as u8,
-        fin,
-        abort,
-        stream: stream_id,
-        frame: frame_id,
-    };
+    let head = head_of(frame_type as u8, fin, abort, stream_id, frame_id);
     kv_frame(head, checked.len, limit, buffer, pairs, count, out)
 }
 

@@ -16,9 +16,10 @@ use frame::Head;
 pub use kv::write_kv;
 pub use notify::write_notify;
 ghost use mathlib.Core.Path.{_≡_};
-ghost use mathlib.Core.Bool.{not, _&&_};
+ghost use lib.Dec.{eqb};
 ghost use lib.ListN.{length};
 ghost use Rattle.answer.specs.Writes.{Writes};
+ghost use Rattle.writer.specs.Frame.{flagsOf, headOf};
 ghost use Rattle.writer.specs.Inner.{capped, begun};
 
 // What a loop that checks and measures some records found: the first that is refused, with number 0 where none is, and then how many
@@ -39,14 +40,32 @@ pub(crate) fn cap(n: u64, most: u32) -> u64
     most as u64 + 1
 }
 
+fn flags(fin: bool, abort: bool) -> u32
+    ensures { λ r. ⌜ r ≡ flagsOf fin abort ⌝ }
+{
+    if fin {
+        if abort { 3 } else { 1 }
+    } else {
+        if abort { 2 } else { 0 }
+    }
+}
+
 // Whether FIN is set and ABORT is not.
 pub(crate) fn fin_alone(fin: bool, abort: bool) -> bool
-    ensures { λ r. ⌜ r ≡ fin && not abort ⌝ }
+    ensures { λ r. ⌜ r ≡ eqb (flagsOf fin abort) 1 ⌝ }
 {
-    if !fin {
-        return false;
+    flags(fin, abort) == 1
+}
+
+pub(crate) fn head_of(frame_type: u8, fin: bool, abort: bool, stream: u64, frame: u64) -> Head
+    ensures { λ r. ⌜ r ≡ headOf «frame_type» fin abort stream frame ⌝ }
+{
+    Head {
+        frame_type,
+        flags: flags(fin, abort),
+        stream,
+        frame,
     }
-    !abort
 }
 
 // Writes the length bytes and the head of a frame whose payload is to have `len` bytes, where the whole frame is within the limit

@@ -5,6 +5,7 @@ use crate::Checked;
 use crate::begin_frame;
 use crate::cap;
 use crate::fin_alone;
+use crate::head_of;
 use crate::pair::measure_pair;
 use crate::pair::pair_at;
 use crate::pair::put_pairs;
@@ -253,13 +254,7 @@ pub fn write_notify(
         return Written::Refused(bad_pair);
     }
     let len = cap(named.len + given.len, limit);
-    let head = Head {
-        kind: frame::NOTIFY as u8,
-        fin,
-        abort,
-        stream: stream_id,
-        frame: frame_id,
-    };
+    let head = head_of(frame::NOTIFY, fin, abort, stream_id, frame_id);
     notify_frame(head, len, limit, buffer, messages, count, pairs, out)
 }
 

@@ -1,14 +1,17 @@
--- `writer::fin_alone` meets its contract: a case for each answer.
+-- `writer::fin_alone` meets its contract.
 -- Assumes nothing.
-use borrow.Author.Tests.{not-true, not-false}
+use borrow.Author.Needs.{needs}
+use mathlib.Core.Path.{ap}
+use Prim.Native.Nat.{ℕ}
+use lib.Dec.{eqb}
 use Rattle.writer.proofs.fin_alone.Statement.{statement}
 use Rattle.writer.proofs.fin_alone.Tie as tie
 
-returns : tie.Need-returns
-returns c = rw (not-true (c .before .args .fin) (c .if1 .taken))
+flags-requires : tie.Need-flags-requires
+flags-requires c κs = search needs
 
-returns-2 : tie.Need-returns-2
-returns-2 c = rw (not-false (c .before .args .fin) (c .if1 .left))
+returns : tie.Need-returns
+returns c = ap (λ (n : ℕ). eqb n 1) (c .flags .ensures)
 
 pub fin-alone-spec : {M : Type 1} → statement M
-fin-alone-spec = tie.close (tie.spec returns returns-2)
+fin-alone-spec = tie.close (tie.spec flags-requires returns)

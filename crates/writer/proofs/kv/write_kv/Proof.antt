@@ -18,7 +18,7 @@ use Rattle.answer.specs.Order.{firstRefused}
 use Rattle.writer.specs.Pair.{kvRefusal}
 use Rattle.writer.specs.Frame.{headOf, limited, kvAllowed, pairsBytes, kvAnswer}
 use Rattle.writer.proofs.Pairs.{kv-sound, run-sound}
-use Rattle.writer.proofs.Answers.{kv-kind, listAnswer, kv-list, list-metadata, list-count, list-refused, list-passed}
+use Rattle.writer.proofs.Answers.{kv-type, listAnswer, kv-list, list-metadata, list-count, list-refused, list-passed}
 use Rattle.writer.proofs.kv.write_kv.Statement.{statement}
 use Rattle.writer.proofs.kv.write_kv.Tie as tie
 
@@ -26,7 +26,7 @@ abbrev start : tie.After-kv-allowed → tie.Start
 start c = c .before .before .before .before
 
 abbrev head : tie.Start → Head
-head s = let a = s .args in headOf (a .kind) (a .fin) (a .abort) (a .stream-id) (a .frame-id)
+head s = let a = s .args in headOf (a .frame-type) (a .fin) (a .abort) (a .stream-id) (a .frame-id)
 
 abbrev number : tie.Start → ℕ → ℕ
 number s = kvRefusal (s .args .buffer .now) (s .args .pairs .now)
@@ -84,7 +84,7 @@ none : (c : tie.Else3) → let s = start (c .before .before .before .before .bef
 none c = let k = c .before .before .before in ap (λ (r : Refusal). r .number) (sym (k .check-pairs .ensures .refusal)) ∙ c .if3 .left
 
 cast-t22 : tie.Need-cast-t22
-cast-t22 c = let e = c .before .before .before .before .before in omega (arith, kv-kind (head (start (e .before))) (allowed e))
+cast-t22 c = let e = c .before .before .before .before .before in omega (arith, kv-type (head (start (e .before))) (allowed e))
 
 kv-frame-requires : tie.Need-kv-frame-requires
 kv-frame-requires c κs =

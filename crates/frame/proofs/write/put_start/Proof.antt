@@ -1,17 +1,13 @@
--- `frame::put_start` meets its contract: nine stores, one after the other, of the bytes that it is to write.
+-- `frame::write::put_start` meets its contract: nine stores, one after the other, of the bytes that it is to write.
 -- Assumes nothing.
-use mathlib.Core.Path.{sym, ap, _∙_}
-use mathlib.Core.List.{List, [], _∷_, _++_}
-use Prim.Native.Nat.{ℕ}
-use Rattle.answer.specs.Answer.{written, leaves}
+use mathlib.Core.List.{_∷_, _++_}
 use borrow.Author.Needs.{needs}
 use native.Mathlib.Omega.{arith}
 use lib.ListN.{length-set}
 use lib.Seq.{sets-eq}
 use Rattle.frame.specs.Head.{fourBytes}
-use Rattle.frame.proofs.Laws.{four-small}
-use Rattle.frame.proofs.put_start.Statement.{statement}
-use Rattle.frame.proofs.put_start.Tie as tie
+use Rattle.frame.proofs.write.put_start.Statement.{statement}
+use Rattle.frame.proofs.write.put_start.Tie as tie
 
 cast-out : tie.Need-cast-out
 cast-out c = search needs
@@ -40,27 +36,37 @@ slice-write-out-4 c = simp length-set (omega arith)
 slice-write-out-5 : tie.Need-slice-write-out-5
 slice-write-out-5 c = simp length-set (omega arith)
 
+cast-out-5 : tie.Need-cast-out-5
+cast-out-5 c = search needs
+
 slice-write-out-6 : tie.Need-slice-write-out-6
 slice-write-out-6 c = simp length-set (omega arith)
+
+cast-out-6 : tie.Need-cast-out-6
+cast-out-6 c = search needs
 
 slice-write-out-7 : tie.Need-slice-write-out-7
 slice-write-out-7 c = simp length-set (omega arith)
 
+cast-out-7 : tie.Need-cast-out-7
+cast-out-7 c = search needs
+
 slice-write-out-8 : tie.Need-slice-write-out-8
 slice-write-out-8 c = simp length-set (omega arith)
+
+cast-out-8 : tie.Need-cast-out-8
+cast-out-8 c = search needs
 
 slice-write-out-9 : tie.Need-slice-write-out-9
 slice-write-out-9 c = simp length-set (omega arith)
 
 same-length : tie.Need-same-length
-same-length c = search needs
+same-length c = search needs depth 12
 
 returns : tie.Need-returns
 unfolding fourBytes
 returns c =
-    let a = c .args in
-    sets-eq (fourBytes (a .behind) ++ (a .kind ∷ 0 ∷ 0 ∷ 0 ∷ a .flags ∷ [])) (a .out .now) 0 (c .pre)
-    ∙ ap (λ (f : List ℕ). leaves (written (fourBytes (a .behind) ++ (a .kind ∷ f))) (a .out .now)) (sym (four-small (a .flags) (c .fits .flags .fits)))
+    let a = c .args in sets-eq (fourBytes (a .behind) ++ (a .frame-type ∷ fourBytes (a .flags))) (a .out .now) 0 (c .pre)
 
 pub put-start-spec : {M : Type 1} → statement M
 put-start-spec =
@@ -75,9 +81,13 @@ put-start-spec =
     cast-out-4
     slice-write-out-4
     slice-write-out-5
+    cast-out-5
     slice-write-out-6
+    cast-out-6
     slice-write-out-7
+    cast-out-7
     slice-write-out-8
+    cast-out-8
     slice-write-out-9
     same-length
     returns)

@@ -1,11 +1,11 @@
--- `frame::head_len` meets its contract: one byte for the type, four for the flags, and the two numbers, of ten bytes at most.
+-- `frame::write::head_len` meets its contract: one byte for the type, four for the flags, and the two numbers, of ten bytes at most.
 -- Assumes nothing.
 use borrow.Author.Needs.{needs}
 use native.Mathlib.Omega.{arith}
 use Rattle.varint.proofs.Writing.{length-most}
 use Rattle.frame.proofs.Laws.{head-length}
-use Rattle.frame.proofs.head_len.Statement.{statement}
-use Rattle.frame.proofs.head_len.Tie as tie
+use Rattle.frame.proofs.write.head_len.Statement.{statement}
+use Rattle.frame.proofs.write.head_len.Tie as tie
 
 varint-len-requires : tie.Need-varint-len-requires
 varint-len-requires c κs = search needs

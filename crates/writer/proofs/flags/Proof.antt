@@ -1,7 +1,7 @@
--- `frame::flags` meets its contract: a case for each of the four.
+-- `writer::flags` meets its contract: a case for each of the four.
 -- Assumes nothing.
-use Rattle.frame.proofs.flags.Statement.{statement}
-use Rattle.frame.proofs.flags.Tie as tie
+use Rattle.writer.proofs.flags.Statement.{statement}
+use Rattle.writer.proofs.flags.Tie as tie
 
 returns : tie.Need-returns
 returns c = simp (c .before .if1 .taken, c .if2 .taken)

@@ -1,4 +1,4 @@
--- `frame::write_head` meets its contract: with no room nothing is written; else the nine bytes of fixed places are, and the two
+-- `frame::write::write_head` meets its contract: with no room nothing is written; else the nine bytes of fixed places are, and the two
 -- numbers into the tail behind them, one after the other.
 -- Assumes nothing.
 use borrow.Author.Needs.{needs}
@@ -14,8 +14,8 @@ use Rattle.varint.proofs.Writing.{length-most}
 use Rattle.answer.proofs.Output.{leaves-length, leaves-writes, writes-none, writes-all}
 use Rattle.frame.specs.Head.{fourBytes, headBytes}
 use Rattle.frame.proofs.Laws.{four-long, startBytes, start-long, head-length, head-parts}
-use Rattle.frame.proofs.write_head.Statement.{statement}
-use Rattle.frame.proofs.write_head.Tie as tie
+use Rattle.frame.proofs.write.write_head.Statement.{statement}
+use Rattle.frame.proofs.write.write_head.Tie as tie
 
 -- There is room for all of it past the first test.
 room : (c : tie.Else1)
@@ -32,21 +32,20 @@ parts-room c = let a = c .before .before .before .args in omega (arith, c .if1 .
 
 -- What the output holds once the nine bytes of fixed places are written, and the first and the second number behind them.
 start : (c : tie.After-put-start)
-    → let a = c .before .before .before .before .before .before .before .args in
+    → let a = c .before .before .before .before .before .before .args in
     c .put-start .last .1 .1 .1 .0 ≡ leaves (written (startBytes (a .behind) (a .head))) (a .out .now)
 start c =
-    let a = c .before .before .before .before .before .before .before .args in
+    let a = c .before .before .before .before .before .before .args in
     c .put-start .ensures
-    ∙ ap (λ (f : ℕ). leaves (written (fourBytes (a .behind) ++ (a .head .kind ∷ fourBytes f))) (a .out .now)) (c .before .before .flags .ensures)
 
 one : (c : tie.After-encode-varint)
     → let p = c .before .before .before .before in
-    let a = p .before .before .before .before .before .before .before .args in
+    let a = p .before .before .before .before .before .before .args in
     let out = p .put-start .last .1 .1 .1 .0 in
     putMid 9 (length out - 9) out (c .encode-varint .last .1 .0) ≡ leaves (written (startBytes (a .behind) (a .head) ++ numberBytes (a .head .stream))) (a .out .now)
 one c =
     let p = c .before .before .before .before in
-    let e = p .before .before .before .before in
+    let e = p .before .before .before in
     let a = e .before .before .before .args in
     leaves-writes (startBytes (a .behind) (a .head)) (numberBytes (a .head .stream)) (a .out .now) (p .put-start .last .1 .1 .1 .0) (c .encode-varint .last .1 .0) 9
     (start-long (a .behind) (a .head)) (start p)
@@ -55,17 +54,17 @@ one c =
 
 one-front : (c : tie.After-encode-varint)
     → let p = c .before .before .before .before in
-    let a = p .before .before .before .before .before .before .before .args in
-    length (startBytes (a .behind) (a .head) ++ numberBytes (a .head .stream)) ≡ 9 + p .before .before .before .varint-len .result
+    let a = p .before .before .before .before .before .before .args in
+    length (startBytes (a .behind) (a .head) ++ numberBytes (a .head .stream)) ≡ 9 + p .before .before .varint-len .result
 one-front c =
-    let v = c .before .before .before .before .before .before .before in
+    let v = c .before .before .before .before .before .before in
     let a = v .before .before .before .before .args in
     omega (arith, length-append (startBytes (a .behind) (a .head)) (numberBytes (a .head .stream)), start-long (a .behind) (a .head), v .varint-len .ensures)
 
 two : (c : tie.After-encode-varint2)
     → let k = c .before .before .before .before in
     let p = k .before .before .before .before in
-    let v = p .before .before .before in
+    let v = p .before .before in
     let a = v .before .before .before .before .args in
     let out = p .put-start .last .1 .1 .1 .0 in
     let then = putMid 9 (length out - 9) out (k .encode-varint .last .1 .0) in
@@ -73,7 +72,7 @@ two : (c : tie.After-encode-varint2)
 two c =
     let k = c .before .before .before .before in
     let p = k .before .before .before .before in
-    let v = p .before .before .before in
+    let v = p .before .before in
     let a = v .before .before .before .before .args in
     leaves-writes (startBytes (a .behind) (a .head) ++ numberBytes (a .head .stream)) (numberBytes (a .head .frame)) (a .out .now) _ (c .encode-varint2 .last .1 .0) (9 + v .varint-len .result)
     (one-front k) (one k)
@@ -98,16 +97,13 @@ varint-len-requires c κs = search needs
 add-n : tie.Need-add-n
 add-n c = omega (arith, c .varint-len .ensures, length-most (c .before .before .before .before .args .head .stream))
 
-flags-requires : tie.Need-flags-requires
-flags-requires c κs = search needs
-
 put-start-requires : tie.Need-put-start-requires
-put-start-requires c κs = omega (arith, parts-room (c .before .before .before))
+put-start-requires c κs = omega (arith, parts-room (c .before .before))
 
 sub-encode-varint : tie.Need-sub-encode-varint
 sub-encode-varint c =
     let p = c .before .before in
-    let e = p .before .before .before .before in
+    let e = p .before .before .before in
     let a = e .before .before .before .args in
     omega (arith, parts-room e, ap length (start p), leaves-length (startBytes (a .behind) (a .head)) (a .out .now) (omega (arith, start-long (a .behind) (a .head), parts-room e)))
 
@@ -123,7 +119,7 @@ encode-varint-requires c κs = search needs
 sub-encode-varint-2 : tie.Need-sub-encode-varint-2
 sub-encode-varint-2 c =
     let k = c .before .before in
-    let v = k .before .before .before .before .before .before .before in
+    let v = k .before .before .before .before .before .before in
     let a = v .before .before .before .before .args in
     omega (arith, parts-room (v .before), v .varint-len .ensures, ap length (one k), leaves-length (startBytes (a .behind) (a .head) ++ numberBytes (a .head .stream)) (a .out .now) (omega (arith, one-front k, v .varint-len .ensures, parts-room (v .before))))
 
@@ -141,7 +137,7 @@ varint-len-requires-2 c κs = search needs
 
 add-t7 : tie.Need-add-t7
 add-t7 c =
-    let v = c .before .before .before .before .before .before .before .before .before .before .before .before .before .before in
+    let v = c .before .before .before .before .before .before .before .before .before .before .before .before .before in
     let h = v .before .before .before .before .args .head in
     omega (arith, v .varint-len .ensures, c .varint-len2 .ensures, length-most (h .stream), length-most (h .frame))
 
@@ -151,7 +147,7 @@ same-length c = search needs
 returns-2 : tie.Need-returns-2
 returns-2 c =
     let k = c .before .before .before in
-    let v = c .before .before .before .before .before .before .before .before .before .before .before .before .before .before in
+    let v = c .before .before .before .before .before .before .before .before .before .before .before .before .before in
     let a = v .before .before .before .before .args in
     writes-all (fourBytes (a .behind) ++ headBytes (a .head)) _ _ _ (room (v .before))
     (omega (arith, length-append (fourBytes (a .behind)) (headBytes (a .head)), four-long (a .behind), head-length (a .head), v .varint-len .ensures, c .varint-len2 .ensures))
@@ -166,7 +162,6 @@ write-head-spec =
     returns
     varint-len-requires
     add-n
-    flags-requires
     put-start-requires
     sub-encode-varint
     part-encode-varint-start
