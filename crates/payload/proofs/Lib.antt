@@ -1,3 +1,4 @@
--- Laws about payloads: things in a row, and what larger tables keep.
+-- Laws about payloads: things in a row, what larger tables keep, and what is accepted.
 pub mod Rowing
 pub mod Kept
+pub mod Accepted
