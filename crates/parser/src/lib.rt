@@ -1,119 +1,56 @@
-// What HAProxy sends, read (SPOE.txt, section 3.2): a pair, a payload, a whole frame.
+// Whole frames, read (SPOE.txt, section 3.2): what HAProxy sends (`read_frame`, and `look_frame`, which writes nothing), and what agents send
+// (`read_agent_frame`).
 //
-// No public call has a `requires`: each does its own refusing. A first pass over a payload finds the answer and writes nothing (`look`);
-// only what is accepted is filled in, by a second pass (`fill`). A small list of messages is read in one pass, into tables of its own
-// (`small`). `look_frame` is the first pass alone, and `read_few` gives up to four pairs by value (`by_value`): for readers whose table of pairs is
-// not one of numbers. `read_start` and `read_list` are the head and a KV list by themselves: for the entry that reads what agents send.
-mod by_value;
-mod fill;
-mod head;
-mod look;
-mod pair;
-mod small;
-
+// A frame is cut out of the bytes by its length; then comes its head (both by `frame`), and then the payload of its type (by `payload`). No public
+// call has a `requires`: each does its own refusing.
+use answer::OVERSIZE;
 use answer::Refusal;
-pub use by_value::read_few;
-pub use fill::read_list;
-pub use fill::read_payload;
-use frame::Pair;
-pub use head::look_frame;
-pub use head::read_frame;
-pub use head::read_start;
-pub use pair::read_pair;
+use frame::ACK;
+use frame::FrameCut;
+use frame::Head;
+use frame::HeadRead;
+use frame::NOTIFY;
+use frame::Side;
+use payload::Counts;
+use payload::Payload;
+use payload::PayloadRead;
+ghost use mathlib.Core.Path.{_≡_};
+ghost use Rattle.answer.specs.Answer.{refused};
+ghost use Rattle.frame.specs.Read.{sender, answered, onward, cut};
+ghost use Rattle.frame.specs.Promise.{headSaid, cutSaid};
+ghost use Rattle.payload.specs.Promise.{roomsOf};
+ghost use Rattle.parser.specs.Frame.{payloadOf, framed, frameRead};
+ghost use Rattle.parser.specs.Promise.{frameSaid, frameTells, FrameFills, ReadFrame, ReadAgentFrame, LookFrame};
 
-// What the pair reader answers.
-pub enum PairRead {
-    Done { pair: Pair, used: usize },
-    Refused(Refusal),
-}
-
-// What the payload reader answers: how many messages and pairs it found, and the bytes that they took, which are all.
-pub enum PayloadRead {
-    Done {
-        messages: usize,
-        pairs: usize,
-        used: usize,
-    },
-    Refused(Refusal),
-}
-
-// How many messages and pairs the lent tables have room for.
-pub struct Rooms {
-    pub messages: usize,
-    pub pairs: usize,
-}
-
-// A frame's type, its flags, and the numbers of its stream and of the frame in it.
-pub struct Metadata {
-    pub kind: u64,
-    pub flags: u64,
-    pub stream: u64,
-    pub frame: u64,
-}
-
-// What the frame reader answers: the frame, with how many messages and pairs it has, and its bytes; or how many bytes are missing.
+// What the frame readers answer: the head, how many records of each sort the frame has, and its bytes; or how many bytes are missing.
 pub enum FrameRead {
     Done {
-        metadata: Metadata,
-        messages: usize,
-        pairs: usize,
+        head: Head,
+        counts: Counts,
         used: usize,
     },
     Wait(usize),
     Refused(Refusal),
 }
 
-// What the reader of a frame up to its payload answers: where the payload starts, and where it ends.
-pub enum StartRead {
-    Done {
-        metadata: Metadata,
-        start: usize,
-        end: usize,
-    },
-    Wait(usize),
-    Refused(Refusal),
+// What the payload of a frame of this type is a list of.
+fn payload_of(frame_type: u8) -> Payload
+    ensures { λ r. ⌜ r ≡ payloadOf «frame_type» ⌝ }
+{
+    if frame_type == NOTIFY {
+        return Payload::Messages;
+    }
+    if frame_type == ACK {
+        return Payload::Actions;
+    }
+    Payload::KvList
 }
 
-// Up to four pairs by value; those that are not there have no number but 0.
-pub struct Few {
-    pub first: Pair,
-    pub second: Pair,
-    pub third: Pair,
-    pub fourth: Pair,
-}
-
-// What the reader of a few pairs answers.
-pub struct FewRead {
-    pub answer: FrameRead,
-    pub few: Few,
-}
-
-// How far a pass is: the place, how many arguments of the last message are to come, and how many messages and pairs were met.
-pub(crate) struct State {
-    pub at: usize,
-    pub left: usize,
-    pub messages: usize,
-    pub pairs: usize,
-}
-
-// What a step of a pass finds: how far the pass is behind it, or why it is refused.
-pub(crate) enum Step {
-    On(State),
-    Refused(Refusal),
-}
-
-// What the reader of metadata answers: the metadata, and where the payload starts.
-pub(crate) enum MetadataRead {
-    Done { metadata: Metadata, start: usize },
-    Refused(Refusal),
-}
-
-// What reading a payload in one pass finds: its counts and bytes, where it was read so; else nothing has changed.
-pub(crate) enum Once {
-    Read {
-        messages: usize,
-        pairs: usize,
-        used: usize,
-    },
-    Left,
+// What is said of a frame whose payload came to this.
+fn with_head(head: Head, found: PayloadRead) -> FrameRead
+{
+    match found {
+        PayloadRead::Refused(r) => FrameRead::Refused(r),
+        PayloadRead::Done { counts, used } => FrameRead::Done { head, counts, used },
+    }
 }
