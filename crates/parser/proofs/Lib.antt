@@ -5,3 +5,4 @@ pub mod Exact
 pub mod Order
 pub mod Back
 pub mod Unique
+pub mod Entries
