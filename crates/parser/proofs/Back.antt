@@ -4,13 +4,13 @@ use mathlib.Core.List.{List, _++_}
 use Prim.Native.Nat.{ℕ, _≤_}
 use Rattle.frame.specs.declared.Head.{Head}
 use Rattle.frame.specs.declared.Side.{Side}
-use Rattle.frame.specs.Read.{Reading, answered, onward, sender}
+use Rattle.frame.specs.Read.{answered, sender}
 use Rattle.frame.proofs.Laws.{Framed}
 use Rattle.frame.proofs.Back.{Sendable, FrameBack, frame-back}
 use Rattle.payload.specs.declared.Counts.{Counts}
 use Rattle.payload.specs.Payload.{payload}
-use Rattle.parser.specs.Frame.{payloadOf, framed, frameRead}
-use Rattle.parser.proofs.Frames.{inFrame, framed-payload}
+use Rattle.parser.specs.Frame.{payloadOf, frameRead}
+use Rattle.parser.proofs.Frames.{inFrame, framed-payload, frame-on}
 
 module _ (x : Side) (h : Head) (limit : ℕ) (p bytes : List ℕ) (f : Framed h limit p bytes) (r : Sendable (sender x) h)
     (higher : ℕ) (up : limit ≤ higher) (t : List ℕ) where
@@ -19,7 +19,6 @@ module _ (x : Side) (h : Head) (limit : ℕ) (p bytes : List ℕ) (f : Framed h 
   back = frame-back (sender x) h limit p bytes f r higher up t
 
   pub read-back : (rooms : Counts) → frameRead x higher rooms (bytes ++ t) ≡ answered (inFrame h (payload (payloadOf (h .«frame_type»)) rooms (back .start) bytes))
-  unfolding frameRead
   read-back rooms =
-      ap (λ (y : Reading (List ℕ)). onward y (framed (sender x) rooms)) (back .cuts)
+      frame-on x higher rooms (bytes ++ t) (back .cuts)
       ∙ ap answered (framed-payload (sender x) rooms bytes h (back .start) (back .reads))

@@ -42,6 +42,11 @@ module _ (sent : Sender) (rooms : Counts) (f : List ℕ) where
   unfolding framed
   framed-payload h start e = rw e
 
+-- what is read goes on with the frame that was cut out
+pub frame-on : (x : Side) (limit : ℕ) (rooms : Counts) (s : List ℕ) {r : Reading (List ℕ)} → cut limit s ≡ r → frameRead x limit rooms s ≡ onward r (framed (sender x) rooms)
+unfolding frameRead
+frame-on x limit rooms s e = ap (λ (y : Reading (List ℕ)). onward y (framed (sender x) rooms)) e
+
 -- ---- an accepted frame
 
 -- what it holds, of its own bytes: its head, and behind it its payload

@@ -10,7 +10,7 @@ use lib.Seq.{getD-take, length-take-le}
 use Rattle.answer.specs.Answer.{Answer, done, refused, next}
 use Rattle.frame.specs.declared.Head.{Head}
 use Rattle.frame.specs.declared.Side.{Side}
-use Rattle.frame.specs.Read.{Reading, wait, answered, onward, cut, Sender, sender, head}
+use Rattle.frame.specs.Read.{wait, answered, cut, Sender, sender, head}
 use Rattle.frame.proofs.Answers.{onward-waits, onward-done, onward-refused}
 use Rattle.frame.proofs.Cutting.{Missing, cut-waits, cut-out, cut-refused, cut-kept, cut-over-kept, cut-waits-once}
 use Rattle.frame.proofs.Heads.{head-says}
@@ -20,6 +20,7 @@ use Rattle.payload.specs.Payload.{Contents, payload}
 use Rattle.payload.proofs.Rowing.{kept-done, kept-refused}
 use Rattle.payload.proofs.Kept.{Table, table, Larger, Stays, Keeps, same-keeps, next-keeps, payload-keeps}
 use Rattle.parser.specs.Frame.{payloadOf, framed, frameRead}
+use Rattle.parser.proofs.Frames.{frame-on}
 
 -- ---- waits
 
@@ -31,7 +32,7 @@ module _ (x : Side) (limit : ℕ) (rooms : Counts) (s : List ℕ) (n : ℕ) wher
   unfolding frameRead
   waits = (
     λ e. cut-waits limit s n .0 (onward-waits (framed (sender x) rooms) (cut limit s) n e),
-    λ m. ap (λ (r : Reading (List ℕ)). onward r (framed (sender x) rooms)) (cut-waits limit s n .1 m),
+    λ m. frame-on x limit rooms s (cut-waits limit s n .1 m),
   )
 
   pub waits-once : (t : List ℕ) → 4 ≤ length s → frameRead x limit rooms s ≡ wait n → n ≤ length t
@@ -39,7 +40,7 @@ module _ (x : Side) (limit : ℕ) (rooms : Counts) (s : List ℕ) (n : ℕ) wher
   unfolding frameRead
   waits-once t h e m =
       let o = cut-waits-once limit s t n h (onward-waits (framed (sender x) rooms) (cut limit s) n e) m in
-      (framed (sender x) rooms (o .0), ap (λ (r : Reading (List ℕ)). onward r (framed (sender x) rooms)) (o .2))
+      (framed (sender x) rooms (o .0), frame-on x limit rooms (s ++ t) (o .2))
 
 -- ---- larger tables
 
@@ -69,17 +70,13 @@ module _ (x : Side) (limit higher : ℕ) (up : limit ≤ higher) (rooms : Counts
   kept-after : (f : List ℕ) (end : ℕ) → cut limit s ≡ answered (done f end) → Keeps (payloadOf (getD s 4 0)) rooms (λ y. framed (sender x) y f)
   kept-after f end c = framed-keeps (sender x) rooms f (payloadOf (getD s 4 0)) (type-there f end c)
 
-  again : (others : Counts) {r : Reading (List ℕ)} → cut higher (s ++ t) ≡ r → frameRead x higher others (s ++ t) ≡ onward r (framed (sender x) others)
-  unfolding frameRead
-  again others c = ap (λ (y : Reading (List ℕ)). onward y (framed (sender x) others)) c
-
   -- Kept, an accepted frame: the same length, type, flags, ids, and the same records in the same order.
   pub accepted-kept : (y : Head × Contents) (used : ℕ) → frameRead x limit rooms s ≡ answered (done y used)
       → (others : Counts) → Larger rooms others → frameRead x higher others (s ++ t) ≡ answered (done y used)
   unfolding frameRead
   accepted-kept y used e others larger =
       let o = onward-done (framed (sender x) rooms) (cut limit s) e in
-      again others (cut-kept limit higher up s t (o .2))
+      frame-on x higher others (s ++ t) (cut-kept limit higher up s t (o .2))
       ∙ ap answered (kept-done {T = Table (payloadOf (getD s 4 0))} rooms (Larger rooms) (Stays rooms) (λ z. framed (sender x) z (o .0)) (kept-after (o .0) (o .1) (o .2)) y used (o .3) others larger)
 
   -- Kept, a refusal: its number and its place, except 2 under a higher limit, and 10 where the table that was full has more room. Which table that is goes by
@@ -91,9 +88,9 @@ module _ (x : Side) (limit higher : ℕ) (up : limit ≤ higher) (rooms : Counts
       ⊎-elim
       (λ c. (
         table (payloadOf (getD s 4 0)),
-        λ others stays. again others (subst (λ (n : ℕ). cut n (s ++ t) ≡ answered (refused number place)) (two (cut-refused limit s c .two)) (cut-over-kept limit s t c)),
+        λ others stays. frame-on x higher others (s ++ t) (subst (λ (n : ℕ). cut n (s ++ t) ≡ answered (refused number place)) (two (cut-refused limit s c .two)) (cut-over-kept limit s t c)),
       ))
       (λ o.
       let k = kept-refused {T = Table (payloadOf (getD s 4 0))} rooms (Larger rooms) (Stays rooms) (λ z. framed (sender x) z (o .0)) (kept-after (o .0) (o .1) (o .2)) number place (o .3) in
-      (k .0, λ others stays. again others (cut-kept limit higher up s t (o .2)) ∙ ap answered (k .1 others stays)))
+      (k .0, λ others stays. frame-on x higher others (s ++ t) (cut-kept limit higher up s t (o .2)) ∙ ap answered (k .1 others stays)))
       (onward-refused (framed (sender x) rooms) (cut limit s) e)
