@@ -22,11 +22,11 @@ abbrev pub Row : {P X : Type 0} → (P → X → P → Type 0) → P → List X 
 Row {P} Here p [] q = p ≡ q
 Row {P} Here p (x ∷ xs) q = (mid : P) × Here p x mid × Row Here mid xs q
 
--- Law: what stands so also stands otherwise, if each of them does.
-pub row-as : {P X : Type 0} {Here There : P → X → P → Type 0} → ((p : P) (x : X) (q : P) → Here p x q → There p x q)
-    → (p : P) (xs : List X) (q : P) → Row Here p xs q → Row There p xs q
-row-as each p [] q r = r
-row-as each p (x ∷ xs) q r = (r .0, each p x (r .0) (r .1), row-as each (r .0) xs q (r .2))
+-- Law: what stands so stands otherwise too, at other positions, if each of them does.
+pub row-as : {P Q X : Type 0} {Here : P → X → P → Type 0} {There : Q → X → Q → Type 0} (g : P → Q) → ((p : P) (x : X) (q : P) → Here p x q → There (g p) x (g q))
+    → (p : P) (xs : List X) (q : P) → Row Here p xs q → Row There (g p) xs (g q)
+row-as g each p [] q r = ap g r
+row-as g each p (x ∷ xs) q r = (g (r .0), each p x (r .0) (r .1), row-as g each (r .0) xs q (r .2))
 
 -- Law: one row behind another is a row.
 pub row-both : {P X : Type 0} (Here : P → X → P → Type 0) (p : P) (xs : List X) (mid : P) (ys : List X) (q : P) → Row Here p xs mid → Row Here mid ys q → Row Here p (xs ++ ys) q

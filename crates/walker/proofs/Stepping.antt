@@ -1,42 +1,32 @@
 -- Laws about a step: what it comes to, by what stands at its place.
 use mathlib.Core.Path.{_≡_, refl, sym, ap, _∙_}
 use mathlib.Core.Bool.{true, false}
-use mathlib.Core.List.{List, []}
-use Prim.Native.Nat.{ℕ, _+_, _≤_, _<_}
-use native.Mathlib.Nat.{add-zero}
+use mathlib.Core.List.{List}
+use Prim.Native.Nat.{ℕ, _≤_}
 use native.Mathlib.Omega.{arith}
 use lib.ListN.{length, drop, drop-of-length-le}
-use Rattle.answer.specs.Answer.{Answer, done, refused, behind}
+use Rattle.answer.specs.Answer.{Answer, done, refused}
 use Rattle.answer.proofs.Cases.{bool-cases}
 use Rattle.varint.specs.Number.{number}
 use Rattle.varint.proofs.Reading.{number-none}
-use Rattle.types.proofs.Reading.{string-refused}
 use Rattle.frame.specs.declared.Pair.{Pair}
-use Rattle.parser.specs.Pair.{movedPair, pair, pairFrom}
-use Rattle.parser.proofs.Pairs.{pair-key}
+use Rattle.payload.specs.Pair.{pairFrom}
 use Rattle.walker.specs.declared.Place.{Place}
 use Rattle.walker.specs.declared.Step.the-variants as v
-use Rattle.walker.specs.Walk.{comes, afterPlace, stepOf, step}
+use Rattle.walker.specs.Walk.{comes, afterPlace, stepSaid, walkStep}
 
--- no pair stands behind the end
-pub from-past : (s : List ℕ) (at : ℕ) → length s ≤ at → pairFrom at s ≡ refused 3 at
-from-past s at h =
-    ap (λ (t : List ℕ). behind movedPair at (pair t)) (drop-of-length-le s h)
-    ∙ ap (behind movedPair at) (pair-key [] 3 0 (string-refused [] 3 0 number-none))
-    ∙ ap (refused 3) (add-zero at)
-
--- and no number does
+-- no number stands behind the end
 pub number-past : (s : List ℕ) (at : ℕ) → length s ≤ at → number (drop at s) ≡ refused 3 0
 number-past s at h = ap number (drop-of-length-le s h) ∙ number-none
 
 module _ (s : List ℕ) (x : Place) where
-  pub step-end : comes s x ≡ false → step s x ≡ v.End
-  unfolding step
+  pub step-end : comes s x ≡ false → walkStep s x ≡ v.End
+  unfolding walkStep
   step-end e = rw e
 
   module _ (e : comes s x ≡ true) where
-    pub step-is : (a : Answer Pair) → pairFrom (x .at) s ≡ a → step s x ≡ stepOf x a
-    unfolding step
+    pub step-is : (a : Answer Pair) → pairFrom (x .at) s ≡ a → walkStep s x ≡ stepSaid x a
+    unfolding walkStep
     step-is a f = rw (e, f)
 
   -- A step that finds a pair found the one that stands there.
@@ -45,7 +35,7 @@ module _ (s : List ℕ) (x : Place) where
     pub from : pairFrom (x .at) s ≡ done p end
     pub next : y ≡ afterPlace x end
 
-  pub step-found : (p : Pair) (y : Place) → step s x ≡ v.Found p y → StepFound p y
+  pub step-found : (p : Pair) (y : Place) → walkStep s x ≡ v.Found p y → StepFound p y
   step-found p y e = bool-cases (comes s x) (λ t. answered t (pairFrom (x .at) s) refl) (λ t. no-end (sym (step-end t) ∙ e))
     where
       no-end : v.End ≡ v.Found p y → StepFound p y

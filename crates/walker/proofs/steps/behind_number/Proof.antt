@@ -10,30 +10,15 @@ use Rattle.answer.specs.Answer.{Answer, behind}
 use Rattle.varint.specs.Number.{number}
 use Rattle.varint.specs.Promise.{numberSaid}
 use Rattle.varint.proofs.Reading.{accepted}
-use Rattle.parser.specs.Frame.{same}
-use Rattle.parser.proofs.Pairs.{lent}
+use Rattle.frame.specs.Read.{still}
+use Rattle.frame.proofs.Answers.{lent}
 use Rattle.walker.specs.Walk.{endOr}
 use Rattle.walker.proofs.Stepping.{number-past}
 use Rattle.walker.proofs.steps.behind_number.Statement.{statement}
 use Rattle.walker.proofs.steps.behind_number.Tie as tie
 
 returns : tie.Need-returns
-returns c = let a = c .before .before .args in sym (ap (λ (x : Answer ℕ). endOr (length (a .frame .now)) (behind same (a .at) x)) (number-past (a .frame .now) (a .at) (omega (arith, c .if1 .taken))))
-
-sub-decode-varint : tie.Need-sub-decode-varint
-sub-decode-varint c = search needs
-
-part-decode-varint-start : tie.Need-part-decode-varint-start
-part-decode-varint-start c = search needs
-
-part-decode-varint-end : tie.Need-part-decode-varint-end
-part-decode-varint-end c = search needs
-
-decode-varint-requires : tie.Need-decode-varint-requires
-decode-varint-requires c κs = search needs
-
-enum-told : tie.Need-enum-told
-enum-told c = search needs
+returns c = let a = c .before .before .args in sym (ap (λ (x : Answer ℕ). endOr (length (a .frame .now)) (behind still (a .at) x)) (number-past (a .frame .now) (a .at) (omega (arith, c .if1 .taken))))
 
 -- what was read there
 abbrev start : tie.After-decode-varint → tie.Start
@@ -46,14 +31,11 @@ read : (t : tie.After-decode-varint) (a : Answer ℕ) → numberSaid (t .decode-
 read t a e = lent number (bytes t) (start t .args .at) (t .decode-varint .ensures) e
 
 ends : (t : tie.After-decode-varint) (a : Answer ℕ) → numberSaid (t .decode-varint .result) ≡ a
-    → endOr (length (bytes t)) (behind same (start t .args .at) a) ≡ endOr (length (bytes t)) (behind same (start t .args .at) (number (drop (start t .args .at) (bytes t))))
-ends t a e = ap (λ (x : Answer ℕ). endOr (length (bytes t)) (behind same (start t .args .at) x)) (sym (read t a e))
+    → endOr (length (bytes t)) (behind still (start t .args .at) a) ≡ endOr (length (bytes t)) (behind still (start t .args .at) (number (drop (start t .args .at) (bytes t))))
+ends t a e = ap (λ (x : Answer ℕ). endOr (length (bytes t)) (behind still (start t .args .at) x)) (sym (read t a e))
 
 returns-2 : tie.Need-returns-2
 returns-2 c = ends (c .before .before) _ (ap numberSaid (c .enum-told .given .1))
-
-enum-known-used : tie.Need-enum-known-used
-enum-known-used c = search needs
 
 add-result : tie.Need-add-result
 add-result c =
@@ -65,15 +47,5 @@ returns-3 c = ends (c .before .before .before) _ (ap numberSaid (c .before .used
 
 pub behind-number-spec : {M : Type 1} → statement M
 behind-number-spec =
-    tie.close
-    (tie.spec
-    returns
-    sub-decode-varint
-    part-decode-varint-start
-    part-decode-varint-end
-    decode-varint-requires
-    enum-told
-    returns-2
-    enum-known-used
-    add-result
-    returns-3)
+    tie.close (tie.spec returns (λ c. search needs) (λ c. search needs) (λ c. search needs) (λ c κs. search needs) (λ c. search needs) returns-2
+    (λ c. search needs) add-result returns-3)

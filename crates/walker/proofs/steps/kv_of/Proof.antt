@@ -9,12 +9,6 @@ use Rattle.walker.specs.Walk.{kvOf, behindNumber}
 use Rattle.walker.proofs.steps.kv_of.Statement.{statement}
 use Rattle.walker.proofs.steps.kv_of.Tie as tie
 
-behind-number-requires : tie.Need-behind-number-requires
-behind-number-requires c κs = search needs
-
-behind-number-requires-2 : tie.Need-behind-number-requires-2
-behind-number-requires-2 c κs = search needs
-
 abbrev kv : ℕ → Place
 kv at = record { at = at; left = 0; kv = true }
 
@@ -23,4 +17,4 @@ unfolding kvOf
 returns c = let s = c .before .before .before .args .frame .now in ap kv (c .behind-number2 .ensures ∙ ap (behindNumber s) (c .before .behind-number .ensures))
 
 pub kv-of-spec : {M : Type 1} → statement M
-kv-of-spec = tie.close (tie.spec behind-number-requires behind-number-requires-2 returns)
+kv-of-spec = tie.close (tie.spec (λ c κs. search needs) (λ c κs. search needs) returns)

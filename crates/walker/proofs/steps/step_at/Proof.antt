@@ -28,9 +28,6 @@ kept : (p : Bool) → not p ≡ false → p ≡ true
 kept true e = refl
 kept false e = sym e
 
-to-come-requires : tie.Need-to-come-requires
-to-come-requires c κs = search needs
-
 returns : tie.Need-returns
 returns c = sym (step-end _ _ (sym (c .before .to-come .ensures) ∙ flipped _ (c .if1 .taken)))
 
@@ -40,21 +37,6 @@ to-come e = sym (e .before .to-come .ensures) ∙ kept _ (e .if1 .left)
 
 returns-2 : tie.Need-returns-2
 returns-2 c = sym (step-is _ _ (to-come (c .before)) _ (from-past _ _ (omega (arith, c .if2 .taken))))
-
-sub-read-pair : tie.Need-sub-read-pair
-sub-read-pair c = search needs
-
-part-read-pair-start : tie.Need-part-read-pair-start
-part-read-pair-start c = search needs
-
-part-read-pair-end : tie.Need-part-read-pair-end
-part-read-pair-end c = search needs
-
-read-pair-requires : tie.Need-read-pair-requires
-read-pair-requires c κs = search needs
-
-enum-known-r : tie.Need-enum-known-r
-enum-known-r c = search needs
 
 -- what was read at the place
 abbrev start : tie.After-read-pair → tie.Start
@@ -80,9 +62,6 @@ returns-3 c =
     sym (step-is _ _ (to-come (t .before .before .before)) _
     (from-none (bytes t) (at t) (t .before .before .if2 .left) _ _ (read t _ (ap pairSaid (c .before .before .r .given .1))) .0))
 
-enum-known-pair : tie.Need-enum-known-pair
-enum-known-pair c = search needs
-
 -- the pair, and that it lies in the bytes
 abbrev one : tie.After-known-told2 → Pair
 one k = k .before .pair .given .0 .0
@@ -106,9 +85,6 @@ moved-pair-requires c κs =
 add-t19 : tie.Need-add-t19
 add-t19 c = let t = c .before .before .before .before in omega (arith, found (c .before) .1 .most, t .before .before .if2 .left, start t .good)
 
-one-less-requires : tie.Need-one-less-requires
-one-less-requires c κs = search needs
-
 returns-4 : tie.Need-returns-4
 returns-4 c =
     let k = c .before .before in
@@ -118,20 +94,5 @@ returns-4 c =
 
 pub step-at-spec : {M : Type 1} → statement M
 step-at-spec =
-    tie.close
-    (tie.spec
-    to-come-requires
-    returns
-    returns-2
-    sub-read-pair
-    part-read-pair-start
-    part-read-pair-end
-    read-pair-requires
-    enum-known-r
-    add-t15
-    returns-3
-    enum-known-pair
-    moved-pair-requires
-    add-t19
-    one-less-requires
-    returns-4)
+    tie.close (tie.spec (λ c κs. search needs) returns returns-2 (λ c. search needs) (λ c. search needs) (λ c. search needs) (λ c κs. search needs)
+    (λ c. search needs) add-t15 returns-3 (λ c. search needs) moved-pair-requires add-t19 (λ c κs. search needs) returns-4)

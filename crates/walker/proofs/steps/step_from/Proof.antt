@@ -37,7 +37,7 @@ use denote.Triple.Table.{entered, cited}
 use denote.Triple.Walked.{says, Stays, stay-none, stay-none-slice, walkOf, goes-none, goes-none-slice, Walks, ends-at, walked, walk-meets}
 use denote.Exit.{yes}
 use denote.Triple.Clauses.{ensured, lasts}
-use Rattle.walker.specs.Walk.{step as stepOf}
+use Rattle.walker.specs.Walk.{walkStep}
 use Rattle.walker.specs.declared.Walker.{Walker}
 use Rattle.walker.specs.declared.Step.{Step}
 use Rattle.walker.proofs.Walker as T
@@ -81,7 +81,7 @@ module _ {M : Type 1} (𝓤 : URA M) (H : Heap 𝓤) (A : Atoms 𝓤) (W : Given
   v = sliceVal (s .ptr) (length (s .now))
 
   abbrev found : Step
-  found = stepOf (now s) p
+  found = walkStep (now s) p
 
   -- the struct's type as a local of a body has it
   abbrev αᵉ : NamedLft
@@ -119,8 +119,8 @@ module _ {M : Type 1} (𝓤 : URA M) (H : Heap 𝓤) (A : Atoms 𝓤) (W : Given
   goes-next : (r : Walker) (u : Val) → ent 𝓤 (⋆ 𝓤 H A (‵ (B (κ, tt) .own r (u ∷ [])) ∷ (‵ (flft κ q) ⊛ ‵ ftrue) ∷ [])) (Next 𝓤 H A mem run .pre (to-next r u))
   goes-next r u = qed W (‵ (B (κ, tt) .own r (u ∷ [])) ∷ (‵ (flft κ q) ⊛ ‵ ftrue) ∷ []) ∵ nothing ! $ move ! (1 ∷ 0 ∷ []) $ fjoin ! $ move ! (1 ∷ 0 ∷ []) $ join ! $ frame ! $ done !
 
-  next-said : (r : Walker) (t : Step) → ent 𝓤 (ensured 𝓤 H A next.ended (next.clauses 𝓤 H A mem run) (κ, tt) (r, tt) tt t) (fact 𝓤 (t ≡ stepOf (now (r .frame)) (r .place)))
-  next-said r t = exE 𝓤 _ (λ ws. snd∗ 𝓤 (sem 𝓤 H A (lasts next.ended (κ, tt) (r, tt) ws)) (fact 𝓤 (t ≡ stepOf (now (r .frame)) (r .place))))
+  next-said : (r : Walker) (t : Step) → ent 𝓤 (ensured 𝓤 H A next.ended (next.clauses 𝓤 H A mem run) (κ, tt) (r, tt) tt t) (fact 𝓤 (t ≡ walkStep (now (r .frame)) (r .place)))
+  next-said r t = exE 𝓤 _ (λ ws. snd∗ 𝓤 (sem 𝓤 H A (lasts next.ended (κ, tt) (r, tt) ws)) (fact 𝓤 (t ≡ walkStep (now (r .frame)) (r .place))))
 
   exits : (t : Step) (u : Val) → t ≡ found → ent 𝓤 (⋆ 𝓤 H A (‵ (S.the-row .own t (u ∷ [])) ∷ (‵ (flft κ q) ⊛ ‵ ftrue) ∷ ‵ Own ∷ ‵ Ownₚ ∷ [])) (Post u)
   exits t u e =
@@ -144,12 +144,12 @@ module _ {M : Type 1} (𝓤 : URA M) (H : Heap 𝓤) (A : Atoms 𝓤) (W : Given
         use2 W (raw (Next 𝓤 H A mem run .pre (to-next r u))) (goes-next r u) $
         calls-at ! fm (Next 𝓤 H A mem run) known-next (to-next r u) (and-then ! (load ! (from ! (stop !)) (look ! 3 refl)) (no-more !)) (λ u′.
         use1 W (later (some (λ (t : Step). ((‵ (flft κ q) ⊛ ‵ ftrue) ⊛ ‵ (S.the-row .own t (u′ ∷ []))) ⊛ raw (ensured 𝓤 H A next.ended (next.clauses 𝓤 H A mem run) (κ, tt) (r, tt) tt t)))) (id⊢ 𝓤 _) $ await ! tt $ pick ! (λ t.
-        split ! $ move ! (1 ∷ []) $ use1 W (raw (fact 𝓤 (t ≡ stepOf (now (r .frame)) (r .place)))) (next-said r t) $ heard ! (t ≡ stepOf (now (r .frame)) (r .place)) (λ e′. split ! $ move ! (1 ∷ []) $
+        split ! $ move ! (1 ∷ []) $ use1 W (raw (fact 𝓤 (t ≡ walkStep (now (r .frame)) (r .place)))) (next-said r t) $ heard ! (t ≡ walkStep (now (r .frame)) (r .place)) (λ e′. split ! $ move ! (1 ∷ []) $
         -- [the result; the token; what s owns; what p owns; _3; …; _2; …; _1; …; room for _0; …]
         peeks ! S.the-row (Is S.the-row) (shows 𝓤 H A S.the-row) t (u′ ∷ []) (λ is′.
         land ! (from ! (stop !)) (init ! 10 refl (EL.lawful S.the-type S′.the-laws 𝓤 H A W tt .typed t _ is′ .0)) $
         returns ! (look ! 10 refl) $ forget ! 4 refl $ forget ! 6 refl $ forget ! 8 refl $ forget ! 10 refl $ move ! (10 ∷ 11 ∷ []) $ free1 ! $ move ! (8 ∷ 9 ∷ []) $ free1 ! $ move ! (6 ∷ 7 ∷ []) $ free1 ! $ move ! (4 ∷ 5 ∷ []) $ free1 ! $ free0 ! $
-        by ! (exits t u′ (e′ ∙ ap (λ (x : Walker). stepOf (now (x .frame)) (x .place)) e))))))))))))))
+        by ! (exits t u′ (e′ ∙ ap (λ (x : Walker). walkStep (now (x .frame)) (x .place)) e))))))))))))))
 
 module _ {M : Type 1} (𝓤 : URA M) (H : Heap 𝓤) (A : Atoms 𝓤) (W : Given 𝓤 H A) (mem : Memory → SProp 𝓤) (run : Routine → Fun 𝓤) where
   step-from-walks : (C : Calls 𝓤 H) (Λ : Loops 𝓤 H) → FmC 𝓤 H (W .laws) C → Triple 𝓤 (C #walker·new) (New 𝓤 H A mem run) → Triple 𝓤 (C #walker·next) (Next 𝓤 H A mem run)
