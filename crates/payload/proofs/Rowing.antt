@@ -23,10 +23,10 @@ Row {P} Here p [] q = p ≡ q
 Row {P} Here p (x ∷ xs) q = (mid : P) × Here p x mid × Row Here mid xs q
 
 -- Law: what stands so stands otherwise too, at other positions, if each of them does.
-pub row-as : {P Q X : Type 0} {Here : P → X → P → Type 0} {There : Q → X → Q → Type 0} (g : P → Q) → ((p : P) (x : X) (q : P) → Here p x q → There (g p) x (g q))
+pub row-as : {P Q X : Type 0} {Here : P → X → P → Type 0} (There : Q → X → Q → Type 0) (g : P → Q) → ((p : P) (x : X) (q : P) → Here p x q → There (g p) x (g q))
     → (p : P) (xs : List X) (q : P) → Row Here p xs q → Row There (g p) xs (g q)
-row-as g each p [] q r = ap g r
-row-as g each p (x ∷ xs) q r = (g (r .0), each p x (r .0) (r .1), row-as g each (r .0) xs q (r .2))
+row-as There g each p [] q r = ap g r
+row-as There g each p (x ∷ xs) q r = (g (r .0), each p x (r .0) (r .1), row-as There g each (r .0) xs q (r .2))
 
 -- Law: one row behind another is a row.
 pub row-both : {P X : Type 0} (Here : P → X → P → Type 0) (p : P) (xs : List X) (mid : P) (ys : List X) (q : P) → Row Here p xs mid → Row Here mid ys q → Row Here p (xs ++ ys) q

@@ -1,6 +1,7 @@
 -- Laws about walking: from the place that the makers give, the steps find exactly the pairs that the frame reader gives, in order, and then
 -- the end.
 use mathlib.Core.Path.{_≡_, refl, sym, ap, ap₂, _∙_}
+use mathlib.Core.Bool.{true, false}
 use mathlib.Core.List.{List, [], _∷_}
 use Prim.Native.Nat.{ℕ, suc, _+_, _<_, _^_}
 use native.Mathlib.Omega.{arith}
@@ -57,7 +58,7 @@ argumentsAt at n = record { at = at; left = n; kv = false }
 
 -- a walk over a KV list finds them, and so does one over so many arguments
 kv-finds : (s : List ℕ) (at : ℕ) (ps : List Pair) (end : ℕ) → Run s at ps end → Finds s (kvAt at) ps (kvAt end)
-kv-finds s at ps end r = row-as kvAt one at ps end (row-found (λ n. pairFrom n s) at ps end r)
+kv-finds s at ps end r = row-as (Steps s) kvAt one at ps end (row-found (λ n. pairFrom n s) at ps end r)
   where
     one : (n : ℕ) (p : Pair) (m : ℕ) → Found (λ i. pairFrom i s) n p m → Steps s (kvAt n) p (kvAt m)
     one n p m e = step-is s (kvAt n) (lt-ltb n (length s) (omega (arith, from-next s n p m e))) _ e
