@@ -9,7 +9,7 @@ use native.Mathlib.Omega.{arith}
 use lib.Dec.{ltb, leb}
 use lib.ListN.{length, take, drop, getD, length-append, length-drop}
 use lib.Seq.{take-at, drop-at}
-use borrow.Author.Tests.{lt-ltb, le-ltb, le-leb, lt-leb, leb-true}
+use borrow.Author.Tests.{lt-ltb, le-ltb, le-leb, lt-leb, leb-true, ltb-true, not-true}
 use Rattle.answer.specs.Answer.{Answer, done, refused, behind}
 use Rattle.answer.specs.Order.{inOrder}
 use Rattle.answer.specs.Row.{soMany, toEnd}
@@ -33,7 +33,7 @@ use Rattle.payload.proofs.Pairs.{pair-accepted, pair-place}
 use Rattle.payload.proofs.Rows.{from-next, run-on}
 use Rattle.payload.proofs.Actions.{action-inside, action-place, action-next}
 use Rattle.payload.proofs.Steps.{string-next, message-says, message-next}
-use Rattle.payload.proofs.Rowing.{Row, row-on, Found, found-row, puts, Read, many-read, end-read, ends, next-ends, line-ends, many-ends, end-ends, end-all}
+use Rattle.payload.proofs.Rowing.{Row, row-as, Found, found-row, puts, Read, many-read, end-read, many-holds, end-holds, ends, next-ends, line-ends, many-ends, end-ends, end-all}
 
 -- ---- one more of each sort
 
@@ -49,15 +49,30 @@ pub record Group (s : List ℕ) (from : ℕ × ℕ) (g : Message × List Pair) (
   pub run : Run s place (g .1) (to .0)
   pub pairs : from .1 + length (g .1) ≡ to .1
 
+-- A pair with a key that none of those before it has, from a place and behind these pairs to another place and behind it too.
+record Fresh (s : List ℕ) (at : ℕ × List Pair) (p : Pair) (to : ℕ × List Pair) : Type 0 where
+  from : pairFrom (at .0) s ≡ done p (to .0)
+  new : met s (at .1) p ≡ false
+  more : at .1 ++ (p ∷ []) ≡ to .1
+
+-- No key of these pairs is met before, neither among those before them nor among themselves.
+abbrev pub Once : List ℕ → List Pair → List Pair → Type 0
+Once s before [] = Unit {0}
+Once s before (p ∷ ps) = (met s before p ≡ false) × Once s (before ++ (p ∷ [])) ps
+
+fresh-once : (s : List ℕ) (at : ℕ × List Pair) (ps : List Pair) (to : ℕ × List Pair) → Row (Fresh s) at ps to → Once s (at .1) ps
+fresh-once s at [] to r = tt
+fresh-once s at (p ∷ ps) to r = (r .1 .new, rw (sym (r .1 .more)) at (fresh-once s (r .0) ps to (r .2)))
+
 snoc-append : {A : Type 0} (xs : List A) (y : A) (l : List A) → (xs ++ (y ∷ [])) ++ l ≡ xs ++ y ∷ l
 snoc-append xs y l = append-assoc xs (y ∷ []) l
 
 -- what is left when pairs, groups or actions were put in
-put-pairs : (c : Contents) (ps : List Pair) → puts withPair c ps ≡ record { messages = c .messages; pairs = c .pairs ++ ps; actions = c .actions }
+pub put-pairs : (c : Contents) (ps : List Pair) → puts withPair c ps ≡ record { messages = c .messages; pairs = c .pairs ++ ps; actions = c .actions }
 put-pairs c [] = λ i. record { messages = c .messages; pairs = sym (append-nil (c .pairs)) i; actions = c .actions }
 put-pairs c (p ∷ ps) = put-pairs (withPair c p) ps ∙ (λ i. record { messages = c .messages; pairs = snoc-append (c .pairs) p ps i; actions = c .actions })
 
-put-actions : (c : Contents) (xs : List Action) → puts withAction c xs ≡ record { messages = c .messages; pairs = c .pairs; actions = c .actions ++ xs }
+pub put-actions : (c : Contents) (xs : List Action) → puts withAction c xs ≡ record { messages = c .messages; pairs = c .pairs; actions = c .actions ++ xs }
 put-actions c [] = λ i. record { messages = c .messages; pairs = c .pairs; actions = sym (append-nil (c .actions)) i }
 put-actions c (x ∷ xs) = put-actions (withAction c x) xs ∙ (λ i. record { messages = c .messages; pairs = c .pairs; actions = snoc-append (c .actions) x xs i })
 
@@ -69,7 +84,7 @@ pairsOf (g ∷ gs) = g .1 ++ pairsOf gs
 abbrev pub messagesOf : List (Message × List Pair) → List Message
 messagesOf gs = map (λ g. g .0) gs
 
-put-groups : (c : Contents) (gs : List (Message × List Pair))
+pub put-groups : (c : Contents) (gs : List (Message × List Pair))
     → puts withGroup c gs ≡ record { messages = c .messages ++ messagesOf gs; pairs = c .pairs ++ pairsOf gs; actions = c .actions }
 put-groups c [] = λ i. record { messages = sym (append-nil (c .messages)) i; pairs = sym (append-nil (c .pairs)) i; actions = c .actions }
 put-groups c (g ∷ gs) =
@@ -77,16 +92,31 @@ put-groups c (g ∷ gs) =
     ∙ (λ i. record { messages = snoc-append (c .messages) (g .0) (messagesOf gs) i; pairs = append-assoc (c .pairs) (g .1) (pairsOf gs) i; actions = c .actions })
 
 module _ (rooms : Counts) (s : List ℕ) where
-  -- an accepted one stands at its place, and is put in
-  pair-said : (once : Bool) (c : Contents) (at : ℕ) (d : Contents) (end : ℕ) → onePair rooms s once c at ≡ done d end
-      → (p : Pair) × Found (λ n. pairFrom n s) at p end × (withPair c p ≡ d)
+  -- an accepted one stands at its place, is new where it has to be, had room, and is put in
+  record PairSaid (once : Bool) (c : Contents) (at : ℕ) (d : Contents) (end : ℕ) : Type 0 where
+    pair : Pair
+    from : pairFrom at s ≡ done pair end
+    new : once && met s (c .pairs) pair ≡ false
+    room : length (c .pairs) < rooms .pairs
+    is : withPair c pair ≡ d
+
+  pair-said : (once : Bool) (c : Contents) (at : ℕ) (d : Contents) (end : ℕ) → onePair rooms s once c at ≡ done d end → PairSaid once c at d end
   unfolding onePair inOrder
   pair-said once c at d end e =
       let o = next-done (pairFrom at s) _ e in
       let a = line-passed (not (once && met s (c .pairs) (o .0))) _ 9 (o .1) (o .3) in
       let b = line-passed (ltb (length (c .pairs)) (rooms .pairs)) _ 10 (o .1) (a .1) in
       let q = done-same (b .1) in
-      (o .0, o .2 ∙ ap (done (o .0)) (q .1), q .0)
+      record { pair = o .0; from = o .2 ∙ ap (done (o .0)) (q .1); new = not-true _ (a .0); room = ltb-true _ _ (b .0); is = q .0 }
+
+  argument-said : (c : Contents) (at : ℕ) (d : Contents) (end : ℕ) → onePair rooms s false c at ≡ done d end → (p : Pair) × Found (λ n. pairFrom n s) at p end × (withPair c p ≡ d)
+  argument-said c at d end e = let t = pair-said false c at d end e in (t .pair, t .from, t .is)
+
+  -- a pair with a new key, from a place and behind these pairs to another place and behind it too
+  fresh-said : (c : Contents) (at : ℕ) (d : Contents) (end : ℕ) → onePair rooms s true c at ≡ done d end
+      → (p : Pair) × Fresh s (at, c .pairs) p (end, d .pairs) × (withPair c p ≡ d)
+  fresh-said c at d end e =
+      let t = pair-said true c at d end e in (t .pair, record { from = t .from; new = t .new; more = ap (λ (x : Contents). x .pairs) (t .is) }, t .is)
 
   action-said : (c : Contents) (at : ℕ) (d : Contents) (end : ℕ) → oneAction rooms s c at ≡ done d end
       → (x : Action) × Found (λ n. actionFrom n s) at x end × (withAction c x ≡ d)
@@ -103,7 +133,7 @@ module _ (rooms : Counts) (s : List ℕ) where
   message-said c at d end e =
       let o = next-done (messageFrom (length (c .pairs)) at s) _ e in
       let b = line-passed (ltb (length (c .messages)) (rooms .messages)) _ 10 (o .1) (o .3) in
-      let r = many-read (onePair rooms s false) withPair (Found (λ n. pairFrom n s)) (λ d n. n) (pair-said false) (o .0 .count) (withMessage c (o .0)) (o .1) d end (b .1) in
+      let r = many-read (onePair rooms s false) withPair (Found (λ n. pairFrom n s)) (λ d n. n) argument-said (o .0 .count) (withMessage c (o .0)) (o .1) d end (b .1) in
       let ps = r .0 .these in
       let is : withGroup c (o .0, ps) ≡ d = sym (put-pairs (withMessage c (o .0)) ps) ∙ r .0 .is in (
         (o .0, ps),
@@ -127,6 +157,7 @@ module _ (kind : Payload) (rooms : Counts) (start : ℕ) (s : List ℕ) (c : Con
 
 pub record KvHeld (s : List ℕ) (start : ℕ) (c : Contents) (end : ℕ) : Type 0 where
   pub run : Run s start (c .pairs) end
+  pub once : Once s [] (c .pairs)
   pub messages : c .messages ≡ []
   pub actions : c .actions ≡ []
 
@@ -143,12 +174,13 @@ pub record MessagesHeld (s : List ℕ) (start : ℕ) (c : Contents) (end : ℕ) 
   pub actions : c .actions ≡ []
 
 module _ (rooms : Counts) (start : ℕ) (s : List ℕ) (c : Contents) (end : ℕ) where
-  -- Law: the pairs of a KV list stand in a row, and it has nothing else.
+  -- Law: the pairs of a KV list stand in a row, no key is met twice, and it has nothing else.
   pub kv-run : payload k.KvList rooms start s ≡ done c end → KvHeld s start c end
   kv-run e =
-      let r = end-read (onePair rooms s true) withPair (Found (λ n. pairFrom n s)) (λ d n. n) (pair-said rooms s true) (length s) (length s) empty start c end (payload-start k.KvList rooms start s c end e .1) in
+      let r = end-read (onePair rooms s true) withPair (Fresh s) (λ d n. (n, d .pairs)) (fresh-said rooms s) (length s) (length s) empty start c end (payload-start k.KvList rooms start s c end e .1) in
+      let run = row-as (Found (λ n. pairFrom n s)) (λ (x : ℕ × List Pair). x .0) (λ x p y f. f .from) (start, []) (r .these) (end, c .pairs) (r .row) in
       let is = sym (put-pairs empty (r .these)) ∙ r .is in
-      rw (sym is) (record { run = found-row (λ n. pairFrom n s) start (r .these) end (r .row); messages = refl; actions = refl })
+      rw (sym is) (record { run = found-row (λ n. pairFrom n s) start (r .these) end run; once = fresh-once s (start, []) (r .these) (end, c .pairs) (r .row); messages = refl; actions = refl })
 
   -- Law: so do the actions of a list of them.
   pub actions-run : payload k.Actions rooms start s ≡ done c end → ActionsHeld s start c end
@@ -269,7 +301,7 @@ module _ (rooms : Counts) (s : List ℕ) where
 
   -- each takes a byte at least
   one-on : (kind : Payload) (c : Contents) (at : ℕ) (d : Contents) (end : ℕ) → oneOf rooms s kind c at ≡ done d end → at < end
-  one-on k.KvList c at d end e = let o = pair-said rooms s true c at d end e in omega (arith, from-next s at (o .0) end (o .1))
+  one-on k.KvList c at d end e = let o = pair-said rooms s true c at d end e in omega (arith, from-next s at (o .pair) end (o .from))
   one-on k.Messages c at d end e =
       let o = message-said rooms s c at d end e in
       omega (arith, message-next (length (c .pairs)) at s (o .0 .0) (o .1 .place) (o .1 .message), run-on s (o .1 .place) (o .0 .1) end (o .1 .run))
@@ -289,3 +321,46 @@ module _ (kind : Payload) (rooms : Counts) (start : ℕ) (s : List ℕ) where
   payload-all c end e =
       let o = payload-start kind rooms start s c end e in
       end-all (oneOf rooms s kind) (length s) (one-within rooms s kind) (one-on rooms s kind) (length s) empty start c end (o .1) (o .0) (omega arith)
+
+-- ---- room
+
+-- what was read has no more records than there is room for
+pub record Fit (rooms : Counts) (c : Contents) : Type 0 where
+  pub messages : length (c .messages) ≤ rooms .messages
+  pub pairs : length (c .pairs) ≤ rooms .pairs
+  pub actions : length (c .actions) ≤ rooms .actions
+
+module _ (rooms : Counts) (s : List ℕ) where
+  one-more : {A : Type 0} (xs : List A) (x : A) (n : ℕ) → length xs < n → length (xs ++ (x ∷ [])) ≤ n
+  one-more xs x n h = omega (arith, length-append xs (x ∷ []))
+
+  pair-fit : (once : Bool) (c : Contents) (at : ℕ) (d : Contents) (end : ℕ) → onePair rooms s once c at ≡ done d end → Fit rooms c → Fit rooms d
+  pair-fit once c at d end e f =
+      let t = pair-said rooms s once c at d end e in
+      rw (sym (t .is)) (record { messages = f .messages; pairs = one-more (c .pairs) (t .pair) (rooms .pairs) (t .room); actions = f .actions })
+
+  message-fit : (c : Contents) (at : ℕ) (d : Contents) (end : ℕ) → oneMessage rooms s c at ≡ done d end → Fit rooms c → Fit rooms d
+  unfolding oneMessage inOrder
+  message-fit c at d end e f =
+      let o = next-done (messageFrom (length (c .pairs)) at s) _ e in
+      let b = line-passed (ltb (length (c .messages)) (rooms .messages)) _ 10 (o .1) (o .3) in
+      many-holds (onePair rooms s false) (λ x n. Fit rooms x) (pair-fit false) (o .0 .count) (withMessage c (o .0)) (o .1) d end (b .1)
+      (record { messages = one-more (c .messages) (o .0) (rooms .messages) (ltb-true _ _ (b .0)); pairs = f .pairs; actions = f .actions })
+
+  action-fit : (c : Contents) (at : ℕ) (d : Contents) (end : ℕ) → oneAction rooms s c at ≡ done d end → Fit rooms c → Fit rooms d
+  unfolding oneAction inOrder
+  action-fit c at d end e f =
+      let o = next-done (actionFrom at s) _ e in
+      let b = line-passed (ltb (length (c .actions)) (rooms .actions)) _ 10 (o .1) (o .3) in
+      rw (sym (done-same (b .1) .0)) (record { messages = f .messages; pairs = f .pairs; actions = one-more (c .actions) (o .0) (rooms .actions) (ltb-true _ _ (b .0)) })
+
+  one-fit : (kind : Payload) (c : Contents) (at : ℕ) (d : Contents) (end : ℕ) → oneOf rooms s kind c at ≡ done d end → Fit rooms c → Fit rooms d
+  one-fit k.KvList c at d end e f = pair-fit true c at d end e f
+  one-fit k.Messages c at d end e f = message-fit c at d end e f
+  one-fit k.Actions c at d end e f = action-fit c at d end e f
+
+-- Law: so it is with every accepted payload.
+pub payload-fit : (kind : Payload) (rooms : Counts) (start : ℕ) (s : List ℕ) (c : Contents) (end : ℕ) → payload kind rooms start s ≡ done c end → Fit rooms c
+payload-fit kind rooms start s c end e =
+    end-holds (oneOf rooms s kind) (λ x n. Fit rooms x) (one-fit rooms s kind) (length s) (length s) empty start c end (payload-start kind rooms start s c end e .1)
+    (record { messages = omega arith; pairs = omega arith; actions = omega arith })

@@ -1,8 +1,9 @@
--- Laws about reading a pair that was written. Bytes behind it do not matter.
+-- Laws about reading a pair and an action that were written. Bytes behind them do not matter.
 use mathlib.Core.Path.{_≡_, refl, sym, ap, ap₂, _∙_}
 use mathlib.Core.Bool.{Bool, true, false, cond}
-use mathlib.Core.List.{List, [], _++_, append-assoc}
-use Prim.Native.Nat.{ℕ, _+_, _^_, _<_}
+use mathlib.Core.List.{List, [], _∷_, _++_, append-assoc}
+use Prim.Native.Nat.{ℕ, suc, _+_, _^_, _≤_, _<_}
+use native.Mathlib.Omega.{arith}
 use lib.ListN.{length, take, drop, length-append}
 use lib.Seq.{drop-drop, drop-at}
 use Rattle.answer.specs.Answer.{done}
@@ -12,11 +13,14 @@ use Rattle.types.specs.Promise.{recordOf}
 use Rattle.types.proofs.Reading.{typed-accepted-kept}
 use Rattle.types.proofs.Roundtrip.{Meaning, means, meaning, ahead, string-reads-back, read-back}
 use Rattle.frame.specs.declared.Pair.{Pair}
+use Rattle.frame.specs.declared.Action.{Action}
 use Rattle.frame.specs.Records.{keyOf}
 use Rattle.frame.proofs.Answers.{done-same}
-use Rattle.frame.proofs.Meaning.{pairMeaning}
+use Rattle.frame.proofs.Meaning.{pairMeaning, actionMeaning}
 use Rattle.payload.specs.Pair.{pairOf, movedPair, pair}
+use Rattle.payload.specs.Action.{action}
 use Rattle.payload.proofs.Pairs.{pair-whole}
+use Rattle.payload.proofs.Actions.{action-headed, set-done, name-done}
 
 -- ---- what is moved means the same
 
@@ -86,3 +90,44 @@ module _ (buffer k : List ℕ) (v : Record) (small : length k < 2 ^ 64) (fields 
   -- Law: it does.
   pub pair-back : PairBack buffer k v r t
   pair-back = let b = read-back buffer r v fields range in whole (b .found) (b .reads)
+
+-- ---- an action
+
+-- Some bytes at the front of r: the action that is read there means what x means in the buffer, also with t behind r.
+pub record ActionBack (buffer bytes r t : List ℕ) (x : ℕ × ℕ × (List ℕ × Meaning)) : Type 0 where
+  pub found : Action
+  pub reads : action (bytes ++ r) ≡ done found (length bytes)
+  pub same : actionMeaning (bytes ++ (r ++ t)) found ≡ x
+
+module _ (buffer k r t : List ℕ) (small : length k < 2 ^ 64) (scope : ℕ) (known : scope ≤ 4) where
+  -- Law: a set does.
+  pub set-back : (v : Record) → writableRecord v ≡ true → ranged buffer v ≡ true
+      → ActionBack buffer (1 ∷ 3 ∷ scope ∷ (stringBytes k ++ valueBytes buffer v)) r t (1, scope, (k, meaning buffer v))
+  set-back v fields range =
+      let b = pair-back buffer k v small fields range r t in
+      let three : 3 + length (stringBytes k ++ valueBytes buffer v) ≡ suc (suc (suc (length (stringBytes k ++ valueBytes buffer v)))) = omega arith in
+      let s : List ℕ = 1 ∷ 3 ∷ scope ∷ ((stringBytes k ++ valueBytes buffer v) ++ r) in
+      record {
+        found = record { verb = 1; scope = scope; pair = movedPair 3 (b .found) };
+        reads = set-done s scope (action-headed s (omega arith) refl (omega arith) refl (omega arith) known) (b .found) _ (b .reads) ∙ ap (done (record { verb = 1; scope = scope; pair = movedPair 3 (b .found) })) three;
+        same =
+            ap (λ (m : List ℕ × Meaning). (1, scope, m))
+            (pair-moved (1 ∷ 3 ∷ scope ∷ ((stringBytes k ++ valueBytes buffer v) ++ (r ++ t))) 3 (b .found) ∙ b .same);
+      }
+
+  -- Law: an unset does.
+  pub unset-back : ActionBack buffer (2 ∷ 2 ∷ scope ∷ stringBytes k) r t (2, scope, (k, meaning buffer (value 0 0 0 0)))
+  unfolding shape
+  unset-back =
+      let one = string-reads-back k r small in
+      let two = string-reads-back k (r ++ t) small in
+      let three : 3 + length (stringBytes k) ≡ suc (suc (suc (length (stringBytes k)))) = omega arith in
+      let s : List ℕ = 2 ∷ 2 ∷ scope ∷ (stringBytes k ++ r) in
+      let p = pairOf (span (ahead k) (length k)) (value 0 0 0 0) in
+      record {
+        found = record { verb = 2; scope = scope; pair = movedPair 3 p };
+        reads = name-done s scope (action-headed s (omega arith) refl (omega arith) refl (omega arith) known) (ahead k) (length k) _ (one .0) ∙ ap (done (record { verb = 2; scope = scope; pair = movedPair 3 p })) three;
+        same =
+            ap (λ (m : List ℕ × Meaning). (2, scope, m))
+            (pair-moved (2 ∷ 2 ∷ scope ∷ (stringBytes k ++ (r ++ t))) 3 p ∙ ap (λ (l : List ℕ). (l, meaning buffer (value 0 0 0 0))) (two .1));
+      }

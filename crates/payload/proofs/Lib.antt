@@ -13,3 +13,4 @@ pub mod Order
 pub mod Back
 pub mod Exact
 pub mod Standing
+pub mod Holding

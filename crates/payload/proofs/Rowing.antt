@@ -99,6 +99,53 @@ module _ {A P X : Type 0} (one : A → ℕ → Answer A) (put : A → X → A) (
       (λ h f. let o = next-done (one c at) _ f in more c at (o .0) (o .1) d end (o .2) (end-read last k (o .0) (o .1) d end (o .3)))
       (λ h f g. none c at d end f g)
 
+-- ---- what holds along a row
+
+-- What each of them keeps, so many of them keep, and those to the end.
+module _ {A : Type 0} (one : A → ℕ → Answer A) (Holds : A → ℕ → Type 0) (on : (c : A) (at : ℕ) (d : A) (end : ℕ) → one c at ≡ done d end → Holds c at → Holds d end) where
+  ended : (c : A) (at : ℕ) (d : A) (end : ℕ) → c ≡ d → at ≡ end → Holds c at → Holds d end
+  ended c at d end e f h = rw (sym e, sym f) h
+
+  pub many-holds : (k : ℕ) (c : A) (at : ℕ) (d : A) (end : ℕ) → soMany one k c at ≡ done d end → Holds c at → Holds d end
+  unfolding soMany
+  many-holds zero c at d end e h = let o = done-same e in ended c at d end (o .0) (o .1) h
+  many-holds (suc k) c at d end e h = let o = next-done (one c at) _ e in many-holds k (o .0) (o .1) d end (o .3) (on c at (o .0) (o .1) (o .2) h)
+
+  pub end-holds : (last k : ℕ) (c : A) (at : ℕ) (d : A) (end : ℕ) → toEnd one last k c at ≡ done d end → Holds c at → Holds d end
+  unfolding toEnd
+  end-holds last zero c at d end e h = let o = done-same e in ended c at d end (o .0) (o .1) h
+  end-holds last (suc k) c at d end e h =
+      by-end at last _ c d end e
+      (λ l f. let o = next-done (one c at) _ f in end-holds last k (o .0) (o .1) d end (o .3) (on c at (o .0) (o .1) (o .2) h))
+      (λ l f g. ended c at d end f g h)
+
+-- ---- a row is read
+
+-- Each of these is read where the one before it ended, and is put in.
+module _ {A X : Type 0} (one : A → ℕ → Answer A) (put : A → X → A) where
+  abbrev pub Reads : A → ℕ → List X → ℕ → Type 0
+  Reads c at [] end = at ≡ end
+  Reads c at (x ∷ xs) end = (mid : ℕ) × (one c at ≡ done (put c x) mid) × (at < mid) × Reads (put c x) mid xs end
+
+  pub reads-on : (c : A) (at : ℕ) (xs : List X) (end : ℕ) → Reads c at xs end → at ≤ end
+  reads-on c at [] end r = omega (arith, r)
+  reads-on c at (x ∷ xs) end r = omega (arith, r .2, reads-on (put c x) (r .0) xs end (r .3))
+
+  -- Laws: then they are what so many of them come to, and what those to the end come to.
+  pub many-so : (c : A) (at : ℕ) (xs : List X) (end : ℕ) → Reads c at xs end → soMany one (length xs) c at ≡ done (puts put c xs) end
+  unfolding soMany
+  many-so c at [] end r = ap (done c) r
+  many-so c at (x ∷ xs) end r = rw (r .1) (many-so (put c x) (r .0) xs end (r .3))
+
+  pub end-so : (last k : ℕ) (c : A) (at : ℕ) (xs : List X) → Reads c at xs last → last ≤ at + k → toEnd one last k c at ≡ done (puts put c xs) last
+  unfolding toEnd
+  end-so last zero c at [] r h = ap (done c) r
+  end-so last (suc k) c at [] r h = rw (le-ltb at last (omega (arith, r))) (ap (done c) r)
+  end-so last zero c at (x ∷ xs) r h = absurd (omega (arith, r .2, reads-on (put c x) (r .0) xs last (r .3)))
+  end-so last (suc k) c at (x ∷ xs) r h =
+      rw (lt-ltb at last (omega (arith, r .2, reads-on (put c x) (r .0) xs last (r .3))))
+      (rw (r .1) (end-so last k (put c x) (r .0) xs (r .3) (omega (arith, r .2))))
+
 -- ---- where it ends
 
 -- how many bytes it took, or where it is refused
