@@ -2,6 +2,7 @@
 pub mod Pairs
 pub mod Rows
 pub mod Actions
+pub mod Tests
 pub mod Steps
 pub mod Passing
 pub mod Filling

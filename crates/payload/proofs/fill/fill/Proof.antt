@@ -1,66 +1,90 @@
+-- `payload::fill::fill` meets its contract: what was met is filled in, and what is left comes to the whole payload, which is accepted.
+-- Assumes nothing.
+use borrow.Author.Needs.{needs}
+use mathlib.Core.Path.{sym, _∙_}
+use Prim.Native.Nat.{_-_}
+use native.Mathlib.Omega.{arith}
+use lib.ListN.{length}
+use Rattle.payload.specs.Promise.{roomsOf}
+use Rattle.payload.specs.Inner.{Accepted}
+use Rattle.payload.proofs.Filling.{Filling, filling-start, tables-length, accepted-fits, accepted-more, accepted-end}
 use Rattle.payload.proofs.fill.fill.Statement.{statement}
 use Rattle.payload.proofs.fill.fill.Tie as tie
-use Rattle.payload.proofs.fill.fill.Reads as reads
-use Rattle.payload.proofs.fill.fill.Lts as lts
-use Rattle.payload.proofs.fill.comes.Reads as comes-reads
-use Rattle.payload.proofs.fill.store.Reads as store-reads
-use Rattle.payload.proofs.look.after.Reads as after-reads
-use Rattle.payload.proofs.look.begin.Reads as begin-reads
-use Rattle.payload.proofs.next.item.Reads as item-reads
 
 abbrev Inv-loop : tie.InvT-loop
-Inv-loop input start kind messages₀ pairs₀ actions₀ x₀ messages pairs actions x = ?
+Inv-loop input start kind messages₀ pairs₀ actions₀ x₀ messages pairs actions x = Filling kind start input messages₀ pairs₀ actions₀ x messages pairs actions
 
 abbrev μ-loop : tie.MeasureT-loop
-μ-loop input start kind messages₀ pairs₀ actions₀ x₀ messages pairs actions x = ?
+μ-loop input start kind messages₀ pairs₀ actions₀ x₀ messages pairs actions x = length input - x .at
 
--- src/fill.rt:117:9
-begin-requires : tie.Need-begin-requires Inv-loop μ-loop
-begin-requires c κs = ?
-
--- src/fill.rt:118:5
 loop-holds : tie.Need-loop-holds Inv-loop μ-loop
-loop-holds c = ?
+loop-holds c = rw (c .begin .ensures) (filling-start _ _ _ _ _ _ (c .before .before .before .before .before .pre .0))
 
--- src/fill.rt:119:13
 item-requires : tie.Need-item-requires Inv-loop μ-loop
-item-requires c κs = ?
+item-requires c κs = c .loop .inv .stands .place
 
--- src/fill.rt:120:13
-comes-requires : tie.Need-comes-requires Inv-loop μ-loop
-comes-requires c κs = ?
+-- the loop, and where the function was entered
+abbrev start : tie.At-loop Inv-loop μ-loop → tie.Start Inv-loop μ-loop
+start l = l .before .before .before .before .before .before
 
--- src/fill.rt:121:13
-same-length : tie.Need-same-length Inv-loop μ-loop
-same-length c = ?
+abbrev loop : tie.After-comes Inv-loop μ-loop → tie.At-loop Inv-loop μ-loop
+loop t = t .before .before
 
--- src/fill.rt:121:13
-same-length-2 : tie.Need-same-length-2 Inv-loop μ-loop
-same-length-2 c = ?
+accepted : (l : tie.At-loop Inv-loop μ-loop)
+    → let a = start l .args in Accepted (a .kind) (roomsOf (a .messages .now) (a .pairs .now) (a .actions .now)) (a .start) (a .input .now)
+accepted l = start l .pre .1
 
--- src/fill.rt:121:13
-same-length-3 : tie.Need-same-length-3 Inv-loop μ-loop
-same-length-3 c = ?
-
--- src/fill.rt:121:13
-returns : tie.Need-returns Inv-loop μ-loop
-returns c = ?
-
--- src/fill.rt:123:9
+-- what comes next is a record, for which there is room
 store-requires : tie.Need-store-requires Inv-loop μ-loop
-store-requires c κs = ?
+store-requires c κs =
+    let e = c .before .before .before in
+    let t = e .before in
+    let l = loop t in
+    accepted-fits _ _ _ _ _ _ (l .loop .inv) (accepted l) (t .before .item .result) (t .before .item .ensures) (sym (t .comes .ensures) ∙ e .if1 .taken)
 
--- src/fill.rt:124:9
 after-requires : tie.Need-after-requires Inv-loop μ-loop
-after-requires c κs = ?
+after-requires c κs =
+    let e = c .before .before .before .before .before .before .before .before .before .before in
+    let l = loop (e .before) in
+    let i = l .loop .inv in
+    record {
+      messages = omega (arith, i .stands .few, i .stands .place, start l .good);
+      pairs = omega (arith, i .stands .few, i .stands .place, start l .good);
+      actions = omega (arith, i .stands .few, i .stands .place, start l .good);
+    }
 
--- src/fill.rt:118:5
+-- and it is stored
 loop-less : tie.Need-loop-less Inv-loop μ-loop
-loop-less c = ?
+loop-less c =
+    let s = c .before .before .before .before .before .before .before in
+    let e = s .before .before .before .before in
+    let t = e .before in
+    let l = loop t in
+    let o = accepted-more _ _ _ _ _ _ (l .loop .inv) (accepted l) (t .before .item .result) (t .before .item .ensures) (sym (t .comes .ensures) ∙ e .if1 .taken) (c .after .result) (c .after .ensures) _ _ _ (s .store .ensures) in
+    omega (arith, o .0, o .1 .stands .place)
 
--- src/fill.rt:118:5
 loop-again : tie.Need-loop-again Inv-loop μ-loop
-loop-again c = ?
+loop-again c =
+    let s = c .before .before .before .before .before .before .before in
+    let e = s .before .before .before .before in
+    let t = e .before in
+    let l = loop t in
+    accepted-more _ _ _ _ _ _ (l .loop .inv) (accepted l) (t .before .item .result) (t .before .item .ensures) (sym (t .comes .ensures) ∙ e .if1 .taken) (c .after .result) (c .after .ensures) _ _ _ (s .store .ensures) .1
+
+same-length : tie.Need-same-length Inv-loop μ-loop
+same-length c = tables-length _ _ _ _ _ _ (loop (c .before) .loop .inv) .0
+
+same-length-2 : tie.Need-same-length-2 Inv-loop μ-loop
+same-length-2 c = tables-length _ _ _ _ _ _ (loop (c .before) .loop .inv) .1
+
+same-length-3 : tie.Need-same-length-3 Inv-loop μ-loop
+same-length-3 c = tables-length _ _ _ _ _ _ (loop (c .before) .loop .inv) .2
+
+returns : tie.Need-returns Inv-loop μ-loop
+returns c =
+    let t = c .before in
+    let l = loop t in
+    accepted-end _ _ _ _ _ _ (l .loop .inv) (accepted l) (t .before .item .result) (t .before .item .ensures) (sym (t .comes .ensures) ∙ c .if1 .left)
 
 pub fill-spec : {M : Type 1} → statement M
 fill-spec =
@@ -68,15 +92,15 @@ fill-spec =
     (tie.spec
     Inv-loop
     μ-loop
-    begin-requires
+    (λ c κs. search needs)
     loop-holds
     item-requires
-    comes-requires
-    same-length
-    same-length-2
-    same-length-3
-    returns
+    (λ c κs. search needs)
     store-requires
     after-requires
     loop-less
-    loop-again)
+    loop-again
+    same-length
+    same-length-2
+    same-length-3
+    returns)
