@@ -1,3 +1,4 @@
--- Laws: about pairs, and about pairs in a row.
+-- Laws: about pairs, about pairs in a row, and about the tests of what comes next.
 pub mod Pairs
 pub mod Rows
+pub mod Tests
