@@ -1,4 +1,8 @@
--- Laws: about pairs, about pairs in a row, and about the tests of what comes next.
+-- Laws about payloads: pairs and actions; one more of each sort; the tests of what comes next; a pass over one.
 pub mod Pairs
 pub mod Rows
+pub mod Actions
+pub mod Steps
 pub mod Tests
+pub mod Passing
+pub mod Filling
