@@ -1,15 +1,14 @@
 -- `payload::action::read_action` meets its contract: the lines of the order, one after the other, and then the variable.
 -- Assumes nothing.
 use borrow.Author.Needs.{needs}
-use mathlib.Core.Path.{_≡_, refl, sym, ap, _∙_}
-use mathlib.Core.Bool.{Bool, true, false, not, _||_}
+use mathlib.Core.Path.{_≡_, sym, ap, _∙_}
+use mathlib.Core.Bool.{true, _||_}
 use mathlib.Core.List.{List}
-use Prim.Native.Nat.{ℕ, _≤_, _<_}
+use Prim.Native.Nat.{ℕ, _≤_}
 use native.Mathlib.Omega.{arith}
 use lib.Dec.{eqb}
 use lib.ListN.{length, getD}
-use borrow.Author.Tests.{ne-eqb, eqb-true}
-use Rattle.answer.proofs.Cases.{bool-cases, true-false}
+use borrow.Author.Tests.{ne-eqb, eqb-true, not-true, not-false}
 use Rattle.payload.specs.Action.{argumentCount}
 use Rattle.payload.specs.Inner.{actionBehind, Headed}
 use Rattle.payload.proofs.Actions.{action-none, action-verb, action-short, action-count, action-shorter, action-scope, action-headed}
@@ -23,14 +22,6 @@ cast-verb : tie.Need-cast-verb
 cast-verb c = omega (arith, c .shared-slice-known2 .given 0)
 
 -- what the tests before say: there is a byte, its verb is known, and its count is the verb's
-turned : (b : Bool) → not b ≡ true → b ≡ false
-turned true e = sym e
-turned false e = refl
-
-turned-back : (b : Bool) → not b ≡ false → b ≡ true
-turned-back true e = refl
-turned-back false e = sym e
-
 abbrev bytes : tie.Else2 → List ℕ
 bytes e = e .before .before .before .before .before .args .input .now
 
@@ -38,7 +29,7 @@ one : (e : tie.Else2) → 1 ≤ length (bytes e)
 one e = e .before .before .before .if1 .left
 
 known : (e : tie.Else2) → eqb (getD (bytes e) 0 0) 1 || eqb (getD (bytes e) 0 0) 2 ≡ true
-known e = turned-back _ (sym (e .before .unknown .ensures) ∙ e .if2 .left)
+known e = not-false _ (sym (e .before .unknown .ensures) ∙ e .if2 .left)
 
 counted : (f : tie.Else4) → let s = bytes (f .before .before .before .before) in getD s 1 0 ≡ argumentCount (getD s 0 0)
 counted f = f .if4 .left ∙ f .before .arguments .ensures
@@ -57,7 +48,7 @@ second {n} t ne = eqb-true n 2 (rw (ne-eqb n 1 ne) at t)
 returns-2 : tie.Need-returns-2
 returns-2 c =
     let u = c .before .before in
-    ap actionBehind (c .refused-at2 .ensures) ∙ sym (action-verb _ (u .before .before .if1 .left) (turned _ (sym (u .unknown .ensures) ∙ c .before .if2 .taken)))
+    ap actionBehind (c .refused-at2 .ensures) ∙ sym (action-verb _ (u .before .before .if1 .left) (not-true _ (sym (u .unknown .ensures) ∙ c .before .if2 .taken)))
 
 returns-3 : tie.Need-returns-3
 returns-3 c =

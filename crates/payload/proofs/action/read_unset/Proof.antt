@@ -1,12 +1,12 @@
 -- `payload::action::read_unset` meets its contract: what is read behind the three bytes.
 -- Assumes nothing.
 use borrow.Author.Needs.{needs}
-use mathlib.Core.Path.{_≡_, refl, sym, ap, _∙_}
+use mathlib.Core.Path.{_≡_, sym, ap, _∙_}
 use mathlib.Core.List.{List}
-use Prim.Native.Nat.{ℕ, _+_, _≤_}
+use Prim.Native.Nat.{ℕ}
 use native.Mathlib.Omega.{arith}
-use lib.ListN.{length, drop, length-drop}
-use Rattle.answer.specs.Answer.{Answer, done}
+use lib.ListN.{drop, length-drop}
+use Rattle.answer.specs.Answer.{Answer}
 use Rattle.payload.proofs.Pairs.{lent}
 use Rattle.payload.specs.Inner.{actionBehind}
 use Rattle.payload.proofs.Actions.{name-refused, name-done}

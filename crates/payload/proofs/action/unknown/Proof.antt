@@ -1,6 +1,5 @@
 -- `payload::action::unknown` meets its contract.
 -- Assumes nothing.
-use mathlib.Core.Path.{sym}
 use borrow.Author.Tests.{eq-eqb, ne-eqb}
 use Rattle.payload.proofs.action.unknown.Statement.{statement}
 use Rattle.payload.proofs.action.unknown.Tie as tie

@@ -6,8 +6,8 @@ use mathlib.Core.List.{List}
 use Prim.Native.Nat.{ℕ, _+_, _≤_}
 use native.Mathlib.Omega.{arith}
 use lib.ListN.{length, drop, length-drop}
-use Rattle.answer.specs.Answer.{Answer, done, refused}
-use Rattle.types.specs.Value.{span, string, Record, value, typed}
+use Rattle.answer.specs.Answer.{Answer, done}
+use Rattle.types.specs.Value.{span, string, Record, typed}
 use Rattle.types.specs.Promise.{stringSaid, valueSaid}
 use Rattle.types.proofs.Shapes.{points-yes}
 use Rattle.types.proofs.Reading.{string-accepted, typed-accepted, typed-place}
