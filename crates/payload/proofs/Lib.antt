@@ -1,8 +1,8 @@
--- Laws about payloads: pairs and actions; one more of each sort; a pass over one.
+-- Laws about payloads: pairs and actions; one more of each sort; the tests of what comes next; a pass over one; filling tables.
 pub mod Pairs
 pub mod Rows
 pub mod Actions
-pub mod Tests
 pub mod Steps
+pub mod Tests
 pub mod Passing
 pub mod Filling

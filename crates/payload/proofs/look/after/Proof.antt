@@ -1,10 +1,9 @@
 -- `payload::look::after` meets its contract, item by item.
 -- Assumes nothing.
 use borrow.Author.Needs.{needs}
-use mathlib.Core.Path.{_≡_, sym, ap, _∙_}
-use Prim.Native.Nat.{ℕ, _-_}
+use mathlib.Core.Path.{_≡_}
+use Prim.Native.Nat.{_-_}
 use native.Mathlib.Omega.{arith}
-use Rattle.payload.specs.Inner.{afterItem}
 use Rattle.payload.proofs.look.after.Statement.{statement}
 use Rattle.payload.proofs.look.after.Tie as tie
 

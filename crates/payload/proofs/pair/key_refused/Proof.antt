@@ -8,12 +8,6 @@ use Rattle.payload.proofs.Pairs.{refused-as}
 use Rattle.payload.proofs.pair.key_refused.Statement.{statement}
 use Rattle.payload.proofs.pair.key_refused.Tie as tie
 
-enum-known-key : tie.Need-enum-known-key
-enum-known-key c = search needs
-
-enum-told : tie.Need-enum-told
-enum-told c = search needs
-
 returns : tie.Need-returns
 returns c number place e = refused-as (sym (ap stringSaid (c .before .key .given .1)) ∙ e)
 
@@ -21,4 +15,4 @@ returns-2 : tie.Need-returns-2
 returns-2 c number place e = not-both (ap stringSaid (c .enum-told .given .1)) e
 
 pub key-refused-spec : {M : Type 1} → statement M
-key-refused-spec = tie.close (tie.spec enum-known-key enum-told returns returns-2)
+key-refused-spec = tie.close (tie.spec (λ c. search needs) (λ c. search needs) returns returns-2)

@@ -8,9 +8,6 @@ use Rattle.payload.specs.Pair.{pairOf}
 use Rattle.payload.proofs.pair.moved_pair.Statement.{statement}
 use Rattle.payload.proofs.pair.moved_pair.Tie as tie
 
-add-t3 : tie.Need-add-t3
-add-t3 c = search needs
-
 moved-value-requires : tie.Need-moved-value-requires
 moved-value-requires c κs = c .before .pre .1
 
@@ -20,4 +17,4 @@ returns c =
     ap (λ (v : Record). pairOf (span (a .n + a .pair .start) (a .pair .len)) v) (c .moved-value .ensures)
 
 pub moved-pair-spec : {M : Type 1} → statement M
-moved-pair-spec = tie.close (tie.spec add-t3 moved-value-requires returns)
+moved-pair-spec = tie.close (tie.spec (λ c. search needs) moved-value-requires returns)

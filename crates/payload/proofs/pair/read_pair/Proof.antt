@@ -6,8 +6,8 @@ use mathlib.Core.List.{List}
 use Prim.Native.Nat.{ℕ, _+_, _≤_}
 use native.Mathlib.Omega.{arith}
 use lib.ListN.{length, drop, length-drop}
-use Rattle.answer.specs.Answer.{Answer, done, refused}
-use Rattle.types.specs.Value.{span, string, Record, value, typed}
+use Rattle.answer.specs.Answer.{Answer, done}
+use Rattle.types.specs.Value.{span, string, Record, typed}
 use Rattle.types.specs.Promise.{stringSaid, valueSaid}
 use Rattle.types.proofs.Shapes.{points-yes}
 use Rattle.types.proofs.Reading.{string-accepted, typed-accepted, typed-place}
@@ -15,18 +15,6 @@ use Rattle.payload.specs.Pair.{pairOf}
 use Rattle.payload.proofs.Pairs.{lent, pair-key, pair-value, pair-whole}
 use Rattle.payload.proofs.pair.read_pair.Statement.{statement}
 use Rattle.payload.proofs.pair.read_pair.Tie as tie
-
-read-string-requires : tie.Need-read-string-requires
-read-string-requires c κs = search needs
-
-enum-known-key : tie.Need-enum-known-key
-enum-known-key c = search needs
-
-enum-told : tie.Need-enum-told
-enum-told c = search needs
-
-key-refused-requires : tie.Need-key-refused-requires
-key-refused-requires c κs = search needs
 
 returns : tie.Need-returns
 returns c =
@@ -46,15 +34,6 @@ sub-typed-data c = behind-key c
 
 part-typed-data-start : tie.Need-part-typed-data-start
 part-typed-data-start c = behind-key c
-
-part-typed-data-end : tie.Need-part-typed-data-end
-part-typed-data-end c = search needs
-
-typed-data-requires : tie.Need-typed-data-requires
-typed-data-requires c κs = search needs
-
-enum-known-r : tie.Need-enum-known-r
-enum-known-r c = search needs
 
 -- what the value reader answered of them
 abbrev bytes : tie.After-typed-data → List ℕ
@@ -76,9 +55,6 @@ returns-2 c =
     let t = c .before .before .before .before in
     sym (pair-value (bytes t) _ _ (used t) (key (t .before .before)) _ _ (value-read t _ (ap valueSaid (c .before .before .r .given .1))))
 
-enum-known-value : tie.Need-enum-known-value
-enum-known-value c = search needs
-
 moved-value-requires : tie.Need-moved-value-requires
 moved-value-requires c κs h l =
     let t = c .before .before .before in
@@ -99,21 +75,6 @@ returns-3 c =
 
 pub read-pair-spec : {M : Type 1} → statement M
 read-pair-spec =
-    tie.close
-    (tie.spec
-    read-string-requires
-    enum-known-key
-    enum-told
-    key-refused-requires
-    returns
-    sub-typed-data
-    part-typed-data-start
-    part-typed-data-end
-    typed-data-requires
-    enum-known-r
-    add-t14
-    returns-2
-    enum-known-value
-    moved-value-requires
-    add-t21
-    returns-3)
+    tie.close (tie.spec (λ c κs. search needs) (λ c. search needs) (λ c. search needs) (λ c κs. search needs) returns sub-typed-data
+    part-typed-data-start (λ c. search needs) (λ c κs. search needs) (λ c. search needs) add-t14 returns-2 (λ c. search needs) moved-value-requires
+    add-t21 returns-3)
