@@ -164,8 +164,8 @@ module _ (kind : Payload) (start : ℕ) (s oldMessages oldPairs oldActions : Lis
   filling-start there =
       record {
         met = empty;
-        stands = stands-start kind rooms start s there;
-        goes = goes-start kind rooms start s there;
+        stands = stands-start kind start s there;
+        goes = goes-start kind start s there rooms;
         in-messages = filled-none messageNumbers oldMessages;
         in-pairs = filled-none pairNumbers oldPairs;
         in-actions = filled-none actionNumbers oldActions;
