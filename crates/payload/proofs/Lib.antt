@@ -1,5 +1,5 @@
--- Laws about payloads: pairs and actions; one more of each sort; the tests of what comes next; a pass over one; and that no second result meets a
--- promise.
+-- Laws about payloads: pairs and actions; one more of each sort; the tests of what comes next; a pass over one; filling tables; and that no second
+-- result meets a promise.
 pub mod Pairs
 pub mod Rows
 pub mod Actions
