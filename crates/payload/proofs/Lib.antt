@@ -1,4 +1,5 @@
--- Laws about payloads: pairs and actions; one more of each sort; the tests of what comes next; a pass over one; filling tables.
+-- Laws about payloads: pairs and actions; one more of each sort; the tests of what comes next; a pass over one; filling tables; and that no second
+-- result meets a promise.
 pub mod Pairs
 pub mod Rows
 pub mod Actions
@@ -6,3 +7,4 @@ pub mod Steps
 pub mod Tests
 pub mod Passing
 pub mod Filling
+pub mod Unique
