@@ -164,8 +164,8 @@ module _ (kind : Payload) (start : ℕ) (s oldMessages oldPairs oldActions : Lis
   filling-start there =
       record {
         met = empty;
-        stands = stands-start kind rooms start s there;
-        goes = goes-start kind rooms start s there;
+        stands = stands-start kind start s there;
+        goes = goes-start kind start s there rooms;
         in-messages = filled-none messageNumbers oldMessages;
         in-pairs = filled-none pairNumbers oldPairs;
         in-actions = filled-none actionNumbers oldActions;
@@ -270,6 +270,15 @@ module _ (kind : Payload) (start : ℕ) (s oldMessages oldPairs oldActions : Lis
       accepted-on item is t =
           by-tests rooms s x (f .met) item t (λ e r. (e, r))
           (λ n place e. not-both (ok .is) (subst (λ (z : Step). Then (f .stands) (f .goes) item z) e (rw is then-of)))
+
+      pub accepted-fits : (item : Item) → item ≡ itemAt kind s x → follows item ≡ true → Fits item x messages pairs actions
+      accepted-fits item is t = filling-fits item (accepted-on item is t .1)
+
+      pub accepted-more : (item : Item) → item ≡ itemAt kind s x → follows item ≡ true → (y : Cursor) → y ≡ afterItem x item
+          → (newMessages newPairs newActions : List ℕ) → Stores item x messages newMessages pairs newPairs actions newActions
+          → (x .at < y .at) × Filling y newMessages newPairs newActions
+      accepted-more item is t y e newMessages newPairs newActions stored =
+          filling-on item y is (accepted-on item is t .0 ∙ ap v.On (sym e)) newMessages newPairs newActions stored
 
       pub accepted-end : (item : Item) → item ≡ itemAt kind s x → follows item ≡ false → Leaves kind start s oldMessages messages oldPairs pairs oldActions actions
       unfolding tests

@@ -2,15 +2,17 @@
 -- stands at a place.
 use mathlib.Core.Path.{_≡_, refl, sym, ap, ap₂, _∙_}
 use mathlib.Core.Bool.{Bool, true, false, cond}
-use mathlib.Core.List.{List}
-use Prim.Native.Nat.{ℕ, _+_, _-_, _≤_, _<_, _^_}
+use mathlib.Core.List.{List, []}
+use Prim.Native.Nat.{ℕ, _+_, _-_, _≤_, _<_}
+use native.Mathlib.Nat.{add-zero}
 use native.Mathlib.Omega.{arith}
-use lib.ListN.{length, take, drop, length-drop}
+use lib.ListN.{length, take, drop, length-drop, drop-of-length-le}
 use Rattle.answer.specs.Answer.{Answer, done, refused, behind}
-use Rattle.answer.proofs.Cases.{not-both}
+use Rattle.answer.proofs.Cases.{not-both, answer-cases}
 use Rattle.answer.proofs.Output.{lent-tail}
+use Rattle.varint.proofs.Reading.{number-none}
 use Rattle.types.specs.Value.{Span, span, string, Record, value, points, shape, moved, typed}
-use Rattle.types.proofs.Reading.{string-accepted, string-place, typed-accepted, typed-place}
+use Rattle.types.proofs.Reading.{string-refused, string-accepted, string-place, typed-accepted, typed-place}
 use Rattle.types.proofs.Shapes.{points-yes}
 use Rattle.frame.specs.declared.Pair.{Pair}
 use Rattle.payload.specs.Pair.{pairOf, movedPair, pair, pairFrom}
@@ -113,6 +115,32 @@ module _ (s : List ℕ) (at : ℕ) (there : at ≤ length s) where
 
   pub from-some : (p : Pair) (used : ℕ) → pair (drop at s) ≡ done p used → (pairFrom at s ≡ done (movedPair at p) (at + used)) × Inside (length s - at) p used
   from-some p used e = (ap (behind movedPair at) e, rw (length-drop at s) at (pair-accepted (drop at s) p used e))
+
+-- Law: none stands behind the end.
+pub from-past : (s : List ℕ) (at : ℕ) → length s ≤ at → pairFrom at s ≡ refused 3 at
+from-past s at h =
+    ap (λ (t : List ℕ). behind movedPair at (pair t)) (drop-of-length-le s h)
+    ∙ ap (behind movedPair at) (pair-key [] 3 0 (string-refused [] 3 0 number-none))
+    ∙ ap (refused 3) (add-zero at)
+
+-- Law: one that stands at a place takes at least two bytes behind it, and no more than are there; its key starts behind the place and ends before it does.
+pub record Lies (there at : ℕ) (p : Pair) (end : ℕ) : Type 0 where
+  pub some : 2 + at ≤ end
+  pub most : end ≤ there
+  pub first : at < p .start
+  pub key : p .start + p .len ≤ end
+
+pub from-lies : (s : List ℕ) (at : ℕ) (p : Pair) (end : ℕ) → pairFrom at s ≡ done p end → Lies (length s) at p end
+from-lies s at p end e =
+    answer-cases (pair (drop at s))
+    (λ q used d.
+    let i = pair-accepted (drop at s) q used d in
+    let o = done-same (sym (ap (behind movedPair at) d) ∙ e) in
+    let start : at + q .start ≡ p .start = ap (λ (x : Pair). x .start) (o .0) in
+    let len : q .len ≡ p .len = ap (λ (x : Pair). x .len) (o .0) in
+    let n = o .1 in
+    record { some = omega arith; most = omega (arith, length-drop at s); first = omega arith; key = omega arith })
+    (λ n place r. not-both e (ap (behind movedPair at) r))
 
 -- Law: moving a pair twice moves it by both.
 pub moved-twice : (m n : ℕ) (p : Pair) → movedPair m (movedPair n p) ≡ movedPair (m + n) p

@@ -1,13 +1,14 @@
 -- Laws about a pass over a payload: the reading goes on behind what comes next, as its tests say, and ends where nothing does.
-use mathlib.Core.Path.{_≡_, refl, sym, ap, _∙_}
+use mathlib.Core.Path.{_≡_, refl, sym, ap, subst, _∙_}
 use mathlib.Core.Bool.{Bool, true, false, _&&_}
 use mathlib.Core.Logic.{⊎-elim}
 use mathlib.Core.List.{List, [], _∷_, _++_}
-use Prim.Native.Nat.{ℕ, zero, suc, _+_, _-_, _≤_, _<_}
+use Prim.Native.Nat.{ℕ, zero, suc, _+_, _-_, _^_, _≤_, _<_}
 use native.Mathlib.Omega.{arith}
 use lib.Dec.{ltb, leb, eqb}
 use lib.ListN.{length, length-append}
 use borrow.Author.Tests.{lt-ltb, le-ltb, le-leb, eq-eqb, ne-eqb}
+use Rattle.answer.specs.declared.Refusal.{Refusal}
 use Rattle.answer.specs.Answer.{Answer, done, refused, next}
 use Rattle.answer.specs.Order.{inOrder}
 use Rattle.answer.specs.Row.{soMany, toEnd}
@@ -21,23 +22,25 @@ use Rattle.payload.specs.declared.Item.{Item}
 use Rattle.payload.specs.declared.Item.the-variants as i
 use Rattle.payload.specs.declared.Step.{Step}
 use Rattle.payload.specs.declared.Step.the-variants as v
+use Rattle.payload.specs.declared.Passed.the-variants as p
 use Rattle.payload.specs.declared.Payload.{Payload}
 use Rattle.payload.specs.declared.Payload.the-variants as k
 use Rattle.payload.specs.Pair.{pairFrom}
 use Rattle.payload.specs.Action.{actionFrom}
 use Rattle.payload.specs.Payload.{Contents, empty, withPair, withMessage, withAction, messageFrom, met, onePair, oneMessage, oneAction, oneOf, payload}
 use Rattle.payload.specs.Item.{itemOf, listed, itemAt}
-use Rattle.payload.specs.Inner.{began, afterItem, withItem, refusedAt, tests, Run, Stands, Goes}
+use Rattle.payload.specs.Inner.{began, afterItem, withItem, refusedAt, tests, Low, KeyInside, Run, Stands, Goes, Passes}
+use Rattle.payload.proofs.Pairs.{from-lies}
 use Rattle.payload.proofs.Rows.{from-next, run-more}
 use Rattle.payload.proofs.Actions.{action-next}
 use Rattle.payload.proofs.Steps.{message-next, pair-refused, pair-met, pair-full, pair-taken, message-refused, message-full, message-taken, action-refused, action-full, action-taken}
 
 -- ---- where it begins
 
-module _ (kind : Payload) (rooms : Counts) (start : ℕ) (s : List ℕ) (there : start ≤ length s) where
-  pub goes-start : Goes kind rooms s (began start) empty (payload kind rooms start s)
+module _ (kind : Payload) (start : ℕ) (s : List ℕ) (there : start ≤ length s) where
+  pub goes-start : (rooms : Counts) → Goes kind rooms s (began start) empty (payload kind rooms start s)
   unfolding payload inOrder soMany
-  goes-start = record { fuel = length s; enough = omega arith; is = rw (le-leb start (length s) there) }
+  goes-start rooms = record { fuel = length s; enough = omega arith; is = rw (le-leb start (length s) there) }
 
   pub stands-start : Stands kind start s (began start) empty
   stands-start = record { place = there; messages = refl; pairs = refl; actions = refl; few = omega arith; run = λ e. refl }
@@ -245,3 +248,79 @@ module _ {kind : Payload} {start : ℕ} {rooms : Counts} {s : List ℕ} {x : Cur
           (λ h. rw (item-end kind s x none h) (list-end g none h))
           (lt-or-le (x .at) (length s))
       go (suc l) is = rw (item-due kind s x l is) (then-due l is (pairFrom (x .at) s) refl)
+
+-- ---- what the tests ask
+
+module _ (kind : Payload) (s : List ℕ) (x : Cursor) where
+  pair-key-in : (r : Answer Pair) → pairFrom (x .at) s ≡ r → KeyInside s (itemOf i.Pair r)
+  pair-key-in (done p end) f = let l = from-lies s (x .at) p end f in omega (arith, l .key, l .most)
+  pair-key-in (refused n place) f = tt
+
+  message-key-in : (r : Answer Message) → KeyInside s (itemOf i.Message r)
+  message-key-in (done m end) = tt
+  message-key-in (refused n place) = tt
+
+  action-key-in : (r : Answer Action) → KeyInside s (itemOf i.Action r)
+  action-key-in (done a end) = tt
+  action-key-in (refused n place) = tt
+
+  listed-key-in : (q : Payload) → KeyInside s (listed q s x)
+  listed-key-in k.KvList = pair-key-in (pairFrom (x .at) s) refl
+  listed-key-in k.Messages = message-key-in (messageFrom (x .pairs) (x .at) s)
+  listed-key-in k.Actions = action-key-in (actionFrom (x .at) s)
+
+  -- the key of a pair lies in the bytes
+  pub key-inside : (item : Item) → item ≡ itemAt kind s x → KeyInside s item
+  key-inside item is = subst (λ (z : Item). KeyInside s z) (sym is) (go (x .left) refl)
+    where
+      go : (l : ℕ) → x .left ≡ l → KeyInside s (itemAt kind s x)
+      go zero none =
+          ⊎-elim
+          (λ h. rw (item-listed kind s x none h) (listed-key-in kind))
+          (λ h. rw (item-end kind s x none h) tt)
+          (lt-or-le (x .at) (length s))
+      go (suc l) is = rw (item-due kind s x l is) (pair-key-in (pairFrom (x .at) s) refl)
+
+  message-no-pair : {G : Type 0} (r : Answer Message) (p : Pair) (end : ℕ) → itemOf i.Message r ≡ i.Pair p end → G
+  message-no-pair (done m n) p end e = let z : _≡_ {A = ℕ} 0 1 = cc in absurd (omega arith)
+  message-no-pair (refused m n) p end e = let z : _≡_ {A = ℕ} 0 1 = cc in absurd (omega arith)
+
+  action-no-pair : {G : Type 0} (r : Answer Action) (p : Pair) (end : ℕ) → itemOf i.Action r ≡ i.Pair p end → G
+  action-no-pair (done a n) p end e = let z : _≡_ {A = ℕ} 0 1 = cc in absurd (omega arith)
+  action-no-pair (refused m n) p end e = let z : _≡_ {A = ℕ} 0 1 = cc in absurd (omega arith)
+
+  -- where no argument is due, a pair is one of a KV list
+  pub pair-of-kv : (p : Pair) (end : ℕ) → itemAt kind s x ≡ i.Pair p end → x .left ≡ 0 → kind ≡ k.KvList
+  pair-of-kv p end e none =
+      ⊎-elim
+      (λ h. go kind refl (sym (item-listed kind s x none h) ∙ e))
+      (λ h. let f = sym (item-end kind s x none h) ∙ e in let z : _≡_ {A = ℕ} 0 1 = cc f in absurd (omega arith))
+      (lt-or-le (x .at) (length s))
+    where
+      go : (q : Payload) → kind ≡ q → listed kind s x ≡ i.Pair p end → kind ≡ k.KvList
+      go k.KvList is f = is
+      go k.Messages is f = message-no-pair (messageFrom (x .pairs) (x .at) s) p end (ap (λ (z : Payload). listed z s x) (sym is) ∙ f)
+      go k.Actions is f = action-no-pair (actionFrom (x .at) s) p end (ap (λ (z : Payload). listed z s x) (sym is) ∙ f)
+
+module _ {kind : Payload} {start : ℕ} {s : List ℕ} {x : Cursor} {c : Contents} (st : Stands kind start s x c) where
+  -- another of each can be counted
+  pub low : length s + 1 < 2 ^ 64 → Low x
+  low h =
+      record {
+        messages = omega (arith, st .few, st .place, h);
+        pairs = omega (arith, st .few, st .place, h);
+        actions = omega (arith, st .few, st .place, h);
+      }
+
+  -- the pairs that a key is sought among
+  pub sought : (item : Item) → item ≡ itemAt kind s x → (p : Pair) (end : ℕ) → item ≡ i.Pair p end → x .left ≡ 0 → Run s start (c .pairs) (x .at)
+  sought item is p end e none = st .run (pair-of-kv kind s x p end (sym is ∙ e) none)
+
+  -- ---- what a pass comes to
+
+  pub passes-done : {rooms : Counts} → payload kind rooms start s ≡ done c (x .at) → Passes kind rooms start s (p.Done x)
+  passes-done e = record { says = rw (e, st .messages, st .pairs, st .actions); stood = tt }
+
+  pub passes-refused : {rooms : Counts} (r : Refusal) → tests rooms s x c (itemAt kind s x) ≡ v.Refused r → payload kind rooms start s ≡ refused (r .number) (r .place)
+      → Passes kind rooms start s (p.Refused r x)
+  passes-refused r t e = record { says = rw e; stood = (c, st, t) }

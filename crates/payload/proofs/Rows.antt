@@ -4,37 +4,20 @@ use mathlib.Core.Bool.{Bool, true, false}
 use mathlib.Core.List.{List, [], _∷_, _++_, map}
 use Prim.Native.Nat.{ℕ, _+_, _-_, _≤_, _<_}
 use native.Mathlib.Omega.{arith}
-use lib.ListN.{length, drop, length-drop}
+use lib.ListN.{length, drop}
 use lib.Seq.{drop-drop}
 use Rattle.answer.specs.Answer.{Answer, done, refused, behind}
 use Rattle.answer.specs.Table.{some}
-use Rattle.answer.proofs.Cases.{not-both, answer-cases}
+use Rattle.answer.proofs.Cases.{not-both}
 use Rattle.answer.proofs.Records.{some-none, some-here, some-later}
 use Rattle.frame.specs.declared.Pair.{Pair}
 use Rattle.payload.specs.Pair.{movedPair, pair, pairFrom}
 use Rattle.payload.specs.Inner.{Run}
-use Rattle.payload.proofs.Pairs.{done-same, moved-twice, Inside, pair-accepted}
+use Rattle.payload.proofs.Pairs.{done-same, moved-twice, from-lies}
 
 -- Law: a pair that stands at a place ends behind it, and within the bytes.
 pub from-next : (s : List ℕ) (at : ℕ) (p : Pair) (next : ℕ) → pairFrom at s ≡ done p next → (2 + at ≤ next) × (at ≤ length s) × (next ≤ length s)
-from-next s at p next e =
-    answer-cases (pair (drop at s))
-    (λ q used d.
-    let i = pair-accepted (drop at s) q used d in
-    let n = done-same (sym (ap (behind movedPair at) d) ∙ e) .1 in
-    omega (arith, i .some, i .most, length-drop at s))
-    (λ n place r. not-both e (ap (behind movedPair at) r))
-
--- Law: its key starts behind that place, and before where it ends.
-pub from-key : (s : List ℕ) (at : ℕ) (p : Pair) (next : ℕ) → pairFrom at s ≡ done p next → (at < p .start) × (p .start ≤ next)
-from-key s at p next e =
-    answer-cases (pair (drop at s))
-    (λ q used d.
-    let i = pair-accepted (drop at s) q used d in
-    let o = done-same (sym (ap (behind movedPair at) d) ∙ e) in
-    let start : at + q .start ≡ p .start = ap (λ (x : Pair). x .start) (o .0) in
-    omega (arith, i .first, i .key, o .1))
-    (λ n place r. not-both e (ap (behind movedPair at) r))
+from-next s at p next e = let l = from-lies s at p next e in omega arith
 
 -- Law: pairs end where they start or behind it.
 pub run-on : (s : List ℕ) (at : ℕ) (ps : List Pair) (end : ℕ) → Run s at ps end → at ≤ end
@@ -66,8 +49,8 @@ pub record Seeks (test : Pair → Bool) (s : List ℕ) (pairs : List Pair) (end 
   pub run : Run s at rest end
   pub same : some test pairs ≡ some test rest
 
-pub seeks-none : (test : Pair → Bool) (s : List ℕ) (pairs : List Pair) (end : ℕ) → Run s 0 pairs end → Seeks test s pairs end 0
-seeks-none test s pairs end r = record { rest = pairs; run = r; same = refl }
+pub seeks-none : (test : Pair → Bool) (s : List ℕ) (pairs : List Pair) (end at : ℕ) → Run s at pairs end → Seeks test s pairs end at
+seeks-none test s pairs end at r = record { rest = pairs; run = r; same = refl }
 
 module _ {test : Pair → Bool} {s : List ℕ} {pairs : List Pair} {end at : ℕ} (k : Seeks test s pairs end at) where
   -- what is left is nothing, or the pair at the place and what is left behind it

@@ -117,10 +117,11 @@ pub(crate) fn fill(
     let mut x = begin(start);
     loop {
         let next = item(input, kind, x);
-        if !comes(next) {
+        if comes(next) {
+            store(next, x, messages, pairs, actions);
+            x = after(x, next);
+        } else {
             return;
         }
-        store(next, x, messages, pairs, actions);
-        x = after(x, next);
     }
 }
