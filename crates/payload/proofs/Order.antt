@@ -11,10 +11,9 @@ use Rattle.frame.specs.declared.Message.{Message}
 use Rattle.payload.specs.declared.Counts.{Counts}
 use Rattle.payload.specs.declared.Payload.{Payload}
 use Rattle.payload.specs.declared.Payload.the-variants as k
-use Rattle.payload.specs.Pair.{pairFrom}
 use Rattle.payload.specs.Payload.{Contents, payload}
 use Rattle.payload.specs.Inner.{Run}
-use Rattle.payload.proofs.Rows.{from-key}
+use Rattle.payload.proofs.Pairs.{from-lies}
 use Rattle.payload.proofs.Steps.{message-next}
 use Rattle.payload.proofs.Rowing.{Row}
 use Rattle.payload.proofs.Accepted.{Group, pairsOf, payload-start, payload-all, kv-run, messages-run, actions-run}
@@ -35,7 +34,7 @@ rises-both at (p ∷ ps) mid qs end r t = (r .0, rises-both (p .start) ps mid qs
 -- pairs in a row do, and so do those of groups
 run-rises : (s : List ℕ) (at : ℕ) (ps : List Pair) (end : ℕ) → Run s at ps end → Rises at ps end
 run-rises s at [] end r = omega (arith, r)
-run-rises s at (p ∷ ps) end r = let k = from-key s at p (r .0) (r .1) in (k .0, rises-after (p .start) (r .0) ps end (k .1) (run-rises s (r .0) ps end (r .2)))
+run-rises s at (p ∷ ps) end r = let l = from-lies s at p (r .0) (r .1) in (l .first, rises-after (p .start) (r .0) ps end (omega arith) (run-rises s (r .0) ps end (r .2)))
 
 groups-rise : (s : List ℕ) (from : ℕ × ℕ) (gs : List (Message × List Pair)) (to : ℕ × ℕ) → Row (Group s) from gs to → Rises (from .0) (pairsOf gs) (to .0)
 groups-rise s from [] to r = omega (arith, ap (λ (p : ℕ × ℕ). p .0) r)
