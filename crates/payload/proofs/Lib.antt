@@ -7,4 +7,5 @@ pub mod Steps
 pub mod Tests
 pub mod Passing
 pub mod Filling
+pub mod Fitting
 pub mod Unique
