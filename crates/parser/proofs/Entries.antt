@@ -16,7 +16,7 @@ use Rattle.payload.specs.declared.Counts.{Counts}
 use Rattle.payload.specs.Payload.{Contents}
 use Rattle.payload.specs.Promise.{countsOf, tableLeft}
 use Rattle.payload.proofs.Filling.{joined-width}
-use Rattle.payload.proofs.Kept.{Larger}
+use Rattle.payload.proofs.Kept.{Within}
 use Rattle.parser.specs.declared.FrameRead.{FrameRead}
 use Rattle.parser.specs.declared.FrameRead.the-variants as f
 use Rattle.parser.specs.Frame.{frameRead}
@@ -50,7 +50,7 @@ same-left numbers width each xs n is a table b new e g =
     }
 
 -- A call that is done with some counts, and the same call with bytes appended, under a limit no lower and with rooms no smaller.
-module _ (side : Side) (limit higher : ℕ) (up : limit ≤ higher) (rooms others : Counts) (larger : Larger rooms others) (s t : List ℕ) (r q : FrameRead)
+module _ (side : Side) (limit higher : ℕ) (up : limit ≤ higher) (rooms others : Counts) (larger : Within rooms others) (s t : List ℕ) (r q : FrameRead)
     (messages newMessages pairs newPairs actions newActions moreMessages nextMessages morePairs nextPairs moreActions nextActions : List ℕ)
     (one : FrameFills (frameRead side limit rooms s) r messages newMessages pairs newPairs actions newActions)
     (two : FrameFills (frameRead side higher others (s ++ t)) q moreMessages nextMessages morePairs nextPairs moreActions nextActions)

@@ -18,7 +18,7 @@ use Rattle.payload.specs.declared.Counts.{Counts}
 use Rattle.payload.specs.declared.Payload.{Payload}
 use Rattle.payload.specs.Payload.{Contents, payload}
 use Rattle.payload.proofs.Rowing.{kept-done, kept-refused}
-use Rattle.payload.proofs.Kept.{Table, table, Larger, Stays, Keeps, same-keeps, next-keeps, payload-keeps}
+use Rattle.payload.proofs.Kept.{Table, table, Within, Stays, Keeps, same-keeps, next-keeps, payload-keeps}
 use Rattle.parser.specs.Frame.{payloadOf, framed, frameRead}
 use Rattle.parser.proofs.Frames.{frame-on}
 
@@ -72,12 +72,12 @@ module _ (x : Side) (limit higher : ℕ) (up : limit ≤ higher) (rooms : Counts
 
   -- Kept, an accepted frame: the same length, type, flags, ids, and the same records in the same order.
   pub accepted-kept : (y : Head × Contents) (used : ℕ) → frameRead x limit rooms s ≡ answered (done y used)
-      → (others : Counts) → Larger rooms others → frameRead x higher others (s ++ t) ≡ answered (done y used)
+      → (others : Counts) → Within rooms others → frameRead x higher others (s ++ t) ≡ answered (done y used)
   unfolding frameRead
   accepted-kept y used e others larger =
       let o = onward-done (framed (sender x) rooms) (cut limit s) e in
       frame-on x higher others (s ++ t) (cut-kept limit higher up s t (o .2))
-      ∙ ap answered (kept-done {T = Table (payloadOf (getD s 4 0))} rooms (Larger rooms) (Stays rooms) (λ z. framed (sender x) z (o .0)) (kept-after (o .0) (o .1) (o .2)) y used (o .3) others larger)
+      ∙ ap answered (kept-done {T = Table (payloadOf (getD s 4 0))} rooms (Within rooms) (Stays rooms) (λ z. framed (sender x) z (o .0)) (kept-after (o .0) (o .1) (o .2)) y used (o .3) others larger)
 
   -- Kept, a refusal: its number and its place, except 2 under a higher limit, and 10 where the table that was full has more room. Which table that is goes by
   -- the frame's type.
@@ -91,6 +91,6 @@ module _ (x : Side) (limit higher : ℕ) (up : limit ≤ higher) (rooms : Counts
         λ others stays. frame-on x higher others (s ++ t) (subst (λ (n : ℕ). cut n (s ++ t) ≡ answered (refused number place)) (two (cut-refused limit s c .two)) (cut-over-kept limit s t c)),
       ))
       (λ o.
-      let k = kept-refused {T = Table (payloadOf (getD s 4 0))} rooms (Larger rooms) (Stays rooms) (λ z. framed (sender x) z (o .0)) (kept-after (o .0) (o .1) (o .2)) number place (o .3) in
+      let k = kept-refused {T = Table (payloadOf (getD s 4 0))} rooms (Within rooms) (Stays rooms) (λ z. framed (sender x) z (o .0)) (kept-after (o .0) (o .1) (o .2)) number place (o .3) in
       (k .0, λ others stays. frame-on x higher others (s ++ t) (cut-kept limit higher up s t (o .2)) ∙ ap answered (k .1 others stays)))
       (onward-refused (framed (sender x) rooms) (cut limit s) e)

@@ -28,11 +28,13 @@ use Rattle.payload.specs.declared.Payload.the-variants as k
 use Rattle.payload.specs.Pair.{movedPair, pair, pairFrom}
 use Rattle.payload.specs.Action.{action, movedAction, actionFrom}
 use Rattle.payload.specs.Payload.{Contents, empty, withMessage, withPair, withAction, movedSpan, stringFrom, messageOf, messageFrom, met, onePair, oneMessage, oneAction, oneOf, payload}
+use Rattle.payload.specs.Promise.{countsOf}
 use Rattle.payload.specs.Inner.{Run}
 use Rattle.payload.proofs.Pairs.{pair-accepted, pair-place}
 use Rattle.payload.proofs.Rows.{from-next, run-on}
 use Rattle.payload.proofs.Actions.{action-inside, action-place, action-next}
 use Rattle.payload.proofs.Steps.{string-next, message-says, message-next}
+use Rattle.payload.proofs.Kept.{Within}
 use Rattle.payload.proofs.Rowing.{Row, row-as, Found, found-row, puts, Read, many-read, end-read, many-holds, end-holds, ends, next-ends, line-ends, many-ends, end-ends, end-all}
 
 -- ---- one more of each sort
@@ -325,10 +327,8 @@ module _ (kind : Payload) (rooms : Counts) (start : ℕ) (s : List ℕ) where
 -- ---- room
 
 -- what was read has no more records than there is room for
-pub record Fit (rooms : Counts) (c : Contents) : Type 0 where
-  pub messages : length (c .messages) ≤ rooms .messages
-  pub pairs : length (c .pairs) ≤ rooms .pairs
-  pub actions : length (c .actions) ≤ rooms .actions
+abbrev Fit : Counts → Contents → Type 0
+Fit rooms c = Within (countsOf c) rooms
 
 module _ (rooms : Counts) (s : List ℕ) where
   one-more : {A : Type 0} (xs : List A) (x : A) (n : ℕ) → length xs < n → length (xs ++ (x ∷ [])) ≤ n
@@ -360,7 +360,7 @@ module _ (rooms : Counts) (s : List ℕ) where
   one-fit k.Actions c at d end e f = action-fit c at d end e f
 
 -- Law: so it is with every accepted payload.
-pub payload-fit : (kind : Payload) (rooms : Counts) (start : ℕ) (s : List ℕ) (c : Contents) (end : ℕ) → payload kind rooms start s ≡ done c end → Fit rooms c
+pub payload-fit : (kind : Payload) (rooms : Counts) (start : ℕ) (s : List ℕ) (c : Contents) (end : ℕ) → payload kind rooms start s ≡ done c end → Within (countsOf c) rooms
 payload-fit kind rooms start s c end e =
     end-holds (oneOf rooms s kind) (λ x n. Fit rooms x) (one-fit rooms s kind) (length s) (length s) empty start c end (payload-start kind rooms start s c end e .1)
     (record { messages = omega arith; pairs = omega arith; actions = omega arith })

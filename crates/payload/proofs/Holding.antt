@@ -1,10 +1,10 @@
--- Laws the other way round: what stands in a row to the end of the bytes, with room for it, is what the payload comes to.
+-- Laws the other way round: what stands in a row to the end of the bytes, with room for it, is what the payload comes to; so it comes to the same in all tables that have room for it.
 use mathlib.Core.Path.{_≡_, refl, sym, ap, subst, _∙_}
 use mathlib.Core.Bool.{Bool, true, false, _&&_}
 use mathlib.Core.List.{List, [], _∷_, _++_}
 use Prim.Native.Nat.{ℕ, _+_, _≤_, _<_}
 use native.Mathlib.Omega.{arith}
-use lib.ListN.{length, length-append}
+use lib.ListN.{length, length-append, length-map}
 use borrow.Author.Tests.{le-leb}
 use Rattle.answer.specs.Answer.{done}
 use Rattle.answer.specs.Order.{inOrder}
@@ -18,12 +18,14 @@ use Rattle.payload.specs.declared.Payload.{Payload}
 use Rattle.payload.specs.declared.Payload.the-variants as k
 use Rattle.payload.specs.Action.{actionFrom}
 use Rattle.payload.specs.Payload.{Contents, empty, withMessage, withPair, withAction, onePair, oneMessage, oneAction, oneOf, payload}
+use Rattle.payload.specs.Promise.{countsOf}
 use Rattle.payload.specs.Inner.{Run}
 use Rattle.payload.proofs.Rows.{from-next, run-on}
 use Rattle.payload.proofs.Actions.{action-next}
 use Rattle.payload.proofs.Steps.{message-next, pair-taken, message-taken, action-taken}
 use Rattle.payload.proofs.Rowing.{Row, Reads, reads-on, many-so, end-so}
-use Rattle.payload.proofs.Accepted.{withGroup, Group, Once, put-pairs, put-actions, pairsOf, messagesOf, put-groups}
+use Rattle.payload.proofs.Kept.{Within}
+use Rattle.payload.proofs.Accepted.{payload-all, kv-run, messages-run, actions-run, withGroup, Group, Once, put-pairs, put-actions, pairsOf, messagesOf, put-groups}
 
 module _ (rooms : Counts) (s : List ℕ) where
   -- each of them is read
@@ -110,3 +112,31 @@ module _ (rooms : Counts) (s : List ℕ) where
         let reads = group-reads empty start gs (length s, n) r (omega arith) (omega arith) in
         payload-so k.Messages start _ (reads-on (oneMessage rooms s) withGroup empty start gs (length s) reads)
         (end-so (oneMessage rooms s) withGroup (length s) (length s) empty start gs reads (omega arith) ∙ ap (λ (d : Contents). done d (length s)) (put-groups empty gs))
+
+-- ---- other rooms
+
+-- contents of which two sorts are none
+contents-are : (c : Contents) (ms : List Message) (ps : List Pair) (xs : List Action) → c .messages ≡ ms → c .pairs ≡ ps → c .actions ≡ xs
+    → record { messages = ms; pairs = ps; actions = xs } ≡ c
+contents-are c ms ps xs e f g = λ i. record { messages = sym e i; pairs = sym f i; actions = sym g i }
+
+module _ (rooms others : Counts) (s : List ℕ) where
+  -- Law: an accepted payload is accepted alike with any rooms that are enough for its records.
+  pub payload-fits : (kind : Payload) (start : ℕ) (c : Contents) (end : ℕ) → payload kind rooms start s ≡ done c end → Within (countsOf c) others → payload kind others start s ≡ done c end
+  payload-fits kind start c end e w = rw all at (by-kind kind (rw (sym all) at e))
+    where
+      all : length s ≡ end
+      all = sym (payload-all kind rooms start s c end e)
+
+      by-kind : (k : Payload) → payload k rooms start s ≡ done c (length s) → payload k others start s ≡ done c (length s)
+      by-kind k.KvList e =
+          let h = kv-run rooms start s c (length s) e in
+          kv-so others s start (c .pairs) (h .run) (h .once) (w .pairs) ∙ ap (λ (d : Contents). done d (length s)) (contents-are c [] (c .pairs) [] (h .messages) refl (h .actions))
+      by-kind k.Actions e =
+          let h = actions-run rooms start s c (length s) e in
+          actions-so others s start (c .actions) (h .run) (w .actions) ∙ ap (λ (d : Contents). done d (length s)) (contents-are c [] [] (c .actions) (h .messages) (h .pairs) refl)
+      by-kind k.Messages e =
+          let h = messages-run rooms start s c (length s) e in
+          let many = length-map (h .groups) (λ (g : Message × List Pair). g .0) in
+          messages-so others s start (h .groups) (length (c .pairs)) (h .run) (omega (arith, w .messages, ap length (h .messages), many)) (omega (arith, w .pairs, ap length (h .pairs)))
+          ∙ ap (λ (d : Contents). done d (length s)) (contents-are c (messagesOf (h .groups)) (pairsOf (h .groups)) [] (h .messages) (h .pairs) (h .actions))

@@ -42,18 +42,18 @@ table k.KvList = pairs
 table k.Messages = messages
 table k.Actions = actions
 
--- tables no smaller
-pub record Larger (rooms others : Counts) : Type 0 where
-  pub messages : rooms .messages ≤ others .messages
-  pub pairs : rooms .pairs ≤ others .pairs
-  pub actions : rooms .actions ≤ others .actions
+-- no more of each
+pub record Within (a b : Counts) : Type 0 where
+  pub messages : a .messages ≤ b .messages
+  pub pairs : a .pairs ≤ b .pairs
+  pub actions : a .actions ≤ b .actions
 
--- those with which a refusal stays, a 10 for one table only where that one has the same room
+-- tables no smaller with which a refusal stays, a 10 for one table only where that one has the same room
 pub record Stays {kind : Payload} (rooms : Counts) (t : Table kind) (number : ℕ) (others : Counts) : Type 0 where
-  pub larger : Larger rooms others
+  pub larger : Within rooms others
   pub full : number ≡ 10 → room t rooms ≡ room t others
 
-room-grows : {kind : Payload} (t : Table kind) (rooms others : Counts) → Larger rooms others → room t rooms ≤ room t others
+room-grows : {kind : Payload} (t : Table kind) (rooms others : Counts) → Within rooms others → room t rooms ≤ room t others
 room-grows pairs rooms others l = l .pairs
 room-grows messages rooms others l = l .messages
 room-grows arguments rooms others l = l .pairs
@@ -61,21 +61,21 @@ room-grows actions rooms others l = l .actions
 
 module _ (kind : Payload) (rooms : Counts) where
   abbrev KeepsAs : {A : Type 0} → (Counts → Answer A) → Answer A → Type 0
-  KeepsAs f a = KeptAs {T = Table kind} rooms (Larger rooms) (Stays rooms) f a
+  KeepsAs f a = KeptAs {T = Table kind} rooms (Within rooms) (Stays rooms) f a
 
   -- An answer that goes by the rooms is kept.
   abbrev pub Keeps : {A : Type 0} → (Counts → Answer A) → Type 0
   Keeps f = KeepsAs f (f rooms)
 
-  larger : (t : Table kind) (number : ℕ) (others : Counts) → Stays rooms t number others → Larger rooms others
+  larger : (t : Table kind) (number : ℕ) (others : Counts) → Stays rooms t number others → Within rooms others
   larger t number others s = s .larger
 
   pub same-keeps : {A : Type 0} (a : Answer A) → Keeps (λ y. a)
-  same-keeps a = kept-same rooms (Larger rooms) (Stays rooms) larger (table kind) a
+  same-keeps a = kept-same rooms (Within rooms) (Stays rooms) larger (table kind) a
 
   pub next-keeps : {A B : Type 0} (f : Counts → Answer A) (g : Counts → A → ℕ → Answer B) → Keeps f → ((d : A) (end : ℕ) → f rooms ≡ done d end → Keeps (λ y. g y d end))
       → Keeps (λ y. next (f y) (g y))
-  next-keeps f g j each = kept-next rooms (Larger rooms) (Stays rooms) larger f g j each
+  next-keeps f g j each = kept-next rooms (Within rooms) (Stays rooms) larger f g j each
 
   -- behind a test for room
   room-keeps : {A : Type 0} (t : Table kind) (r : Counts → ℕ) → ((y : Counts) → room t y ≡ r y) → (n end : ℕ) (g : Counts → Answer A) → Keeps g
@@ -85,7 +85,7 @@ module _ (kind : Payload) (rooms : Counts) where
       (λ b. rw b (by-answer (ltb-true n (r rooms) b) (g rooms) j))
       (λ b. rw b (t, λ y s. rw (sym (sym (is rooms) ∙ s .full refl ∙ is y), b)))
     where
-      test : n < r rooms → (y : Counts) → Larger rooms y → ltb n (r y) ≡ true
+      test : n < r rooms → (y : Counts) → Within rooms y → ltb n (r y) ≡ true
       test h y l = lt-ltb n (r y) (omega (arith, h, room-grows t rooms y l, is rooms, is y))
 
       by-answer : n < r rooms → (a : Answer A) → KeepsAs g a → KeepsAs (λ y. cond (ltb n (r y)) (g y) (refused 10 end)) a
@@ -112,7 +112,7 @@ module _ (kind : Payload) (rooms : Counts) where
         (same-keeps (messageFrom (length (c .pairs)) at s))
         (λ m end e.
         room-keeps t (λ y. y .messages) is (length (c .messages)) end (λ y. soMany (onePair y s false) (m .count) (withMessage c m) end)
-        (many-kept rooms (Larger rooms) (Stays rooms) larger t (λ y. onePair y s false) (λ d place. pair-keeps a arg false d place) (m .count) (withMessage c m) end))
+        (many-kept rooms (Within rooms) (Stays rooms) larger t (λ y. onePair y s false) (λ d place. pair-keeps a arg false d place) (m .count) (withMessage c m) end))
 
     action-keeps : (t : Table kind) → ((y : Counts) → room t y ≡ y .actions) → (c : Contents) (at : ℕ) → Keeps (λ y. oneAction y s c at)
     unfolding oneAction inOrder
@@ -132,13 +132,13 @@ module _ (kind : Payload) (rooms : Counts) (start : ℕ) (s : List ℕ) where
   unfolding payload inOrder
   payload-keeps =
       bool-cases (leb start (length s))
-      (λ b. rw b (end-kept rooms (Larger rooms) (Stays rooms) (larger kind rooms) (table kind) (λ y. oneOf y s kind) (one-keeps kind rooms s) (length s) (length s) empty start))
+      (λ b. rw b (end-kept rooms (Within rooms) (Stays rooms) (larger kind rooms) (table kind) (λ y. oneOf y s kind) (one-keeps kind rooms s) (length s) (length s) empty start))
       (λ b. rw b (same-keeps kind rooms (refused 3 (length s))))
 
   -- Law: so larger tables keep an accepted payload; and a refusal's number and place, for a 10 where the one table that was full has the same room.
-  pub payload-kept : (c : Contents) (end : ℕ) → payload kind rooms start s ≡ done c end → (others : Counts) → Larger rooms others → payload kind others start s ≡ done c end
-  payload-kept = kept-done {T = Table kind} rooms (Larger rooms) (Stays rooms) (λ y. payload kind y start s) payload-keeps
+  pub payload-kept : (c : Contents) (end : ℕ) → payload kind rooms start s ≡ done c end → (others : Counts) → Within rooms others → payload kind others start s ≡ done c end
+  payload-kept = kept-done {T = Table kind} rooms (Within rooms) (Stays rooms) (λ y. payload kind y start s) payload-keeps
 
   pub payload-refusal-kept : (number place : ℕ) → payload kind rooms start s ≡ refused number place
       → (t : Table kind) × ((others : Counts) → Stays rooms t number others → payload kind others start s ≡ refused number place)
-  payload-refusal-kept = kept-refused rooms (Larger rooms) (Stays rooms) (λ y. payload kind y start s) payload-keeps
+  payload-refusal-kept = kept-refused rooms (Within rooms) (Stays rooms) (λ y. payload kind y start s) payload-keeps
