@@ -78,3 +78,16 @@ module _ (kind : Payload) (start : ℕ) (s ownMessages newMessages ownPairs newP
           pairs = ep ∙ ap (λ (l : List ℕ). leaves (written l) pairs) (own-pairs .0);
           actions = ea ∙ ap (λ (l : List ℕ). leaves (written l) actions) (own-actions .0);
         })
+
+-- ---- a payload that starts behind the bytes
+
+module _ (kind : Payload) (rooms : Counts) (start : ℕ) (s : List ℕ) (h : length s < start) where
+  pub behind-refused : payload kind rooms start s ≡ refused 3 (length s)
+  unfolding payload inOrder
+  behind-refused = rw (lt-leb start (length s) h)
+
+  pub behind-tells : refused 3 (length s) ≡ payloadTells (payload kind rooms start s)
+  behind-tells = rw behind-refused
+
+  pub behind-fills : (messages pairs actions : List ℕ) → Fills (payload kind rooms start s) messages messages pairs pairs actions actions
+  behind-fills messages pairs actions = rw behind-refused (record { messages = refl; pairs = refl; actions = refl })

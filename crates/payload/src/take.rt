@@ -80,18 +80,18 @@ pub(crate) fn read_once(
     let Passed::Done(x) = found else {
         return Once::Left;
     };
+    if messages.len() / MESSAGE_WIDTH < x.messages {
+        return Once::Left;
+    }
+    if pairs.len() / PAIR_WIDTH < x.pairs {
+        return Once::Left;
+    }
+    if actions.len() / ACTION_WIDTH < x.actions {
+        return Once::Left;
+    }
     let message_numbers = x.messages * MESSAGE_WIDTH;
     let pair_numbers = x.pairs * PAIR_WIDTH;
     let action_numbers = x.actions * ACTION_WIDTH;
-    if messages.len() < message_numbers {
-        return Once::Left;
-    }
-    if pairs.len() < pair_numbers {
-        return Once::Left;
-    }
-    if actions.len() < action_numbers {
-        return Once::Left;
-    }
     let _ = frame::put(&own_messages[..message_numbers], messages);
     let _ = frame::put(&own_pairs[..pair_numbers], pairs);
     let _ = frame::put(&own_actions[..action_numbers], actions);

@@ -1,83 +1,48 @@
+-- `payload::read::look_payload` meets its contract: 3 where it starts behind the bytes, and else what the pass comes to.
+-- Assumes nothing.
 use borrow.Author.Needs.{needs}
+use mathlib.Core.Path.{_≡_, sym, ap, _∙_}
+use mathlib.Core.List.{List}
+use Prim.Native.Nat.{ℕ}
+use Rattle.payload.specs.declared.Counts.{Counts}
+use Rattle.payload.specs.declared.Payload.{Payload}
+use Rattle.payload.specs.Payload.{payload}
+use Rattle.payload.specs.Promise.{payloadSaid, payloadTells}
+use Rattle.payload.proofs.Fitting.{behind-tells}
 use Rattle.payload.proofs.read.look_payload.Statement.{statement}
 use Rattle.payload.proofs.read.look_payload.Tie as tie
-use Rattle.payload.proofs.read.look_payload.Reads as reads
-use Rattle.payload.proofs.read.look_payload.Lts as lts
-use Rattle.payload.proofs.look.look.Reads as look-reads
-use Rattle.payload.proofs.read.answered.Reads as answered-reads
-use Rattle.payload.proofs.read.behind_end.Reads as behind-end-reads
 
--- src/read.rt:54:9
-behind-end-requires : tie.Need-behind-end-requires
-behind-end-requires c κs = search needs
-
--- src/read.rt:54:9
 returns : tie.Need-returns
-returns c = ?
+returns c = ap payloadSaid (c .behind-end .ensures) ∙ behind-tells _ _ _ _ (c .before .if1 .taken)
 
--- src/read.rt:57:56
-enum-told : tie.Need-enum-told
-enum-told c = search needs
+-- each kind has its own copy of the pass
+of-kind : (rooms : Counts) (start : ℕ) (s : List ℕ) {kind q : Payload} → kind ≡ q → payloadTells (payload kind rooms start s) ≡ payloadTells (payload q rooms start s)
+of-kind rooms start s e = ap (λ (z : Payload). payloadTells (payload z rooms start s)) e
 
--- src/read.rt:57:37
-look-requires : tie.Need-look-requires
-look-requires c κs = search needs
-
--- src/read.rt:57:28
-answered-requires : tie.Need-answered-requires
-answered-requires c κs = search needs
-
--- src/read.rt:58:58
-enum-told-2 : tie.Need-enum-told-2
-enum-told-2 c = search needs
-
--- src/read.rt:58:39
-look-requires-2 : tie.Need-look-requires-2
-look-requires-2 c κs = search needs
-
--- src/read.rt:58:30
-answered-requires-2 : tie.Need-answered-requires-2
-answered-requires-2 c κs = search needs
-
--- src/read.rt:59:57
-enum-told-3 : tie.Need-enum-told-3
-enum-told-3 c = search needs
-
--- src/read.rt:59:38
-look-requires-3 : tie.Need-look-requires-3
-look-requires-3 c κs = search needs
-
--- src/read.rt:59:29
-answered-requires-3 : tie.Need-answered-requires-3
-answered-requires-3 c κs = search needs
-
--- src/read.rt:50:1
 returns-2 : tie.Need-returns-2
-returns-2 c = ?
+returns-2 c = c .answered .ensures ∙ c .before .look .ensures .says ∙ of-kind _ _ _ (sym (c .before .before .enum-told .given .1))
 
--- src/read.rt:50:1
 returns-3 : tie.Need-returns-3
-returns-3 c = ?
+returns-3 c = c .answered2 .ensures ∙ c .before .look2 .ensures .says ∙ of-kind _ _ _ (sym (c .before .before .enum-told2 .given .1))
 
--- src/read.rt:50:1
 returns-4 : tie.Need-returns-4
-returns-4 c = ?
+returns-4 c = c .answered3 .ensures ∙ c .before .look3 .ensures .says ∙ of-kind _ _ _ (sym (c .before .before .enum-told3 .given .1))
 
 pub look-payload-spec : {M : Type 1} → statement M
 look-payload-spec =
     tie.close
     (tie.spec
-    behind-end-requires
+    (λ c κs. search needs)
     returns
-    enum-told
-    look-requires
-    answered-requires
-    enum-told-2
-    look-requires-2
-    answered-requires-2
-    enum-told-3
-    look-requires-3
-    answered-requires-3
+    (λ c. search needs)
+    (λ c κs. search needs)
+    (λ c κs. search needs)
+    (λ c. search needs)
+    (λ c κs. search needs)
+    (λ c κs. search needs)
+    (λ c. search needs)
+    (λ c κs. search needs)
+    (λ c κs. search needs)
     returns-2
     returns-3
     returns-4)

@@ -1,142 +1,112 @@
+-- `payload::take::read_once` meets its contract: what was read into the tables here is copied where there is room, and else nothing is.
+-- Assumes nothing.
 use borrow.Author.Needs.{needs}
+use mathlib.Core.Path.{_≡_, sym, ap, _∙_}
+use Prim.Native.Nat.{_*_, _≤_}
+use native.Mathlib.Omega.{arith}
+use lib.ListN.{length, take}
+use lib.Seq.{length-take-le}
+use Rattle.answer.specs.Answer.{done}
+use Rattle.answer.proofs.Output.{writes-room}
+use Rattle.frame.specs.Records.{messageWidth, pairWidth, actionWidth}
+use Rattle.payload.specs.declared.Counts.{Counts}
+use Rattle.payload.specs.Payload.{payload}
+use Rattle.payload.specs.Promise.{payloadTells, roomsOf}
+use Rattle.payload.specs.Inner.{passedSaid}
+use Rattle.payload.proofs.Fitting.{own-messages, own-pairs, own-actions, copied-says, copied-fills}
 use Rattle.payload.proofs.take.read_once.Statement.{statement}
 use Rattle.payload.proofs.take.read_once.Tie as tie
-use Rattle.payload.proofs.take.read_once.Reads as reads
-use Rattle.payload.proofs.take.read_once.Lts as lts
-use Rattle.frame.proofs.put.Reads as put-reads
-use Rattle.payload.proofs.take.take.Reads as take-reads
 
--- src/take.rt:76:9
-slice-aggregate-take : tie.Need-slice-aggregate-take
-slice-aggregate-take c = search needs
+-- what was read, of which so much stands at the front of the tables here
+abbrev took : tie.After-known-told → tie.After-take
+took k = k .before .before .before .before .before .before
 
--- src/take.rt:77:9
-slice-aggregate-take-2 : tie.Need-slice-aggregate-take-2
-slice-aggregate-take-2 c = search needs
+abbrev counts : tie.After-known-told → Counts
+counts k =
+    let x = k .before .found .given .0 .0 in
+    record { messages = x .messages; pairs = x .pairs; actions = x .actions }
 
--- src/take.rt:78:9
-slice-aggregate-take-3 : tie.Need-slice-aggregate-take-3
-slice-aggregate-take-3 c = search needs
+said : (k : tie.After-known-told) → done (counts k) (k .before .found .given .0 .0 .at) ≡ passedSaid (took k .take .result)
+said k = ap passedSaid (sym (k .before .found .given .1))
 
--- src/take.rt:72:9
-take-requires : tie.Need-take-requires
-take-requires c κs = search needs
+messages-in : (k : tie.After-known-told) → counts k .messages * messageWidth ≤ length (took k .take .last .1 .1 .1 .0)
+messages-in k = own-messages _ _ _ _ _ _ _ _ _ _ _ (said k ∙ took k .take .ensures .0 .says) (took k .take .ensures .1) .1
 
--- src/take.rt:80:22
-enum-known-found : tie.Need-enum-known-found
-enum-known-found c = search needs
+pairs-in : (k : tie.After-known-told) → counts k .pairs * pairWidth ≤ length (took k .take .last .1 .1 .1 .1 .0)
+pairs-in k = own-pairs _ _ _ _ _ _ _ _ _ _ _ (said k ∙ took k .take .ensures .0 .says) (took k .take .ensures .1) .1
 
--- src/take.rt:81:9
-enum-told : tie.Need-enum-told
-enum-told c = search needs
+actions-in : (k : tie.After-known-told) → counts k .actions * actionWidth ≤ length (took k .take .last .1 .1 .1 .1 .1 .0)
+actions-in k = own-actions _ _ _ _ _ _ _ _ _ _ _ (said k ∙ took k .take .ensures .0 .says) (took k .take .ensures .1) .1
 
--- src/take.rt:81:9
-returns : tie.Need-returns
-returns c = search needs
-
--- src/take.rt:83:27
+-- each table has room
 mul-message-numbers : tie.Need-mul-message-numbers
-mul-message-numbers c = ?
+mul-message-numbers c = omega (arith, c .before .before .before .before .before .if1 .left, c .before .before .before .before .before .before .before .before .before .before .before .before .before .before .before .before .before .before .before .before .before .good)
 
--- src/take.rt:84:24
 mul-pair-numbers : tie.Need-mul-pair-numbers
-mul-pair-numbers c = ?
+mul-pair-numbers c = omega (arith, c .before .before .before .before .if2 .left, c .before .before .before .before .before .before .before .before .before .before .before .before .before .before .before .before .before .before .before .before .before .before .good)
 
--- src/take.rt:85:26
 mul-action-numbers : tie.Need-mul-action-numbers
-mul-action-numbers c = ?
+mul-action-numbers c = omega (arith, c .before .before .before .if3 .left, c .before .before .before .before .before .before .before .before .before .before .before .before .before .before .before .before .before .before .before .before .before .before .before .good)
 
--- src/take.rt:87:9
-returns-2 : tie.Need-returns-2
-returns-2 c = search needs
-
--- src/take.rt:90:9
-returns-3 : tie.Need-returns-3
-returns-3 c = search needs
-
--- src/take.rt:93:9
-returns-4 : tie.Need-returns-4
-returns-4 c = search needs
-
--- src/take.rt:95:24
 array-share-prefix-own-messages : tie.Need-array-share-prefix-own-messages
-array-share-prefix-own-messages c = ?
+array-share-prefix-own-messages c = messages-in (c .before .before .before .before .before .before .before .before .before)
 
--- src/take.rt:95:24
 slice-aggregate-put : tie.Need-slice-aggregate-put
-slice-aggregate-put c = ?
+slice-aggregate-put c = sym (length-take-le _ _ (messages-in (c .before .before .before .before .before .before .before .before .before .before)))
 
--- src/take.rt:95:13
-put-requires : tie.Need-put-requires
-put-requires c κs = search needs
-
--- src/take.rt:96:24
 array-share-prefix-own-pairs : tie.Need-array-share-prefix-own-pairs
-array-share-prefix-own-pairs c = ?
+array-share-prefix-own-pairs c = pairs-in (c .before .before .before .before .before .before .before .before .before .before .before .before .before .before)
 
--- src/take.rt:96:24
 slice-aggregate-put-2 : tie.Need-slice-aggregate-put-2
-slice-aggregate-put-2 c = ?
+slice-aggregate-put-2 c = sym (length-take-le _ _ (pairs-in (c .before .before .before .before .before .before .before .before .before .before .before .before .before .before .before)))
 
--- src/take.rt:96:13
-put-requires-2 : tie.Need-put-requires-2
-put-requires-2 c κs = search needs
-
--- src/take.rt:97:24
 array-share-prefix-own-actions : tie.Need-array-share-prefix-own-actions
-array-share-prefix-own-actions c = ?
+array-share-prefix-own-actions c = actions-in (c .before .before .before .before .before .before .before .before .before .before .before .before .before .before .before .before .before .before .before)
 
--- src/take.rt:97:24
 slice-aggregate-put-3 : tie.Need-slice-aggregate-put-3
-slice-aggregate-put-3 c = ?
+slice-aggregate-put-3 c = sym (length-take-le _ _ (actions-in (c .before .before .before .before .before .before .before .before .before .before .before .before .before .before .before .before .before .before .before .before)))
 
--- src/take.rt:97:13
-put-requires-3 : tie.Need-put-requires-3
-put-requires-3 c κs = search needs
-
--- src/take.rt:57:1
-same-length : tie.Need-same-length
-same-length c = search needs
-
--- src/take.rt:57:1
-same-length-2 : tie.Need-same-length-2
-same-length-2 c = search needs
-
--- src/take.rt:57:1
-same-length-3 : tie.Need-same-length-3
-same-length-3 c = search needs
-
--- src/take.rt:57:1
 returns-5 : tie.Need-returns-5
-returns-5 c = ?
+returns-5 c =
+    let third = c .before .before in
+    let second = third .before .before .before .before .before in
+    let first = second .before .before .before .before .before in
+    let e = first .before .before .before .before .before .before in
+    let k = e .before .before .before .before .before .before in
+    let t = took k in
+    let a = t .before .before .before .before .before .before .before .before .args in
+    let n = counts k in
+    let ms = t .take .last .1 .1 .1 .0 in
+    let ps = t .take .last .1 .1 .1 .1 .0 in
+    let xs = t .take .last .1 .1 .1 .1 .1 .0 in
+    let hm : n .messages * messageWidth ≤ length (a .messages .now) = omega (arith, e .before .before .before .before .if1 .left) in
+    let hp : n .pairs * pairWidth ≤ length (a .pairs .now) = omega (arith, e .before .before .if2 .left) in
+    let ha : n .actions * actionWidth ≤ length (a .actions .now) = omega (arith, e .if3 .left) in
+    let q = said k ∙ t .take .ensures .0 .says in (
+      copied-says _ _ _ _ _ _ _ _ _ _ _ q (t .take .ensures .1) (a .messages .now) (a .pairs .now) (a .actions .now) hm hp ha,
+      copied-fills _ _ _ _ _ _ _ _ _ _ _ q (t .take .ensures .1) (a .messages .now) (a .pairs .now) (a .actions .now) hm hp ha _ _ _
+          (writes-room (take (n .messages * messageWidth) ms) (first .put .ensures) (omega (arith, hm, length-take-le (n .messages * messageWidth) ms (messages-in k))))
+          (writes-room (take (n .pairs * pairWidth) ps) (second .put2 .ensures) (omega (arith, hp, length-take-le (n .pairs * pairWidth) ps (pairs-in k))))
+          (writes-room (take (n .actions * actionWidth) xs) (third .put3 .ensures) (omega (arith, ha, length-take-le (n .actions * actionWidth) xs (actions-in k)))),
+    )
 
 pub read-once-spec : {M : Type 1} → statement M
 read-once-spec =
     tie.close
     (tie.spec
-    slice-aggregate-take
-    slice-aggregate-take-2
-    slice-aggregate-take-3
-    take-requires
-    enum-known-found
-    enum-told
-    returns
+    (λ c. search needs) (λ c. search needs) (λ c. search needs) (λ c κs. search needs) (λ c. search needs) (λ c. search needs) (λ c. search needs)
+    (λ c. search needs) (λ c. search needs) (λ c. search needs)
     mul-message-numbers
     mul-pair-numbers
     mul-action-numbers
-    returns-2
-    returns-3
-    returns-4
     array-share-prefix-own-messages
     slice-aggregate-put
-    put-requires
+    (λ c κs. search needs)
     array-share-prefix-own-pairs
     slice-aggregate-put-2
-    put-requires-2
+    (λ c κs. search needs)
     array-share-prefix-own-actions
     slice-aggregate-put-3
-    put-requires-3
-    same-length
-    same-length-2
-    same-length-3
+    (λ c κs. search needs)
+    (λ c. search needs) (λ c. search needs) (λ c. search needs)
     returns-5)
