@@ -1,11 +1,14 @@
 -- Laws about room: records that were read into other tables are copied from there.
 use mathlib.Core.Path.{_≡_, refl, sym, ap, ap₂, _∙_}
 use mathlib.Core.List.{List}
-use Prim.Native.Nat.{ℕ, _*_, _/_, _≤_}
+use Prim.Native.Nat.{ℕ, _*_, _/_, _≤_, _<_}
 use native.Mathlib.Omega.{arith}
 use lib.ListN.{length, take, drop, length-append}
+use lib.Dec.{leb}
 use lib.Seq.{take-at}
+use borrow.Author.Tests.{lt-leb}
 use Rattle.answer.specs.Answer.{Answer, done, refused, written, leaves}
+use Rattle.answer.specs.Order.{inOrder}
 use Rattle.answer.specs.Table.{joined}
 use Rattle.answer.proofs.Cases.{not-both}
 use Rattle.frame.specs.Records.{messageWidth, messageNumbers, pairWidth, pairNumbers, actionWidth, actionNumbers}
