@@ -4,4 +4,5 @@ pub mod Answer
 pub mod Writes
 pub mod Order
 pub mod Table
+pub mod Row
 pub mod Inner

@@ -11,7 +11,7 @@ use Rattle.frame.specs.declared.FrameCut.{FrameCut}
 use Rattle.frame.specs.declared.FrameCut.the-variants as c
 use Rattle.frame.specs.declared.HeadRead.{HeadRead}
 use Rattle.frame.specs.declared.HeadRead.the-variants as h
-use Rattle.frame.specs.Promise.{HeadLen, WriteHead, cutSaid, Cut, headSaid, ReadHead}
+use Rattle.frame.specs.Promise.{HeadLen, WriteHead, cutSaid, Cut, headSaid, ReadHead, Put}
 
 pub head-len-unique : (h : Head) (r q : ℕ) → HeadLen h r → HeadLen h q → r ≡ q
 head-len-unique h r q p s = one-only p s
@@ -43,3 +43,6 @@ head-same (h.Refused r) (h.Refused q) e = ap h.Refused (refusal-same r q (cc) (c
 
 pub read-head-unique : (frame : List ℕ) (side : Side) (r q : HeadRead) → ReadHead frame side r → ReadHead frame side q → r ≡ q
 read-head-unique frame side r q p s = head-same r q (p ∙ sym s)
+
+pub put-unique : (numbers : List ℕ) (r q : Written) (old new other : List ℕ) → Put numbers r old new → Put numbers q old other → (r ≡ q) × (new ≡ other)
+put-unique numbers r q old new other p s = writes-unique p s

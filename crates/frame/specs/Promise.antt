@@ -38,3 +38,7 @@ headSaid (h.Refused r) = refused (r .number) (r .place)
 
 abbrev pub ReadHead : List ℕ → Side → HeadRead → Type 0
 ReadHead frame side r = headSaid r ≡ head (sender side) frame
+
+-- numbers at the front of a table
+abbrev pub Put : List ℕ → Written → List ℕ → List ℕ → Type 0
+Put numbers r old new = Writes (within (length old) (written numbers)) r old new

@@ -1,11 +1,13 @@
 // Frames (SPOE.txt, section 3.2): the head, written (`write`) and read (`read`), behind the cut by the length. And the records that stand for
 // what a payload holds, as tables of 64-bit numbers have them.
 mod read;
+mod table;
 mod write;
 
 use answer::Refusal;
 pub use read::cut;
 pub use read::read_head;
+pub use table::put;
 use types::Value;
 pub use write::head_len;
 pub use write::write_head;

@@ -1,104 +1,80 @@
--- Laws about the numbers inside pairs and frames: each that is accepted took exactly the bytes that it is written as, so different bytes never give
--- one stream id.
-use mathlib.Core.Path.{_≡_, refl, sym, ap, ap₂, subst, _∙_}
-use mathlib.Core.Bool.{Bool, true, false, cond}
+-- Laws about a frame's two numbers: each took exactly the bytes that it is written as, so different bytes never give one stream id, nor one frame id, whichever
+-- side sent them.
+use mathlib.Core.Path.{_≡_, sym, ap, ap₂, subst, _∙_}
 use mathlib.Core.List.{List, _++_}
-use Prim.Native.Nat.{ℕ, suc, _+_, _-_, _<_}
+use Prim.Native.Nat.{ℕ, _+_}
 use native.Mathlib.Omega.{arith}
-use lib.ListN.{length, take, drop, getD, length-drop, take-append-drop}
-use lib.Seq.{drop-cons, drop-drop, getD-drop, take-add, length-take-le}
+use lib.ListN.{length, take, drop, take-append-drop}
+use lib.Seq.{drop-drop, take-add, length-take-le}
 use Rattle.answer.specs.Answer.{done}
-use Rattle.answer.proofs.Cases.{not-both}
-use Rattle.varint.specs.Number.{numberBytes}
+use Rattle.varint.specs.Number.{number, numberBytes}
 use Rattle.varint.proofs.Reading.{Bytes, accepted, number-exact}
-use Rattle.types.specs.Value.{span, string, value, points, shape, moved, typed}
-use Rattle.types.proofs.Reading.{string-accepted, typed-accepted}
-use Rattle.types.proofs.Exact.{string-exact, DataExact, typed-exact}
-use Rattle.frame.specs.declared.Pair.{Pair}
-use Rattle.parser.specs.declared.Rooms.{Rooms}
 use Rattle.frame.specs.declared.Head.{Head}
-use Rattle.parser.specs.Pair.{pairOf, pair}
-use Rattle.parser.specs.Payload.{Contents}
-use Rattle.frame.specs.declared.Side.the-variants as side
+use Rattle.frame.specs.declared.Side.{Side}
 use Rattle.frame.specs.Read.{answered, sender}
 use Rattle.frame.proofs.Heads.{HeadSays, head-says, head-longer}
+use Rattle.payload.specs.declared.Counts.{Counts}
+use Rattle.payload.specs.Payload.{Contents}
+use Rattle.payload.proofs.Exact.{bytes-drop}
 use Rattle.parser.specs.Frame.{frameRead}
-use Rattle.parser.proofs.Pairs.{done-same, pair-cases, pair-key, pair-value, pair-whole}
-use Rattle.parser.proofs.Accepted.{frame-cut}
+use Rattle.parser.proofs.Frames.{frame-cut}
 
--- ---- bytes of bytes
+-- a number that was read took as many bytes as it is written as
+exact-long : (s : List ℕ) (n used : ℕ) → Bytes s → number s ≡ done n used → used ≡ length (numberBytes n)
+exact-long s n used small e = sym (length-take-le used s (accepted s n used e .2)) ∙ ap length (number-exact s n used small e)
 
-pub bytes-drop : (n : ℕ) (s : List ℕ) → Bytes s → Bytes (drop n s)
-bytes-drop n s small i h = rw (getD-drop n s i 0) (small (n + i) (omega (arith, length-drop n s)))
+module _ (x : Side) (limit : ℕ) (rooms : Counts) (s : List ℕ) (h : Head) (c : Contents) (used : ℕ) (small : Bytes s)
+    (e : frameRead x limit rooms s ≡ answered (done (h, c) used)) where
+  -- Law: the head of an accepted frame says the same of the bytes that the frame was read from.
+  pub frame-head : (start : ℕ) × HeadSays (sender x) s h start
+  frame-head =
+      let q = frame-cut x limit rooms s h c used e .held in
+      let p = head-says (sender x) (take used s) h (q .start) (q .reads) in
+      (q .start, subst (λ (l : List ℕ). HeadSays (sender x) l h (q .start)) (take-append-drop used s) (head-longer (sender x) (take used s) (drop used s) h (q .start) p))
 
--- ---- a pair
+  -- Law: behind its nine bytes of length, type and flags it has exactly the bytes that its stream id is written as, and behind these those of its frame id.
+  pub stream-exact : take (length (numberBytes (h .stream))) (drop 9 s) ≡ numberBytes (h .stream)
+  stream-exact =
+      let i = frame-head .1 in
+      let t = bytes-drop 9 s small in
+      ap (λ (n : ℕ). take n (drop 9 s)) (sym (exact-long (drop 9 s) (h .stream) (i .first) t (i .stream))) ∙ number-exact (drop 9 s) (h .stream) (i .first) t (i .stream)
 
--- its key's length number, and behind the key and the type byte the number of its value, where it has one
-pub record PairExact (s : List ℕ) (p : Pair) (used : ℕ) : Type 0 where
-  pub key : take (p .start) s ≡ numberBytes (p .len)
-  pub inner : DataExact (shape (p .value .kind)) (drop (p .start + p .len + 1) s)
-      (cond (points (shape (p .value .kind))) (p .value .a - (p .start + p .len + 1)) (p .value .a)) (p .value .b) (used - (p .start + p .len + 1))
+  pub frame-exact : take (length (numberBytes (h .frame))) (drop (9 + length (numberBytes (h .stream))) s) ≡ numberBytes (h .frame)
+  frame-exact =
+      let i = frame-head .1 in
+      let at : 9 + i .first ≡ 9 + length (numberBytes (h .stream)) = ap (λ (n : ℕ). 9 + n) (exact-long (drop 9 s) (h .stream) (i .first) (bytes-drop 9 s small) (i .stream)) in
+      let t = bytes-drop (9 + i .first) s small in
+      ap₂ (λ (n m : ℕ). take n (drop m s)) (sym (exact-long (drop (9 + i .first) s) (h .frame) (i .second) t (i .frame))) (sym at)
+      ∙ number-exact (drop (9 + i .first) s) (h .frame) (i .second) t (i .frame)
 
--- Law: so it is of every accepted pair.
-pub pair-exact : (s : List ℕ) (p : Pair) (used : ℕ) → Bytes s → pair s ≡ done p used → PairExact s p used
-pair-exact s p used small e =
-    pair-cases s
-    (λ n place r. not-both e (pair-key s n place r))
-    (λ start len u key n place r. not-both e (pair-value s start len u key n place r))
-    (λ start len u key kind a b f n d.
-    let is = done-same (sym (pair-whole s start len u key (value kind a b f) n d) ∙ e) in
-    rw (sym (is .0), sym (is .1)) (found start len u key kind a b f n d))
-  where
-    found : (start len u : ℕ) → string s ≡ done (span start len) u → (kind a b f n : ℕ) → typed (drop u s) ≡ done (value kind a b f) n
-        → PairExact s (pairOf (span start len) (moved u (value kind a b f))) (u + n)
-    found start len u key kind a b f n d =
-        let k = string-accepted s start len u key in
-        let v = typed-accepted (drop u s) kind a b f n d in
-        let there : u < length s = omega (arith, length-drop u s) in
-        let split = drop-cons s u 0 there in
-        let end : start + len + 1 ≡ suc u = omega arith in
-        let taken : u + n - suc u ≡ n - 1 = omega arith in
-        record {
-          key = string-exact s start len u small key;
-          inner = rw (end, taken, unmoved (points (shape kind)) u a) (typed-exact (getD s u 0) (drop (suc u) s) kind a b f n (bytes-drop (suc u) s small) (ap typed (sym split) ∙ d));
-        }
-      where
-        unmoved : (y : Bool) (m c : ℕ) → cond y (cond y (m + c) c - suc m) (cond y (m + c) c) ≡ cond y (c - 1) c
-        unmoved true m c = omega arith
-        unmoved false m c = refl
+  pub ids-exact : (n : ℕ) × (take n (drop 9 s) ≡ numberBytes (h .stream) ++ numberBytes (h .frame))
+  ids-exact =
+      let first = length (numberBytes (h .stream)) in
+      let second = length (numberBytes (h .frame)) in
+      (first + second, take-add first second (drop 9 s) ∙ ap₂ _++_ stream-exact (ap (take second) (drop-drop first 9 s) ∙ frame-exact))
 
--- ---- a frame's two ids
+-- Law: so of two accepted frames with one stream id the bytes of the id are the same, whichever side sent each; and so it is with one frame id.
+module _ (x y : Side) (limit other : ℕ) (rooms others : Counts) (s t : List ℕ) (h k : Head) (c d : Contents) (used taken : ℕ) (small : Bytes s) (smalls : Bytes t)
+    (e : frameRead x limit rooms s ≡ answered (done (h, c) used)) (f : frameRead y other others t ≡ answered (done (k, d) taken)) where
+  pub one-stream : h .stream ≡ k .stream
+      → (n : ℕ) × (take n (drop 9 s) ≡ numberBytes (h .stream)) × (take n (drop 9 t) ≡ take n (drop 9 s))
+  one-stream same =
+      let one = stream-exact x limit rooms s h c used small e in
+      let two = stream-exact y other others t k d taken smalls f in (
+        length (numberBytes (h .stream)),
+        one,
+        ap (λ (n : ℕ). take (length (numberBytes n)) (drop 9 t)) same ∙ two ∙ ap numberBytes (sym same) ∙ sym one,
+      )
 
--- what the head of an accepted frame says, in the bytes that it was read from
-frame-there : (limit : ℕ) (rooms : Rooms) (s : List ℕ) (m : Head) (c : Contents) (used : ℕ) → frameRead limit rooms s ≡ answered (done (m, c) used)
-    → (start : ℕ) × HeadSays (sender side.HAProxy) s m start
-frame-there limit rooms s m c used e =
-    let o = frame-cut limit rooms s m c used e in
-    let h = o .holds in
-    let says = head-says (sender side.HAProxy) (take used s) m (h .start) (h .head) in
-    (h .start, subst (λ (l : List ℕ). HeadSays (sender side.HAProxy) l m (h .start)) (take-append-drop used s) (head-longer (sender side.HAProxy) (take used s) (drop used s) m (h .start) says))
-
--- Law: behind the nine bytes of length, type and flags, an accepted frame has exactly the bytes that its ids are written as.
-pub ids-exact : (limit : ℕ) (rooms : Rooms) (s : List ℕ) (m : Head) (c : Contents) (used : ℕ) → Bytes s → frameRead limit rooms s ≡ answered (done (m, c) used)
-    → (n : ℕ) × (take n (drop 9 s) ≡ numberBytes (m .stream) ++ numberBytes (m .frame))
-ids-exact limit rooms s m c used small e =
-    let i = frame-there limit rooms s m c used e .1 in (
-      i .first + i .second,
-      take-add (i .first) (i .second) (drop 9 s)
-          ∙ ap₂ _++_ (number-exact (drop 9 s) (m .stream) (i .first) (bytes-drop 9 s small) (i .stream))
-          (ap (take (i .second)) (drop-drop (i .first) 9 s) ∙ number-exact (drop (9 + i .first) s) (m .frame) (i .second) (bytes-drop (9 + i .first) s small) (i .frame)),
-    )
-
--- Law: so of two accepted frames with one stream id, the bytes of the id are the same.
-pub one-stream : (limit other : ℕ) (rooms others : Rooms) (s t : List ℕ) (m k : Head) (c d : Contents) (used taken : ℕ) → Bytes s → Bytes t
-    → frameRead limit rooms s ≡ answered (done (m, c) used) → frameRead other others t ≡ answered (done (k, d) taken) → m .stream ≡ k .stream
-    → (n : ℕ) × (take n (drop 9 s) ≡ numberBytes (m .stream)) × (take n (drop 9 t) ≡ take n (drop 9 s))
-one-stream limit other rooms others s t m k c d used taken small smalls e f same =
-    let i = frame-there limit rooms s m c used e .1 in
-    let j = frame-there other others t k d taken f .1 in
-    let one = number-exact (drop 9 s) (m .stream) (i .first) (bytes-drop 9 s small) (i .stream) in
-    let two = number-exact (drop 9 t) (k .stream) (j .first) (bytes-drop 9 t smalls) (j .stream) in
-    let long : i .first ≡ length (numberBytes (m .stream)) = sym (length-take-le (i .first) (drop 9 s) (accepted (drop 9 s) (m .stream) (i .first) (i .stream) .2)) ∙ ap length one in
-    let far : j .first ≡ length (numberBytes (k .stream)) = sym (length-take-le (j .first) (drop 9 t) (accepted (drop 9 t) (k .stream) (j .first) (j .stream) .2)) ∙ ap length two in
-    let alike : i .first ≡ j .first = long ∙ ap (λ (n : ℕ). length (numberBytes n)) same ∙ sym far in
-    (i .first, one, ap (λ (n : ℕ). take n (drop 9 t)) alike ∙ two ∙ ap numberBytes (sym same) ∙ sym one)
+  pub one-frame : h .frame ≡ k .frame
+      → (n a b : ℕ) × (take n (drop a s) ≡ numberBytes (h .frame)) × (take n (drop b t) ≡ take n (drop a s))
+  one-frame same =
+      let one = frame-exact x limit rooms s h c used small e in
+      let two = frame-exact y other others t k d taken smalls f in
+      let b = 9 + length (numberBytes (k .stream)) in (
+        length (numberBytes (h .frame)),
+        9 + length (numberBytes (h .stream)),
+        b,
+        one,
+        ap (λ (n : ℕ). take (length (numberBytes n)) (drop b t)) same ∙ two ∙ ap numberBytes (sym same) ∙ sym one,
+      )

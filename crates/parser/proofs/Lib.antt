@@ -1,18 +1,10 @@
--- Laws about reading: a pair, pairs one behind the other, payloads to their end, tables that are filled, frames, small payloads; that no second
--- result meets a promise; what the readings keep, what accepted frames hold, the room that they need, a few pairs by value, their order, and what was written.
-pub mod Pairs
-pub mod Runs
-pub mod Walk
-pub mod Filling
+-- Laws about whole frames: what one comes to and what an accepted one is; what the calls say and leave; demand 3, and the same of the tables; order; exact
+-- numbers; written frames read back; and that no second result meets a promise.
 pub mod Frames
-pub mod Copied
-pub mod Unique
+pub mod Calls
 pub mod Kept
-pub mod Accepted
-pub mod Fitting
-pub mod ByValue
 pub mod Entries
 pub mod Order
-pub mod Back
 pub mod Exact
-pub mod Starts
+pub mod Back
+pub mod Unique

@@ -1,106 +1,167 @@
-// What HAProxy sends, read (SPOE.txt, section 3.2): a pair, a payload, a whole frame.
+// Whole frames, read (SPOE.txt, section 3.2): what HAProxy sends (`read_frame`, and `look_frame`, which writes nothing), and what agents send
+// (`read_agent_frame`).
 //
-// No public call has a `requires`: each does its own refusing. A first pass over a payload finds the answer and writes nothing (`look`);
-// only what is accepted is filled in, by a second pass (`fill`). A small list of messages is read in one pass, into tables of its own
-// (`small`). `look_frame` is the first pass alone, and `read_few` gives up to four pairs by value (`by_value`): for readers whose table of pairs is
-// not one of numbers. `read_start` and `read_list` are the head and a KV list by themselves: for the entry that reads what agents send.
-mod by_value;
-mod fill;
-mod head;
-mod look;
-mod pair;
-mod small;
-
+// A frame is cut out of the bytes by its length; then comes its head (both by `frame`), and then the payload of its type (by `payload`). No public
+// call has a `requires`: each does its own refusing.
+use answer::OVERSIZE;
 use answer::Refusal;
-pub use by_value::read_few;
-pub use fill::read_list;
-pub use fill::read_payload;
+use frame::ACK;
+use frame::FrameCut;
 use frame::Head;
-use frame::Pair;
-pub use head::look_frame;
-pub use head::read_frame;
-pub use head::read_start;
-pub use pair::read_pair;
+use frame::HeadRead;
+use frame::NOTIFY;
+use frame::Side;
+use payload::Counts;
+use payload::Payload;
+use payload::PayloadRead;
+ghost use mathlib.Core.Path.{_≡_};
+ghost use Rattle.frame.specs.Read.{sender, answered};
+ghost use Rattle.payload.specs.Promise.{payloadSaid, roomsOf};
+ghost use Rattle.parser.specs.Frame.{payloadOf, framed, frameRead};
+ghost use Rattle.parser.specs.Promise.{frameSaid, frameTells, FrameFills, ReadFrame, ReadAgentFrame, LookFrame};
+ghost use Rattle.parser.specs.Inner.{headed};
 
-// What the pair reader answers.
-pub enum PairRead {
-    Done { pair: Pair, used: usize },
-    Refused(Refusal),
-}
-
-// What the payload reader answers: how many messages and pairs it found, and the bytes that they took, which are all.
-pub enum PayloadRead {
-    Done {
-        messages: usize,
-        pairs: usize,
-        used: usize,
-    },
-    Refused(Refusal),
-}
-
-// How many messages and pairs the lent tables have room for.
-pub struct Rooms {
-    pub messages: usize,
-    pub pairs: usize,
-}
-
-// What the frame reader answers: the frame, with how many messages and pairs it has, and its bytes; or how many bytes are missing.
+// What the frame readers answer: the head, how many records of each sort the frame has, and its bytes; or how many bytes are missing.
 pub enum FrameRead {
     Done {
         head: Head,
-        messages: usize,
-        pairs: usize,
+        counts: Counts,
         used: usize,
     },
     Wait(usize),
     Refused(Refusal),
 }
 
-// What the reader of a frame up to its payload answers: where the payload starts, and where it ends.
-pub enum StartRead {
-    Done {
-        head: Head,
-        start: usize,
-        end: usize,
-    },
-    Wait(usize),
-    Refused(Refusal),
+// What the payload of a frame of this type is a list of.
+fn payload_of(frame_type: u8) -> Payload
+    ensures { λ r. ⌜ r ≡ payloadOf «frame_type» ⌝ }
+{
+    if frame_type == NOTIFY {
+        return Payload::Messages;
+    }
+    if frame_type == ACK {
+        return Payload::Actions;
+    }
+    Payload::KvList
 }
 
-// Up to four pairs by value; those that are not there have no number but 0.
-pub struct Few {
-    pub first: Pair,
-    pub second: Pair,
-    pub third: Pair,
-    pub fourth: Pair,
+// What is said of a frame with this head, whose payload came to this.
+fn with_head(head: Head, found: PayloadRead) -> FrameRead
+    ensures { λ r. ⌜ frameSaid r ≡ answered (headed head (payloadSaid found)) ⌝ }
+{
+    match found {
+        PayloadRead::Refused(r) => FrameRead::Refused(r),
+        PayloadRead::Done { counts, used } => FrameRead::Done { head, counts, used },
+    }
 }
 
-// What the reader of a few pairs answers.
-pub struct FewRead {
-    pub answer: FrameRead,
-    pub few: Few,
+// What is said of a frame whose length is over the limit.
+fn oversize() -> FrameRead
+    ensures { λ r. ⌜ r ≡ FrameRead.Refused (record { number = 2; place = 4 }) ⌝ }
+{
+    FrameRead::Refused(Refusal {
+        number: OVERSIZE,
+        place: 4,
+    })
 }
 
-// How far a pass is: the place, how many arguments of the last message are to come, and how many messages and pairs were met.
-pub(crate) struct State {
-    pub at: usize,
-    pub left: usize,
-    pub messages: usize,
-    pub pairs: usize,
+// Reads a frame that was cut out, with its length bytes, and fills the tables with what it holds.
+fn read_whole(
+    f: &[u8],
+    side: Side,
+    messages: &mut [u64],
+    pairs: &mut [u64],
+    actions: &mut [u64],
+) -> FrameRead
+    ensures { λ r. ⌜ FrameFills (answered (framed (sender side) (roomsOf (now (messages .entry)) (now (pairs .entry)) (now (actions .entry))) (now (f .entry)))) r (now (messages .entry)) (now (messages .exit)) (now (pairs .entry)) (now (pairs .exit)) (now (actions .entry)) (now (actions .exit)) ⌝ }
+{
+    match frame::read_head(f, side) {
+        HeadRead::Refused(r) => {
+            return FrameRead::Refused(r);
+        },
+        HeadRead::Done { head, start } => {
+            let kind = payload_of(head.frame_type);
+            return with_head(
+                head,
+                payload::read_payload(f, start, kind, messages, pairs, actions),
+            );
+        },
+    }
 }
 
-// What a step of a pass finds: how far the pass is behind it, or why it is refused.
-pub(crate) enum Step {
-    On(State),
-    Refused(Refusal),
+// Reads the frame at the front of `input`, of a length within the limit, that this side sends.
+fn read_side(
+    input: &[u8],
+    limit: u32,
+    side: Side,
+    messages: &mut [u64],
+    pairs: &mut [u64],
+    actions: &mut [u64],
+) -> FrameRead
+    ensures { λ r. ⌜ FrameFills (frameRead side limit (roomsOf (now (messages .entry)) (now (pairs .entry)) (now (actions .entry))) (now (input .entry))) r (now (messages .entry)) (now (messages .exit)) (now (pairs .entry)) (now (pairs .exit)) (now (actions .entry)) (now (actions .exit)) ⌝ }
+{
+    match frame::cut(input, limit) {
+        FrameCut::Wait(missing) => {
+            return FrameRead::Wait(missing);
+        },
+        FrameCut::Oversize => {
+            return oversize();
+        },
+        FrameCut::Whole(end) => {
+            return read_whole(&input[..end], side, messages, pairs, actions);
+        },
+    }
 }
 
-// What reading a payload in one pass finds: its counts and bytes, where it was read so; else nothing has changed.
-pub(crate) enum Once {
-    Read {
-        messages: usize,
-        pairs: usize,
-        used: usize,
-    },
-    Left,
+// Reads the frame at the front of `input`, of a length within the limit, that HAProxy sends. Such a frame has no actions.
+pub fn read_frame(input: &[u8], limit: u32, messages: &mut [u64], pairs: &mut [u64]) -> FrameRead
+    ensures { λ r. ⌜ ReadFrame (now (input .entry)) limit r (now (messages .entry)) (now (messages .exit)) (now (pairs .entry)) (now (pairs .exit)) ⌝ }
+{
+    let mut actions = [0; 1];
+    read_side(input, limit, Side::HAProxy, messages, pairs, &mut actions)
+}
+
+// Reads the frame at the front of `input`, of a length within the limit, that an agent sends. Such a frame has no messages.
+pub fn read_agent_frame(
+    input: &[u8],
+    limit: u32,
+    pairs: &mut [u64],
+    actions: &mut [u64],
+) -> FrameRead
+    ensures { λ r. ⌜ ReadAgentFrame (now (input .entry)) limit r (now (pairs .entry)) (now (pairs .exit)) (now (actions .entry)) (now (actions .exit)) ⌝ }
+{
+    let mut messages = [0; 1];
+    read_side(input, limit, Side::Agents, &mut messages, pairs, actions)
+}
+
+// What reading a frame that was cut out comes to, with tables of such rooms.
+fn look_whole(f: &[u8], side: Side, rooms: Counts) -> FrameRead
+    ensures { λ r. ⌜ frameSaid r ≡ frameTells (answered (framed (sender side) rooms (now (f .entry)))) ⌝ }
+{
+    match frame::read_head(f, side) {
+        HeadRead::Refused(r) => {
+            return FrameRead::Refused(r);
+        },
+        HeadRead::Done { head, start } => {
+            let kind = payload_of(head.frame_type);
+            return with_head(head, payload::look_payload(f, start, kind, rooms));
+        },
+    }
+}
+
+// What reading the frame at the front of `input` comes to, that HAProxy sends, with tables of such rooms. It writes nothing.
+pub fn look_frame(input: &[u8], limit: u32, rooms: Counts) -> FrameRead
+    ensures { λ r. ⌜ LookFrame (now (input .entry)) limit rooms r ⌝ }
+{
+    match frame::cut(input, limit) {
+        FrameCut::Wait(missing) => {
+            return FrameRead::Wait(missing);
+        },
+        FrameCut::Oversize => {
+            return oversize();
+        },
+        FrameCut::Whole(end) => {
+            return look_whole(&input[..end], Side::HAProxy, rooms);
+        },
+    }
 }

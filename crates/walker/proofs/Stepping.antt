@@ -1,31 +1,21 @@
 -- Laws about a step: what it comes to, by what stands at its place.
 use mathlib.Core.Path.{_≡_, refl, sym, ap, _∙_}
 use mathlib.Core.Bool.{true, false}
-use mathlib.Core.List.{List, []}
-use Prim.Native.Nat.{ℕ, _+_, _≤_, _<_}
-use native.Mathlib.Nat.{add-zero}
+use mathlib.Core.List.{List}
+use Prim.Native.Nat.{ℕ, _≤_}
 use native.Mathlib.Omega.{arith}
 use lib.ListN.{length, drop, drop-of-length-le}
-use Rattle.answer.specs.Answer.{Answer, done, refused, behind}
+use Rattle.answer.specs.Answer.{Answer, done, refused}
 use Rattle.answer.proofs.Cases.{bool-cases}
 use Rattle.varint.specs.Number.{number}
 use Rattle.varint.proofs.Reading.{number-none}
-use Rattle.types.proofs.Reading.{string-refused}
 use Rattle.frame.specs.declared.Pair.{Pair}
-use Rattle.parser.specs.Pair.{movedPair, pair, pairFrom}
-use Rattle.parser.proofs.Pairs.{pair-key}
+use Rattle.payload.specs.Pair.{pairFrom}
 use Rattle.walker.specs.declared.Place.{Place}
 use Rattle.walker.specs.declared.Step.the-variants as v
 use Rattle.walker.specs.Walk.{comes, afterPlace, stepSaid, walkStep}
 
--- no pair stands behind the end
-pub from-past : (s : List ℕ) (at : ℕ) → length s ≤ at → pairFrom at s ≡ refused 3 at
-from-past s at h =
-    ap (λ (t : List ℕ). behind movedPair at (pair t)) (drop-of-length-le s h)
-    ∙ ap (behind movedPair at) (pair-key [] 3 0 (string-refused [] 3 0 number-none))
-    ∙ ap (refused 3) (add-zero at)
-
--- and no number does
+-- no number stands behind the end
 pub number-past : (s : List ℕ) (at : ℕ) → length s ≤ at → number (drop at s) ≡ refused 3 0
 number-past s at h = ap number (drop-of-length-le s h) ∙ number-none
 

@@ -6,11 +6,10 @@ use Prim.Native.Nat.{ℕ, _+_, _-_, _^_}
 use lib.Dec.{ltb}
 use lib.ListN.{length}
 use Rattle.answer.specs.Answer.{Answer, done, refused}
-use Rattle.varint.specs.Number.{number}
 use Rattle.frame.specs.declared.Pair.{Pair}
 use Rattle.frame.specs.declared.Message.{Message}
-use Rattle.parser.specs.Pair.{pairFrom}
 use Rattle.frame.specs.Read.{numberFrom}
+use Rattle.payload.specs.Pair.{pairFrom}
 use Rattle.walker.specs.declared.Place.{Place}
 use Rattle.walker.specs.declared.Step.{Step}
 use Rattle.walker.specs.declared.Step.the-variants as v

@@ -2,19 +2,11 @@
 use crate::Place;
 use crate::Step;
 use crate::Walker;
-use answer::Refusal;
-use answer::TOO_SOON;
 use frame::Message;
-use frame::Pair;
-use parser::PairRead;
-use types::Value;
+use payload::PairRead;
 use varint::NumberRead;
 ghost use mathlib.Core.Path.{_≡_};
-ghost use Prim.Native.Nat.{_+_, _-_, _≤_, _<_, _^_};
-ghost use Rattle.parser.specs.Pair.{movedPair};
-ghost use Rattle.types.specs.Value.{moved as movedRecord};
-ghost use Rattle.types.specs.Promise.{recordOf};
-ghost use Rattle.walker.specs.Walk.{comes, walkStep, behindNumber};
+ghost use Rattle.walker.specs.Walk.{comes, afterPlace, walkStep, behindNumber};
 ghost use Rattle.walker.specs.Promise.{KvOf, ArgumentsOf, New, Moved, Next, StepFrom};
 
 // Where the number that stands at `at` ends; the end of the bytes where none does.
@@ -76,45 +68,18 @@ fn to_come(frame: &[u8], place: Place) -> bool
     0 < place.left
 }
 
-// One less, where there is one.
-pub(crate) fn one_less(n: usize) -> usize
-    ensures { λ r. ⌜ r ≡ n - 1 ⌝ }
+// Where the walk goes on behind a pair that ends there.
+fn after(place: Place, end: usize) -> Place
+    ensures { λ r. ⌜ r ≡ afterPlace place end ⌝ }
 {
-    if n == 0 {
-        return 0;
+    let mut left = place.left;
+    if 0 < left {
+        left = left - 1;
     }
-    n - 1
-}
-
-// A value that was read behind n other bytes: where it points, its start moves.
-fn moved_value(value: Value, n: u64) -> Value
-    requires { ⌜ (6 ≤ value .kind → value .kind < 10 → value .a + n < 2 ^ 64) ⌝ }
-    ensures { λ r. ⌜ recordOf r ≡ movedRecord n (recordOf value) ⌝ }
-{
-    let kind = value.kind;
-    if kind < 6 {
-        return value;
-    }
-    if 10 <= kind {
-        return value;
-    }
-    Value {
-        kind,
-        a: n + value.a,
-        b: value.b,
-        flags: value.flags,
-    }
-}
-
-// A pair that was read behind n other bytes.
-fn moved_pair(pair: Pair, n: u64) -> Pair
-    requires { ⌜ (pair .start + n < 2 ^ 64) × (6 ≤ pair .value .kind → pair .value .kind < 10 → pair .value .a + n < 2 ^ 64) ⌝ }
-    ensures { λ r. ⌜ r ≡ movedPair n pair ⌝ }
-{
-    Pair {
-        start: n + pair.start,
-        len: pair.len,
-        value: moved_value(pair.value, n),
+    Place {
+        at: end,
+        left,
+        kv: place.kv,
     }
 }
 
@@ -125,28 +90,14 @@ pub(crate) fn step_at(frame: &[u8], place: Place) -> Step
     if !to_come(frame, place) {
         return Step::End;
     }
-    let at = place.at;
-    if frame.len() < at {
-        return Step::Refused(Refusal {
-            number: TOO_SOON,
-            place: at,
-        });
-    }
-    match parser::read_pair(&frame[at..]) {
+    match payload::pair_from(frame, place.at) {
         PairRead::Refused(r) => {
-            return Step::Refused(Refusal {
-                number: r.number,
-                place: at + r.place,
-            });
+            return Step::Refused(r);
         },
         PairRead::Done { pair, used } => {
             return Step::Found {
-                pair: moved_pair(pair, at as u64),
-                next: Place {
-                    at: at + used,
-                    left: one_less(place.left),
-                    kv: place.kv,
-                },
+                pair,
+                next: after(place, used),
             };
         },
     }
