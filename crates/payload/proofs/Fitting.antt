@@ -7,16 +7,20 @@ use lib.ListN.{length, take, drop, length-append}
 use lib.Dec.{leb}
 use lib.Seq.{take-at}
 use borrow.Author.Tests.{lt-leb}
+use Rattle.answer.specs.declared.Refusal.{Refusal}
 use Rattle.answer.specs.Answer.{Answer, done, refused, written, leaves}
 use Rattle.answer.specs.Order.{inOrder}
 use Rattle.answer.specs.Table.{joined}
 use Rattle.answer.proofs.Cases.{not-both}
 use Rattle.frame.specs.Records.{messageWidth, messageNumbers, pairWidth, pairNumbers, actionWidth, actionNumbers}
 use Rattle.payload.specs.declared.Counts.{Counts}
+use Rattle.payload.specs.declared.Cursor.{Cursor}
+use Rattle.payload.specs.declared.Passed.{Passed}
+use Rattle.payload.specs.declared.Passed.the-variants as p
 use Rattle.payload.specs.declared.Payload.{Payload}
 use Rattle.payload.specs.Payload.{Contents, payload}
 use Rattle.payload.specs.Promise.{countsOf, payloadTells, roomsOf, Fills}
-use Rattle.payload.specs.Inner.{Accepted, Leaves, LeavesAccepted}
+use Rattle.payload.specs.Inner.{passedSaid, Passes, Accepted, Leaves, LeavesAccepted}
 use Rattle.payload.proofs.Pairs.{done-same}
 use Rattle.payload.proofs.Filling.{joined-width}
 use Rattle.payload.proofs.Kept.{Within}
@@ -94,3 +98,20 @@ module _ (kind : Payload) (rooms : Counts) (start : ℕ) (s : List ℕ) (h : len
 
   pub behind-fills : (messages pairs actions : List ℕ) → Fills (payload kind rooms start s) messages messages pairs pairs actions actions
   behind-fills messages pairs actions = rw behind-refused (record { messages = refl; pairs = refl; actions = refl })
+
+-- ---- what a pass says of the payload
+
+module _ {kind : Payload} {rooms : Counts} {start : ℕ} {s : List ℕ} {r : Passed} (g : Passes kind rooms start s r) where
+  pub passed-accepted : {x : Cursor} → r ≡ p.Done x → Accepted kind rooms start s
+  passed-accepted {x} e =
+      let o = tells-done (payload kind rooms start s) (record { messages = x .messages; pairs = x .pairs; actions = x .actions }) (x .at) (ap passedSaid (sym e) ∙ g .says) in
+      record { contents = o .0; end = x .at; is = o .1 }
+
+  pub passed-nothing : {q : Refusal} {x : Cursor} → r ≡ p.Refused q x → (messages pairs actions : List ℕ) → Fills (payload kind rooms start s) messages messages pairs pairs actions actions
+  passed-nothing {q} e messages pairs actions =
+      let says : refused (q .number) (q .place) ≡ payloadTells (payload kind rooms start s) = ap passedSaid (sym e) ∙ g .says in
+      go (payload kind rooms start s) says
+    where
+      go : (a : Answer Contents) → refused (q .number) (q .place) ≡ payloadTells a → Fills a messages messages pairs pairs actions actions
+      go (done c n) f = not-both refl (sym f)
+      go (refused n place) f = record { messages = refl; pairs = refl; actions = refl }

@@ -60,7 +60,39 @@ pub fn look_payload(input: &[u8], start: usize, kind: Payload, rooms: Counts) ->
     }
 }
 
-// Reads a payload that starts within the bytes: in one pass where it is small, else looks and then fills.
+// Reads a payload that starts within the bytes: looks, and then fills.
+fn look_and_fill(
+    input: &[u8],
+    start: usize,
+    kind: Payload,
+    messages: &mut [u64],
+    pairs: &mut [u64],
+    actions: &mut [u64],
+) -> PayloadRead
+    requires { ⌜ start ≤ length (now input) ⌝ }
+    ensures { λ r. ⌜ ReadPayload kind start (now (input .entry)) r (now (messages .entry)) (now (messages .exit)) (now (pairs .entry)) (now (pairs .exit)) (now (actions .entry)) (now (actions .exit)) ⌝ }
+{
+    let rooms = Counts {
+        messages: messages.len() / MESSAGE_WIDTH,
+        pairs: pairs.len() / PAIR_WIDTH,
+        actions: actions.len() / ACTION_WIDTH,
+    };
+    let passed = look(input, start, kind, rooms);
+    match passed {
+        Passed::Refused {
+            refusal: _,
+            cursor: _,
+        } => {
+            return answered(passed);
+        },
+        Passed::Done(_) => {
+            fill(input, start, kind, messages, pairs, actions);
+            return answered(passed);
+        },
+    }
+}
+
+// The same in one pass where it is small.
 fn read_within(
     input: &[u8],
     start: usize,
@@ -72,20 +104,14 @@ fn read_within(
     requires { ⌜ start ≤ length (now input) ⌝ }
     ensures { λ r. ⌜ ReadPayload kind start (now (input .entry)) r (now (messages .entry)) (now (messages .exit)) (now (pairs .entry)) (now (pairs .exit)) (now (actions .entry)) (now (actions .exit)) ⌝ }
 {
-    let once = read_once(input, start, kind, messages, pairs, actions);
-    if let Once::Read { counts, used } = once {
-        return PayloadRead::Done { counts, used };
+    match read_once(input, start, kind, messages, pairs, actions) {
+        Once::Read { counts, used } => {
+            return PayloadRead::Done { counts, used };
+        },
+        Once::Left => {
+            return look_and_fill(input, start, kind, messages, pairs, actions);
+        },
     }
-    let rooms = Counts {
-        messages: messages.len() / MESSAGE_WIDTH,
-        pairs: pairs.len() / PAIR_WIDTH,
-        actions: actions.len() / ACTION_WIDTH,
-    };
-    let passed = look(input, start, kind, rooms);
-    if let Passed::Done(_) = passed {
-        fill(input, start, kind, messages, pairs, actions);
-    }
-    answered(passed)
 }
 
 // Reads the payload that starts at `start`, and fills the tables with what it holds.
