@@ -15,7 +15,8 @@ use Rattle.frame.specs.Head.{fourNumber}
 use Rattle.frame.specs.Read.{wait, answered, cut}
 use Rattle.frame.specs.Promise.{cutSaid, Cut}
 use Rattle.frame.proofs.Laws.{four-kept}
-use Rattle.frame.proofs.Answers.{done-same, refused-same, wait-same, wait-answered, answered-same}
+use Rattle.frame.proofs.Answers.{wait-same, wait-answered, answered-same}
+use Rattle.answer.proofs.Answers.{done-same, refused-same}
 
 module _ (limit : ℕ) (s : List ℕ) where
   pub cut-start : length s < 4 → cut limit s ≡ wait (4 - length s)

@@ -22,7 +22,7 @@ use Rattle.frame.specs.declared.Side.the-variants as side
 use Rattle.frame.specs.Head.{fourNumber}
 use Rattle.frame.specs.Read.{Sender, haproxyTypes, agentTypes, frameTypes, finSet, sender, still, numberFrom, head}
 use Rattle.frame.proofs.Laws.{four-kept}
-use Rattle.frame.proofs.Answers.{done-same, line-passed, next-done}
+use Rattle.answer.proofs.Answers.{done-same, line-passed, next-done}
 
 -- ---- the lines of the order, one after the other
 

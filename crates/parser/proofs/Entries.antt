@@ -11,7 +11,8 @@ use Rattle.frame.specs.declared.Head.{Head}
 use Rattle.frame.specs.declared.Side.{Side}
 use Rattle.frame.specs.Read.{Reading, wait, answered}
 use Rattle.frame.specs.Records.{messageWidth, messageNumbers, pairWidth, pairNumbers, actionWidth, actionNumbers}
-use Rattle.frame.proofs.Answers.{done-same, wait-answered, answered-same}
+use Rattle.frame.proofs.Answers.{wait-answered, answered-same}
+use Rattle.answer.proofs.Answers.{done-same}
 use Rattle.payload.specs.declared.Counts.{Counts}
 use Rattle.payload.specs.Payload.{Contents}
 use Rattle.payload.specs.Promise.{countsOf, tableLeft}

@@ -17,7 +17,8 @@ use Rattle.frame.specs.declared.Side.{Side}
 use Rattle.frame.specs.declared.Side.the-variants as side
 use Rattle.frame.specs.Head.{fourNumber}
 use Rattle.frame.specs.Read.{Reading, answered, onward, cut, Sender, sender, head, haproxyTypes, agentTypes}
-use Rattle.frame.proofs.Answers.{done-same, next-done, answered-same, onward-done}
+use Rattle.frame.proofs.Answers.{answered-same, onward-done}
+use Rattle.answer.proofs.Answers.{done-same, next-done}
 use Rattle.frame.proofs.Cutting.{cut-out}
 use Rattle.frame.proofs.Heads.{HeadSays, head-says, three}
 use Rattle.payload.specs.declared.Counts.{Counts}

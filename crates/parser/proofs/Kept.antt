@@ -17,7 +17,7 @@ use Rattle.frame.proofs.Heads.{head-says}
 use Rattle.payload.specs.declared.Counts.{Counts}
 use Rattle.payload.specs.declared.Payload.{Payload}
 use Rattle.payload.specs.Payload.{Contents, payload}
-use Rattle.payload.proofs.Rowing.{kept-done, kept-refused}
+use Rattle.answer.proofs.Row.{kept-done, kept-refused}
 use Rattle.payload.proofs.Kept.{Table, table, Within, Stays, Keeps, same-keeps, next-keeps, payload-keeps}
 use Rattle.parser.specs.Frame.{payloadOf, framed, frameRead}
 use Rattle.parser.proofs.Frames.{frame-on}

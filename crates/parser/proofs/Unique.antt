@@ -6,7 +6,8 @@ use native.Mathlib.Omega.{arith}
 use Rattle.answer.proofs.Same.{refusal-same}
 use Rattle.frame.specs.declared.Head.{Head}
 use Rattle.frame.specs.Read.{Reading}
-use Rattle.frame.proofs.Answers.{done-same, answered-same}
+use Rattle.frame.proofs.Answers.{answered-same}
+use Rattle.answer.proofs.Answers.{done-same}
 use Rattle.payload.specs.declared.Counts.{Counts}
 use Rattle.payload.specs.Payload.{Contents}
 use Rattle.parser.specs.declared.FrameRead.{FrameRead}

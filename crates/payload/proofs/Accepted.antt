@@ -21,7 +21,7 @@ use Rattle.types.proofs.Reading.{string-accepted, string-place}
 use Rattle.frame.specs.declared.Pair.{Pair}
 use Rattle.frame.specs.declared.Message.{Message}
 use Rattle.frame.specs.declared.Action.{Action}
-use Rattle.frame.proofs.Answers.{done-same, line-passed, next-done}
+use Rattle.answer.proofs.Answers.{done-same, line-passed, next-done}
 use Rattle.payload.specs.declared.Counts.{Counts}
 use Rattle.payload.specs.declared.Payload.{Payload}
 use Rattle.payload.specs.declared.Payload.the-variants as k
@@ -35,7 +35,7 @@ use Rattle.payload.proofs.Rows.{from-next, run-on}
 use Rattle.payload.proofs.Actions.{action-inside, action-place, action-next}
 use Rattle.payload.proofs.Steps.{string-next, message-says, message-next}
 use Rattle.payload.proofs.Kept.{Within}
-use Rattle.payload.proofs.Rowing.{Row, row-as, Found, found-row, puts, Read, many-read, end-read, many-holds, end-holds, ends, next-ends, line-ends, many-ends, end-ends, end-all}
+use Rattle.answer.proofs.Row.{Row, row-as, Found, found-row, puts, Read, many-read, end-read, many-holds, end-holds, ends, next-ends, line-ends, many-ends, end-ends, end-all}
 
 -- ---- one more of each sort
 

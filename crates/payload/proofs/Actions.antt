@@ -17,7 +17,8 @@ use Rattle.types.proofs.Shapes.{points-yes}
 use Rattle.frame.specs.declared.Pair.{Pair}
 use Rattle.frame.specs.declared.Action.{Action}
 use Rattle.payload.specs.Pair.{pairOf, movedPair, pair}
-use Rattle.payload.proofs.Pairs.{done-same, refused-same, pair-accepted, pair-place}
+use Rattle.payload.proofs.Pairs.{pair-accepted, pair-place}
+use Rattle.answer.proofs.Answers.{done-same, refused-same}
 use Rattle.payload.specs.Action.{argumentCount, variable, action, movedAction, actionFrom}
 use Rattle.payload.specs.Inner.{Headed}
 

@@ -15,7 +15,7 @@ use Rattle.types.proofs.Roundtrip.{Meaning, means, meaning, ahead, string-reads
 use Rattle.frame.specs.declared.Pair.{Pair}
 use Rattle.frame.specs.declared.Action.{Action}
 use Rattle.frame.specs.Records.{keyOf}
-use Rattle.frame.proofs.Answers.{done-same}
+use Rattle.answer.proofs.Answers.{done-same}
 use Rattle.frame.proofs.Meaning.{pairMeaning, actionMeaning}
 use Rattle.payload.specs.Pair.{pairOf, movedPair, pair}
 use Rattle.payload.specs.Action.{action}

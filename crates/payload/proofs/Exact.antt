@@ -14,7 +14,7 @@ use Rattle.types.specs.Value.{span, string, value, points, shape, moved, typed}
 use Rattle.types.proofs.Reading.{string-accepted, typed-accepted}
 use Rattle.types.proofs.Exact.{string-exact, DataExact, typed-exact}
 use Rattle.frame.specs.declared.Pair.{Pair}
-use Rattle.frame.proofs.Answers.{done-same}
+use Rattle.answer.proofs.Answers.{done-same}
 use Rattle.payload.specs.Pair.{pairOf, pair}
 use Rattle.payload.proofs.Pairs.{pair-cases, pair-key, pair-value, pair-whole}
 

@@ -21,7 +21,7 @@ use Rattle.payload.specs.declared.Payload.{Payload}
 use Rattle.payload.specs.Payload.{Contents, payload}
 use Rattle.payload.specs.Promise.{countsOf, payloadTells, roomsOf, Fills}
 use Rattle.payload.specs.Inner.{passedSaid, Passes, Accepted, Leaves, LeavesAccepted}
-use Rattle.payload.proofs.Pairs.{done-same}
+use Rattle.answer.proofs.Answers.{done-same}
 use Rattle.payload.proofs.Filling.{joined-width}
 use Rattle.payload.proofs.Kept.{Within}
 use Rattle.payload.proofs.Holding.{payload-fits}

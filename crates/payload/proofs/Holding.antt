@@ -23,7 +23,7 @@ use Rattle.payload.specs.Inner.{Run}
 use Rattle.payload.proofs.Rows.{from-next, run-on}
 use Rattle.payload.proofs.Actions.{action-next}
 use Rattle.payload.proofs.Steps.{message-next, pair-taken, message-taken, action-taken}
-use Rattle.payload.proofs.Rowing.{Row, Reads, reads-on, many-so, end-so}
+use Rattle.answer.proofs.Row.{Row, Reads, reads-on, many-so, end-so}
 use Rattle.payload.proofs.Kept.{Within}
 use Rattle.payload.proofs.Accepted.{payload-all, kv-run, messages-run, actions-run, withGroup, Group, Once, put-pairs, put-actions, pairsOf, messagesOf, put-groups}
 

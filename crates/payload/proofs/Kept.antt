@@ -20,7 +20,7 @@ use Rattle.payload.specs.declared.Payload.the-variants as k
 use Rattle.payload.specs.Pair.{pairFrom}
 use Rattle.payload.specs.Action.{actionFrom}
 use Rattle.payload.specs.Payload.{Contents, empty, withMessage, withPair, withAction, messageFrom, met, onePair, oneMessage, oneAction, oneOf, payload}
-use Rattle.payload.proofs.Rowing.{Kept, KeptAs, kept-done, kept-refused, kept-same, kept-next, many-kept, end-kept}
+use Rattle.answer.proofs.Row.{Kept, KeptAs, kept-done, kept-refused, kept-same, kept-next, many-kept, end-kept}
 
 -- the tables that a payload's records go into
 pub data Table : Payload → Type 0 where

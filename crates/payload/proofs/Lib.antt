@@ -8,7 +8,6 @@ pub mod Steps
 pub mod Tests
 pub mod Passing
 pub mod Filling
-pub mod Rowing
 pub mod Kept
 pub mod Accepted
 pub mod Holding

@@ -17,7 +17,7 @@ use Rattle.payload.specs.Inner.{Run}
 use Rattle.payload.proofs.Pairs.{pair-cases, pair-key, pair-value, pair-whole}
 use Rattle.payload.proofs.Rows.{from-next}
 use Rattle.payload.proofs.Steps.{count-there, string-next, message-says}
-use Rattle.payload.proofs.Rowing.{Row, row-as, Found, found-row, row-found}
+use Rattle.answer.proofs.Row.{Row, row-as, Found, found-row, row-found}
 use Rattle.payload.proofs.Accepted.{Group}
 
 -- Law: a pair at the front.

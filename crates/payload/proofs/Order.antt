@@ -15,7 +15,7 @@ use Rattle.payload.specs.Payload.{Contents, payload}
 use Rattle.payload.specs.Inner.{Run}
 use Rattle.payload.proofs.Pairs.{from-lies}
 use Rattle.payload.proofs.Steps.{message-next}
-use Rattle.payload.proofs.Rowing.{Row}
+use Rattle.answer.proofs.Row.{Row}
 use Rattle.payload.proofs.Accepted.{Group, pairsOf, payload-start, payload-all, kv-run, messages-run, actions-run}
 
 -- The keys start behind a place, one behind the other, and not behind an end.

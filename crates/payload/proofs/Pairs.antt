@@ -9,6 +9,7 @@ use native.Mathlib.Omega.{arith}
 use lib.ListN.{length, take, drop, length-drop, drop-of-length-le}
 use Rattle.answer.specs.Answer.{Answer, done, refused, behind}
 use Rattle.answer.proofs.Cases.{not-both, answer-cases}
+use Rattle.answer.proofs.Answers.{done-same, refused-same}
 use Rattle.answer.proofs.Output.{lent-tail}
 use Rattle.varint.proofs.Reading.{number-none}
 use Rattle.types.specs.Value.{Span, span, string, Record, value, points, shape, moved, typed}
@@ -16,14 +17,6 @@ use Rattle.types.proofs.Reading.{string-refused, string-accepted, string-place,
 use Rattle.types.proofs.Shapes.{points-yes}
 use Rattle.frame.specs.declared.Pair.{Pair}
 use Rattle.payload.specs.Pair.{pairOf, movedPair, pair, pairFrom}
-
--- what a reader says of `&s[at..]`, which it was lent
-pub lent : {A : Type 0} (reader : List ℕ → Answer A) (s : List ℕ) (at : ℕ) {a b : Answer A} → a ≡ reader (take (length s - at) (drop at s)) → a ≡ b → reader (drop at s) ≡ b
-lent reader s at e is = ap reader (sym (lent-tail at s)) ∙ sym e ∙ is
-
--- a refusal of something is one of anything else
-pub refused-as : {A B : Type 0} {n place m p : ℕ} → _≡_ {A = Answer A} (refused n place) (refused m p) → _≡_ {A = Answer B} (refused n place) (refused m p)
-refused-as {n = n} {place = place} {m = m} {p = p} e = let q : n ≡ m = cc in let o : place ≡ p = cc in cc
 
 -- ---- how it unrolls
 
@@ -67,12 +60,6 @@ pub record Inside (there : ℕ) (p : Pair) (used : ℕ) : Type 0 where
   pub first : 1 ≤ p .start
   pub key : p .start + p .len ≤ used
   pub value : 6 ≤ p .value .kind → p .value .kind < 10 → p .value .a + p .value .b ≤ used
-
-pub done-same : {A : Type 0} {x y : A} {m k : ℕ} → _≡_ {A = Answer A} (done x m) (done y k) → (x ≡ y) × (m ≡ k)
-done-same e = ((cc), (cc))
-
-pub refused-same : {A : Type 0} {n place m p : ℕ} → _≡_ {A = Answer A} (refused n place) (refused m p) → (n ≡ m) × (place ≡ p)
-refused-same e = ((cc), (cc))
 
 -- Law: every accepted pair is so.
 pub pair-accepted : (s : List ℕ) (p : Pair) (used : ℕ) → pair s ≡ done p used → Inside (length s) p used

@@ -13,7 +13,8 @@ use Rattle.answer.proofs.Records.{some-none, some-here, some-later}
 use Rattle.frame.specs.declared.Pair.{Pair}
 use Rattle.payload.specs.Pair.{movedPair, pair, pairFrom}
 use Rattle.payload.specs.Inner.{Run}
-use Rattle.payload.proofs.Pairs.{done-same, moved-twice, from-lies}
+use Rattle.payload.proofs.Pairs.{moved-twice, from-lies}
+use Rattle.answer.proofs.Answers.{done-same}
 
 -- Law: a pair that stands at a place ends behind it, and within the bytes.
 pub from-next : (s : List ℕ) (at : ℕ) (p : Pair) (next : ℕ) → pairFrom at s ≡ done p next → (2 + at ≤ next) × (at ≤ length s) × (next ≤ length s)

@@ -14,7 +14,7 @@ use Rattle.answer.proofs.Cases.{lt-or-le, bool-cases, true-false, answer-cases,
 use Rattle.types.specs.Value.{Span, span, string, value, shape}
 use Rattle.frame.specs.declared.Pair.{Pair}
 use Rattle.frame.specs.declared.Action.{Action}
-use Rattle.frame.proofs.Answers.{done-same}
+use Rattle.answer.proofs.Answers.{done-same}
 use Rattle.payload.specs.Pair.{pairOf, movedPair, pairFrom}
 use Rattle.payload.specs.Action.{argumentCount, variable, action, movedAction, actionFrom}
 use Rattle.payload.specs.Payload.{movedSpan, stringFrom}

@@ -21,7 +21,7 @@ use Rattle.payload.specs.declared.Counts.{Counts}
 use Rattle.payload.specs.Pair.{pairFrom}
 use Rattle.payload.specs.Action.{actionFrom}
 use Rattle.payload.specs.Payload.{Contents, withPair, withMessage, withAction, movedSpan, stringFrom, messageOf, messageFrom, met, onePair, oneMessage, oneAction}
-use Rattle.payload.proofs.Pairs.{done-same}
+use Rattle.answer.proofs.Answers.{done-same}
 
 -- ---- a message's name and count
 

@@ -24,7 +24,7 @@ use Rattle.payload.specs.Pair.{pairFrom}
 use Rattle.payload.specs.Payload.{Contents, payload}
 use Rattle.payload.specs.Inner.{Run}
 use Rattle.payload.proofs.Rows.{from-next}
-use Rattle.payload.proofs.Rowing.{Row, row-as, Found, row-found}
+use Rattle.answer.proofs.Row.{Row, row-as, Found, row-found}
 use Rattle.payload.proofs.Accepted.{payload-all, kv-run, messages-run, argumentsIn, Whole, messages-whole}
 use Rattle.parser.specs.Frame.{payloadOf, frameRead}
 use Rattle.parser.proofs.Frames.{frame-cut}

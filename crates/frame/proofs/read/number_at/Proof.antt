@@ -11,7 +11,7 @@ use Rattle.varint.specs.Number.{number}
 use Rattle.varint.specs.Promise.{numberSaid}
 use Rattle.varint.proofs.Reading.{accepted, number-place}
 use Rattle.frame.specs.Read.{still}
-use Rattle.frame.proofs.Answers.{lent}
+use Rattle.answer.proofs.Answers.{lent}
 use Rattle.frame.proofs.read.number_at.Statement.{statement}
 use Rattle.frame.proofs.read.number_at.Tie as tie
 

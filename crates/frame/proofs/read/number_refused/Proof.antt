@@ -4,7 +4,7 @@ use borrow.Author.Needs.{needs}
 use mathlib.Core.Path.{sym, ap, _∙_}
 use Rattle.answer.proofs.Cases.{not-both}
 use Rattle.varint.specs.Promise.{numberSaid}
-use Rattle.frame.proofs.Answers.{refused-as}
+use Rattle.answer.proofs.Answers.{refused-as}
 use Rattle.frame.proofs.read.number_refused.Statement.{statement}
 use Rattle.frame.proofs.read.number_refused.Tie as tie
 

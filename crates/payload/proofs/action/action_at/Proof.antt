@@ -10,7 +10,8 @@ use Rattle.types.proofs.Shapes.{points-yes}
 use Rattle.frame.specs.declared.Action.{Action}
 use Rattle.payload.specs.Action.{action, movedAction, actionFrom}
 use Rattle.payload.specs.Inner.{variableMoved, actionBehind, actionSaid}
-use Rattle.payload.proofs.Pairs.{lent, moved-twice}
+use Rattle.payload.proofs.Pairs.{moved-twice}
+use Rattle.answer.proofs.Answers.{lent}
 use Rattle.payload.proofs.Actions.{Inside, action-none-at, action-some-at}
 use Rattle.payload.proofs.action.action_at.Statement.{statement}
 use Rattle.payload.proofs.action.action_at.Tie as tie

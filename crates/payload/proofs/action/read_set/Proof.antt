@@ -7,7 +7,8 @@ use Prim.Native.Nat.{ℕ}
 use native.Mathlib.Omega.{arith}
 use lib.ListN.{drop, length-drop}
 use Rattle.answer.specs.Answer.{Answer}
-use Rattle.payload.proofs.Pairs.{lent, pair-accepted, pair-place}
+use Rattle.payload.proofs.Pairs.{pair-accepted, pair-place}
+use Rattle.answer.proofs.Answers.{lent}
 use Rattle.payload.specs.Inner.{actionBehind}
 use Rattle.payload.proofs.Actions.{set-refused, set-done}
 use Rattle.frame.specs.declared.Pair.{Pair}

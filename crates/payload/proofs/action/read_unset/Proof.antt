@@ -7,7 +7,7 @@ use Prim.Native.Nat.{ℕ}
 use native.Mathlib.Omega.{arith}
 use lib.ListN.{drop, length-drop}
 use Rattle.answer.specs.Answer.{Answer}
-use Rattle.payload.proofs.Pairs.{lent}
+use Rattle.answer.proofs.Answers.{lent}
 use Rattle.payload.specs.Inner.{actionBehind}
 use Rattle.payload.proofs.Actions.{name-refused, name-done}
 use Rattle.types.specs.Value.{Span, string}

@@ -12,7 +12,7 @@ use Rattle.types.proofs.Reading.{string-place, string-accepted}
 use Rattle.payload.specs.declared.Item.the-variants as i
 use Rattle.payload.specs.Payload.{movedSpan, stringFrom}
 use Rattle.payload.specs.Item.{itemOf}
-use Rattle.payload.proofs.Pairs.{lent}
+use Rattle.answer.proofs.Answers.{lent}
 use Rattle.payload.proofs.Steps.{name-refused, count-missing, count-there}
 use Rattle.payload.proofs.next.message_item.Statement.{statement}
 use Rattle.payload.proofs.next.message_item.Tie as tie

@@ -4,7 +4,7 @@ use borrow.Author.Needs.{needs}
 use mathlib.Core.Path.{sym, ap, _∙_}
 use Rattle.answer.proofs.Cases.{not-both}
 use Rattle.types.specs.Promise.{stringSaid}
-use Rattle.payload.proofs.Pairs.{refused-as}
+use Rattle.answer.proofs.Answers.{refused-as}
 use Rattle.payload.proofs.pair.key_refused.Statement.{statement}
 use Rattle.payload.proofs.pair.key_refused.Tie as tie
 

@@ -9,7 +9,8 @@ use Rattle.answer.specs.Answer.{Answer, done}
 use Rattle.frame.specs.declared.Pair.{Pair}
 use Rattle.payload.specs.Pair.{movedPair, pair, pairFrom}
 use Rattle.payload.specs.Promise.{pairSaid}
-use Rattle.payload.proofs.Pairs.{lent, Inside, from-none, from-some}
+use Rattle.payload.proofs.Pairs.{Inside, from-none, from-some}
+use Rattle.answer.proofs.Answers.{lent}
 use Rattle.payload.proofs.pair.pair_at.Statement.{statement}
 use Rattle.payload.proofs.pair.pair_at.Tie as tie
 

@@ -12,7 +12,8 @@ use Rattle.types.specs.Promise.{stringSaid, valueSaid}
 use Rattle.types.proofs.Shapes.{points-yes}
 use Rattle.types.proofs.Reading.{string-accepted, typed-accepted, typed-place}
 use Rattle.payload.specs.Pair.{pairOf}
-use Rattle.payload.proofs.Pairs.{lent, pair-key, pair-value, pair-whole}
+use Rattle.payload.proofs.Pairs.{pair-key, pair-value, pair-whole}
+use Rattle.answer.proofs.Answers.{lent}
 use Rattle.payload.proofs.pair.read_pair.Statement.{statement}
 use Rattle.payload.proofs.pair.read_pair.Tie as tie
 

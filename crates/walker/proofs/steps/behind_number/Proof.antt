@@ -11,7 +11,7 @@ use Rattle.varint.specs.Number.{number}
 use Rattle.varint.specs.Promise.{numberSaid}
 use Rattle.varint.proofs.Reading.{accepted}
 use Rattle.frame.specs.Read.{still}
-use Rattle.frame.proofs.Answers.{lent}
+use Rattle.answer.proofs.Answers.{lent}
 use Rattle.walker.specs.Walk.{endOr}
 use Rattle.walker.proofs.Stepping.{number-past}
 use Rattle.walker.proofs.steps.behind_number.Statement.{statement}

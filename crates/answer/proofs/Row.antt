@@ -9,11 +9,11 @@ use native.Mathlib.Omega.{arith}
 use lib.Dec.{ltb}
 use lib.ListN.{length}
 use borrow.Author.Tests.{lt-ltb, le-ltb}
 use Rattle.answer.specs.Answer.{Answer, done, refused, next}
 use Rattle.answer.specs.Row.{soMany, toEnd}
 use Rattle.answer.specs.Inner.{InRow}
 use Rattle.answer.proofs.Cases.{lt-or-le, bool-cases}
-use Rattle.frame.proofs.Answers.{done-same, next-done}
+use Rattle.answer.proofs.Answers.{done-same, next-done}
 
 -- ---- rows
 
