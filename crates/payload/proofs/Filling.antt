@@ -31,8 +31,8 @@ use Rattle.payload.specs.declared.Payload.{Payload}
 use Rattle.payload.specs.Payload.{Contents, empty, met, payload}
 use Rattle.payload.specs.Item.{itemAt}
 use Rattle.payload.specs.Promise.{roomsOf, Fills}
-use Rattle.payload.specs.Inner.{began, afterItem, withItem, follows, refusedAt, tests, Stands, Goes, Fits, putAt, Stores, Accepted, Leaves}
-use Rattle.payload.proofs.Passing.{goes-start, stands-start, goes-then, Then}
+use Rattle.payload.specs.Inner.{began, afterItem, follows, refusedAt, tests, Stands, Goes, Fits, putAt, Stores, Accepted, Leaves}
+use Rattle.payload.proofs.Passing.{withItem, goes-start, stands-start, goes-then, Then}
 
 -- ---- records, one after the other
 

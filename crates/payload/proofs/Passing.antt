@@ -29,7 +29,7 @@ use Rattle.payload.specs.Pair.{pairFrom}
 use Rattle.payload.specs.Action.{actionFrom}
 use Rattle.payload.specs.Payload.{Contents, empty, withPair, withMessage, withAction, messageFrom, met, onePair, oneMessage, oneAction, oneOf, payload}
 use Rattle.payload.specs.Item.{itemOf, listed, itemAt}
-use Rattle.payload.specs.Inner.{began, afterItem, withItem, refusedAt, tests, Low, KeyInside, Run, Stands, Goes, Passes}
+use Rattle.payload.specs.Inner.{began, afterItem, refusedAt, tests, Low, KeyInside, Run, Stands, Goes, Passes}
 use Rattle.payload.proofs.Pairs.{from-lies}
 use Rattle.payload.proofs.Rows.{from-next, run-more}
 use Rattle.payload.proofs.Actions.{action-next}
@@ -107,6 +107,14 @@ module _ (kind : Payload) (s : List ℕ) (x : Cursor) where
     pub item-end : length s ≤ x .at → itemAt kind s x ≡ i.End
     unfolding itemAt
     item-end h = rw (none, le-ltb (x .at) (length s) h)
+
+-- what was met behind what comes next
+abbrev pub withItem : Contents → Item → Contents
+withItem c (i.Pair p end) = withPair c p
+withItem c (i.Message m end) = withMessage c m
+withItem c (i.Action a end) = withAction c a
+withItem c i.End = c
+withItem c (i.Refused q) = c
 
 one-more : {A : Type 0} (xs : List A) (y : A) → length (xs ++ (y ∷ [])) ≡ length xs + 1
 one-more xs y = length-append xs (y ∷ [])

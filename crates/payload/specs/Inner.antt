@@ -28,7 +28,7 @@ use Rattle.payload.specs.declared.Payload.{Payload}
 use Rattle.payload.specs.declared.Payload.the-variants as k
 use Rattle.payload.specs.Pair.{movedPair, pairFrom}
 use Rattle.payload.specs.Action.{variable, action}
-use Rattle.payload.specs.Payload.{Contents, withMessage, withPair, withAction, met, onePair, oneOf, payload}
+use Rattle.payload.specs.Payload.{Contents, met, onePair, oneOf, payload}
 use Rattle.payload.specs.Item.{itemAt}
 use Rattle.payload.specs.Promise.{payloadTells, roomsOf, Fills}
 
@@ -57,20 +57,13 @@ pub record Headed (s : List ℕ) (verb scope : ℕ) : Type 0 where
 abbrev pub began : ℕ → Cursor
 began start = record { at = start; left = 0; messages = 0; pairs = 0; actions = 0 }
 
--- where it goes on behind what comes next, and what was met then
+-- where it goes on behind what comes next
 abbrev pub afterItem : Cursor → Item → Cursor
 afterItem x (i.Pair p end) = record { at = end; left = x .left - 1; messages = x .messages; pairs = x .pairs + 1; actions = x .actions }
 afterItem x (i.Message m end) = record { at = end; left = m .count; messages = x .messages + 1; pairs = x .pairs; actions = x .actions }
 afterItem x (i.Action a end) = record { at = end; left = x .left; messages = x .messages; pairs = x .pairs; actions = x .actions + 1 }
 afterItem x i.End = x
 afterItem x (i.Refused q) = x
-
-abbrev pub withItem : Contents → Item → Contents
-withItem c (i.Pair p end) = withPair c p
-withItem c (i.Message m end) = withMessage c m
-withItem c (i.Action a end) = withAction c a
-withItem c i.End = c
-withItem c (i.Refused q) = c
 
 -- whether a record comes next
 abbrev pub follows : Item → Bool

@@ -8,8 +8,8 @@ use lib.ListN.{length}
 use Rattle.payload.specs.declared.Step.{Step}
 use Rattle.payload.specs.Payload.{Contents, empty, payload}
 use Rattle.payload.specs.Item.{itemAt}
-use Rattle.payload.specs.Inner.{withItem, tests, Stands, Goes}
-use Rattle.payload.proofs.Passing.{goes-start, stands-start, goes-then, Then, key-inside, low, sought, passes-done, passes-refused}
+use Rattle.payload.specs.Inner.{tests, Stands, Goes}
+use Rattle.payload.proofs.Passing.{withItem, goes-start, stands-start, goes-then, Then, key-inside, low, sought, passes-done, passes-refused}
 use Rattle.payload.proofs.look.look.Statement.{statement}
 use Rattle.payload.proofs.look.look.Tie as tie
 
