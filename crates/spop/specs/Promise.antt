@@ -71,7 +71,7 @@ SpopReadPair input r at before numbers = Told (pair input) r at × (numbers ≡ 
 abbrev pub HeadTold : Side → Reading (Head × Contents) → ℕ → ℕ → List ℕ → List ℕ → Type 0
 HeadTold side x r at before head = Told (answerOf x) r at × (head ≡ valueOr (λ (y : Head × Contents). headNumbers side (y .0) (countsOf (y .1))) (answerOf x) before)
 
--- ... and the tables are filled with what the frame holds.
+-- The same, and the tables are filled with what the frame holds.
 pub record FrameTold (side : Side) (x : Reading (Head × Contents)) (r at : ℕ) (before head oldMessages newMessages oldPairs newPairs oldActions newActions : List ℕ) : Type 0 where
   pub told : HeadTold side x r at before head
   pub fills : Fills (contentsRead x) oldMessages newMessages oldPairs newPairs oldActions newActions

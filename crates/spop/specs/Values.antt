@@ -20,5 +20,6 @@ abbrev pub twoCounts : Side → Counts → List ℕ
 twoCounts side.HAProxy n = n .messages ∷ n .pairs ∷ []
 twoCounts side.Agents n = n .pairs ∷ n .actions ∷ []
 
+-- type, flags, stream id, frame id, and the two counts
 abbrev pub headNumbers : Side → Head → Counts → List ℕ
 headNumbers side h n = h .«frame_type» ∷ h .flags ∷ h .stream ∷ h .frame ∷ twoCounts side n

@@ -386,7 +386,7 @@ fn tell_side(answer: FrameRead, side: Side, head: &mut [u64; 6], at: &mut u64) -
     }
 }
 
-// The numbers of a frame's head: two counts are of messages and pairs, or of pairs and actions.
+// The six numbers of a frame's head. The last two count messages and pairs, or pairs and actions, by the side that sends.
 fn head_numbers(side: Side, h: Head, counts: Counts) -> [u64; 6]
     ensures { λ r. ⌜ r ≡ headNumbers side h counts ⌝ }
 {
