@@ -1,19 +1,23 @@
 -- The ways to keep what a call under a C name promises.
 use mathlib.Core.Path.{_≡_, refl, sym, ap, _∙_}
-use mathlib.Core.List.{List, [], _∷_}
+use mathlib.Core.List.{List}
 use Prim.Native.Nat.{ℕ}
-use native.Mathlib.Omega.{arith}
 use Rattle.answer.specs.declared.Written.{Written}
-use Rattle.answer.specs.Answer.{Answer, done, refused, next, tells}
+use Rattle.answer.specs.Answer.{Answer, done, refused, tells}
 use Rattle.answer.specs.Writes.{said, Writes}
+use Rattle.answer.proofs.Cases.{not-both}
 use Rattle.frame.specs.declared.Head.{Head}
-use Rattle.parser.specs.Payload.{Contents}
+use Rattle.frame.specs.declared.Side.{Side}
 use Rattle.frame.specs.Read.{Reading, wait, answered, answerOf}
-use Rattle.parser.specs.Promise.{countsOf, frameTells}
-use Rattle.agent.specs.Frame.{Sent}
-use Rattle.agent.specs.Promise.{agentTells}
+use Rattle.frame.proofs.Answers.{refused-as, wait-same, wait-answered, answered-same}
+use Rattle.payload.specs.declared.Counts.{Counts}
+use Rattle.payload.specs.Payload.{Contents}
+use Rattle.payload.specs.Promise.{countsOf}
+use Rattle.parser.specs.Promise.{frameTells}
+use Rattle.parser.proofs.Entries.{said-done}
 use Rattle.spop.specs.Told.{numberOf, atOf, valueOr, Told}
-use Rattle.spop.specs.Values.{headNumbers, sentCounts}
+use Rattle.spop.specs.Values.{headNumbers}
+use Rattle.spop.specs.Promise.{HeadTold}
 
 -- a reader was told a value, or a refusal
 module _ {A B : Type 0} {a : Answer A} (form : A → B) (before : B) where
@@ -42,50 +46,31 @@ told-writes {a} p t =
       where-at = t .where-at ∙ ap atOf (p .says) ∙ at-tells a;
     }
 
--- ---- what the frame reader said, in numbers
+-- ---- what the frame readers said, in numbers
 
-done-apart : {A : Type 0} {x y : A} {m n : ℕ} → _≡_ {A = Answer A} (done x m) (done y n) → (x ≡ y) × (m ≡ n)
-done-apart e = ((cc), (cc))
+-- what a frame is that is said to be waited for, or to be refused
+said-wait : (x : Reading (Head × Contents)) (n : ℕ) → wait n ≡ frameTells x → answerOf x ≡ refused 1 n
+said-wait (wait m) n e = ap (λ (k : ℕ). refused 1 k) (sym (wait-same e))
+said-wait (answered a) n e = wait-answered e
 
-answered-apart : {A : Type 0} {a b : Answer A} → answered a ≡ answered b → a ≡ b
-answered-apart e = cc
-
--- what is said of a frame whose contents are counted so; the frame reader's, and that of agents' frames
-abbrev pub tellsBy : {A : Type 0} → (A → ℕ × ℕ) → Reading (Head × A) → Reading (Head × (ℕ × ℕ))
-tellsBy counts (wait missing) = wait missing
-tellsBy counts (answered a) = answered (next a (λ x used. done (x .0, counts (x .1)) used))
-
-pub frame-tells : (x : Reading (Head × Contents)) → frameTells x ≡ tellsBy countsOf x
-frame-tells (wait n) = refl
-frame-tells (answered a) = refl
-
-pub agent-tells : (x : Reading (Head × Sent)) → agentTells x ≡ tellsBy sentCounts x
-agent-tells (wait n) = refl
-agent-tells (answered a) = refl
+said-refused : (x : Reading (Head × Contents)) (number place : ℕ) → answered (refused number place) ≡ frameTells x → answerOf x ≡ refused number place
+said-refused (wait n) number place e = wait-answered (sym e)
+said-refused (answered (done y used)) number place e = not-both (answered-same e) refl
+said-refused (answered (refused n p)) number place e = sym (refused-as (answered-same e))
 
 -- each is the answer's, and the head's numbers are its own or stay as they were
-module _ {A : Type 0} (counts : A → ℕ × ℕ) (before : List ℕ) where
-  pub head-done : (x : Reading (Head × A)) (m : Head) (k : ℕ × ℕ) (n : ℕ) → answered (done (m, k) n) ≡ tellsBy counts x
-      → Told (answerOf x) 0 n × (m .«frame_type» ∷ m .flags ∷ m .stream ∷ m .frame ∷ k .0 ∷ k .1 ∷ [] ≡ valueOr (headNumbers counts) (answerOf x) before)
-  head-done (wait w) m k n e = let z : _≡_ {A = ℕ} 0 1 = cc in absurd (omega arith)
-  head-done (answered (done y u)) m k n e =
-      let o = done-apart (answered-apart e) in (
-        record { says = refl; where-at = o .1 },
-        ap (λ (h : Head × (ℕ × ℕ)). h .0 .«frame_type» ∷ h .0 .flags ∷ h .0 .stream ∷ h .0 .frame ∷ h .1 .0 ∷ h .1 .1 ∷ []) (o .0),
-      )
-  head-done (answered (refused a p)) m k n e = let q = answered-apart e in let z : _≡_ {A = ℕ} 0 1 = cc in absurd (omega arith)
+module _ (side : Side) (before : List ℕ) (x : Reading (Head × Contents)) where
+  abbrev form : Head × Contents → List ℕ
+  form y = headNumbers side (y .0) (countsOf (y .1))
 
-  pub head-wait : (x : Reading (Head × A)) (n : ℕ) → wait n ≡ tellsBy counts x → Told (answerOf x) 1 n × (before ≡ valueOr (headNumbers counts) (answerOf x) before)
-  head-wait (wait w) n e = (record { says = refl; where-at = cc }, refl)
-  head-wait (answered (done y u)) n e = let z : _≡_ {A = ℕ} 0 1 = cc in absurd (omega arith)
-  head-wait (answered (refused a p)) n e = let z : _≡_ {A = ℕ} 0 1 = cc in absurd (omega arith)
+  pub head-done : (h : Head) (k : Counts) (n : ℕ) {numbers : List ℕ} → answered (done (h, k) n) ≡ frameTells x → numbers ≡ headNumbers side h k → HeadTold side x 0 n before numbers
+  head-done h k n e is =
+      let o = said-done x h k n e in
+      let t = told-done form before (ap answerOf (o .1)) in
+      (t .0, is ∙ ap (headNumbers side h) (sym (o .2)) ∙ t .1)
 
-  pub head-refused : (x : Reading (Head × A)) (number place : ℕ) → answered (refused number place) ≡ tellsBy counts x
-      → {r at : ℕ} → (r ≡ number) × (at ≡ place) → Told (answerOf x) r at × (before ≡ valueOr (headNumbers counts) (answerOf x) before)
-  head-refused (wait w) number place e t = let z : _≡_ {A = ℕ} 0 1 = cc in absurd (omega arith)
-  head-refused (answered (done y u)) number place e t = let q = answered-apart e in let z : _≡_ {A = ℕ} 0 1 = cc in absurd (omega arith)
-  head-refused (answered (refused a p)) number place e t =
-      let q = answered-apart e in
-      let one : number ≡ a = cc in
-      let two : place ≡ p = cc in
-      (record { says = t .0 ∙ one; where-at = t .1 ∙ two }, refl)
+  pub head-wait : (n : ℕ) → wait n ≡ frameTells x → HeadTold side x 1 n before before
+  head-wait n e = told-refused form before (said-wait x n e) (refl, refl)
+
+  pub head-refused : (number place : ℕ) {r at : ℕ} → answered (refused number place) ≡ frameTells x → (r ≡ number) × (at ≡ place) → HeadTold side x r at before before
+  head-refused number place e t = told-refused form before (said-refused x number place e) t

@@ -9,9 +9,13 @@ use Rattle.answer.proofs.Same.{one-only}
 use Rattle.utf8.specs.Text.{lossy, sameText}
 use Rattle.plain.proofs.Laws.{both-fit}
 use Rattle.plain.proofs.Unique.{texts-unique}
-use Rattle.spop.specs.Told.{numberOf, atOf, valueOr, Told}
+use Rattle.frame.specs.declared.Head.{Head}
 use Rattle.frame.specs.declared.Pair.{Pair}
-use Rattle.spop.specs.Promise.{SpopVarintLen, SpopEncodeVarint, SpopDecodeVarint, SpopIsUtf8, SpopSameText, SpopSameTextPlain, SpopLossyText, SpopTypedData, SpopValueLen, SpopCheckValue, SpopWriteValue, SpopReadPair, SpopReadFrame, SpopReadFrameRecords, SpopReadAgentFrame, SpopWriteKv, SpopWriteActions, SpopWriteNotify, SpopNegotiateMaxFrameSize, SpopNegotiateVersion}
+use Rattle.frame.specs.declared.Side.{Side}
+use Rattle.frame.specs.Read.{Reading}
+use Rattle.payload.specs.Payload.{Contents}
+use Rattle.spop.specs.Told.{numberOf, atOf, valueOr, Told}
+use Rattle.spop.specs.Promise.{FrameTold, SpopVarintLen, SpopEncodeVarint, SpopDecodeVarint, SpopIsUtf8, SpopSameText, SpopSameTextPlain, SpopLossyText, SpopTypedData, SpopValueLen, SpopCheckValue, SpopWriteValue, SpopReadPair, SpopReadFrame, SpopReadFrameRecords, SpopReadAgentFrame, SpopWriteKv, SpopWriteActions, SpopWriteNotify, SpopNegotiateMaxFrameSize, SpopNegotiateVersion}
 
 told-unique : {A : Type 0} {a : Answer A} {r q at also : ℕ} → Told a r at → Told a q also → (r ≡ q) × (at ≡ also)
 told-unique p q = (one-only (p .says) (q .says), one-only (p .where-at) (q .where-at))
@@ -20,6 +24,17 @@ told-unique p q = (one-only (p .says) (q .says), one-only (p .where-at) (q .wher
 call-unique : {A B : Type 0} {a : Answer A} {x y left : B} {r q at also : ℕ}
     → Told a r at × (x ≡ left) → Told a q also × (y ≡ left) → (r ≡ q) × (at ≡ also) × (x ≡ y)
 call-unique p q = let t = told-unique (p .0) (q .0) in (t .0, t .1, one-only (p .1) (q .1))
+
+-- of both frame readers: the head's numbers, and the numbers in each table
+frame-unique : {side : Side} {x : Reading (Head × Contents)} {r q at also : ℕ} {before head other om nm om′ op np op′ oa na oa′ : List ℕ}
+    → FrameTold side x r at before head om nm op np oa na → FrameTold side x q also before other om om′ op op′ oa oa′
+    → ((r ≡ q) × (at ≡ also) × (head ≡ other)) × (nm ≡ om′) × (np ≡ op′) × (na ≡ oa′)
+frame-unique p s = (
+  call-unique (p .told) (s .told),
+  one-only (p .fills .messages) (s .fills .messages),
+  one-only (p .fills .pairs) (s .fills .pairs),
+  one-only (p .fills .actions) (s .fills .actions),
+)
 
 pub spop-varint-len-unique : (n r q : ℕ) → SpopVarintLen n r → SpopVarintLen n q → r ≡ q
 spop-varint-len-unique n r q p s = one-only p s
@@ -79,30 +94,24 @@ module _ (r q at also : ℕ) where
       → SpopReadFrame input limit q also before other oldMessages otherMessages oldPairs otherPairs
       → (r ≡ q) × (at ≡ also) × (head ≡ other) × (newMessages ≡ otherMessages) × (newPairs ≡ otherPairs)
   spop-read-frame-unique input limit before head other oldMessages newMessages otherMessages oldPairs newPairs otherPairs p s =
-      let t = told-unique (p .told) (s .told) in
-      let x = p .fills in
-      let y = s .fills in
-      (t .0, t .1, one-only (p .numbers) (s .numbers), one-only (x .messages) (y .messages), one-only (x .pairs) (y .pairs))
+      let u = frame-unique p s in
+      (u .0 .0, u .0 .1, u .0 .2, u .1, u .2)
 
   pub spop-read-frame-records-unique : (input : List ℕ) (limit : ℕ) (before head other oldMessages newMessages otherMessages : List ℕ) (oldPairs newPairs otherPairs : List Pair)
       → SpopReadFrameRecords input limit r at before head oldMessages newMessages oldPairs newPairs
       → SpopReadFrameRecords input limit q also before other oldMessages otherMessages oldPairs otherPairs
       → (r ≡ q) × (at ≡ also) × (head ≡ other) × (newMessages ≡ otherMessages) × (newPairs ≡ otherPairs)
   spop-read-frame-records-unique input limit before head other oldMessages newMessages otherMessages oldPairs newPairs otherPairs p s =
-      let t = told-unique (p .told) (s .told) in
-      let x = p .fills in
-      let y = s .fills in
-      (t .0, t .1, one-only (p .numbers) (s .numbers), one-only (x .messages) (y .messages), one-only (x .pairs) (y .pairs))
+      let t = call-unique (p .told) (s .told) in
+      (t .0, t .1, t .2, one-only (p .fills .messages) (s .fills .messages), one-only (p .fills .pairs) (s .fills .pairs))
 
   pub spop-read-agent-frame-unique : (input : List ℕ) (limit : ℕ) (before head other oldPairs newPairs otherPairs oldActions newActions otherActions : List ℕ)
       → SpopReadAgentFrame input limit r at before head oldPairs newPairs oldActions newActions
       → SpopReadAgentFrame input limit q also before other oldPairs otherPairs oldActions otherActions
       → (r ≡ q) × (at ≡ also) × (head ≡ other) × (newPairs ≡ otherPairs) × (newActions ≡ otherActions)
   spop-read-agent-frame-unique input limit before head other oldPairs newPairs otherPairs oldActions newActions otherActions p s =
-      let t = told-unique (p .told) (s .told) in
-      let x = p .fills in
-      let y = s .fills in
-      (t .0, t .1, one-only (p .numbers) (s .numbers), one-only (x .pairs) (y .pairs), one-only (x .actions) (y .actions))
+      let u = frame-unique p s in
+      (u .0 .0, u .0 .1, u .0 .2, u .2, u .3)
 
 -- the writers
 module _ (r q at also : ℕ) (old new other : List ℕ) where

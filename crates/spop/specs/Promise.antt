@@ -1,7 +1,7 @@
 -- What each call under a C name promises: its result r, what it leaves in `at`, and in what else is lent, old or before and new afterwards.
 use mathlib.Core.Path.{_≡_}
 use mathlib.Core.Bool.{Bool}
-use mathlib.Core.List.{List}
+use mathlib.Core.List.{List, []}
 use Prim.Native.Nat.{ℕ}
 use lib.ListN.{length}
 use Rattle.answer.specs.Answer.{written}
@@ -12,18 +12,22 @@ use Rattle.plain.specs.Promise.{comparison, TextsLeft}
 use Rattle.types.specs.Value.{typed}
 use Rattle.types.specs.Form.{valueAnswer, lengthOf}
 use Rattle.types.specs.Check.{valueChecks}
+use Rattle.frame.specs.declared.Head.{Head}
 use Rattle.frame.specs.declared.Pair.{Pair}
+use Rattle.frame.specs.declared.Side.{Side}
+use Rattle.frame.specs.declared.Side.the-variants as side
+use Rattle.frame.specs.Read.{Reading, answerOf}
 use Rattle.frame.specs.Records.{pairNumbers}
-use Rattle.parser.specs.Pair.{pair}
-use Rattle.frame.specs.Read.{answerOf}
+use Rattle.payload.specs.Pair.{pair}
+use Rattle.payload.specs.Payload.{Contents}
+use Rattle.payload.specs.Promise.{countsOf, roomsOf, Fills}
 use Rattle.parser.specs.Frame.{frameRead}
-use Rattle.parser.specs.Promise.{countsOf, roomsOf, contentsRead, Fills}
-use Rattle.agent.specs.Promise.{sentRead, readInto, FillsSent}
+use Rattle.parser.specs.Promise.{contentsRead}
 use Rattle.records.specs.Promise.{roomsFor, FillsRecords}
 use Rattle.writer.specs.Frame.{headOf, kvAnswer, actionsAnswer, notifyAnswer}
 use Rattle.hello.specs.Hello.{frameSize, announced, choice}
 use Rattle.spop.specs.Told.{Told, valueOr, chosenOf, Left}
-use Rattle.spop.specs.Values.{recordIn, recordNumbers, headNumbers, sentCounts}
+use Rattle.spop.specs.Values.{recordIn, recordNumbers, headNumbers}
 
 abbrev pub SpopVarintLen : ℕ → ℕ → Type 0
 SpopVarintLen n r = r ≡ length (numberBytes n)
@@ -63,20 +67,27 @@ SpopWriteValue value buffer r at old new = Left (valueAnswer buffer (recordIn va
 abbrev pub SpopReadPair : List ℕ → ℕ → ℕ → List ℕ → List ℕ → Type 0
 SpopReadPair input r at before numbers = Told (pair input) r at × (numbers ≡ valueOr pairNumbers (pair input) before)
 
-pub record SpopReadFrame (input : List ℕ) (limit r at : ℕ) (before head oldMessages newMessages oldPairs newPairs : List ℕ) : Type 0 where
-  pub told : Told (answerOf (frameRead limit (roomsOf oldMessages oldPairs) input)) r at
-  pub numbers : head ≡ valueOr (headNumbers countsOf) (answerOf (frameRead limit (roomsOf oldMessages oldPairs) input)) before
-  pub fills : Fills (contentsRead (frameRead limit (roomsOf oldMessages oldPairs) input)) oldMessages newMessages oldPairs newPairs
+-- A side's frame that comes out so: the answer is told, and the head's numbers take the place of what was there before.
+abbrev pub HeadTold : Side → Reading (Head × Contents) → ℕ → ℕ → List ℕ → List ℕ → Type 0
+HeadTold side x r at before head = Told (answerOf x) r at × (head ≡ valueOr (λ (y : Head × Contents). headNumbers side (y .0) (countsOf (y .1))) (answerOf x) before)
+
+-- The same, and the tables are filled with what the frame holds.
+pub record FrameTold (side : Side) (x : Reading (Head × Contents)) (r at : ℕ) (before head oldMessages newMessages oldPairs newPairs oldActions newActions : List ℕ) : Type 0 where
+  pub told : HeadTold side x r at before head
+  pub fills : Fills (contentsRead x) oldMessages newMessages oldPairs newPairs oldActions newActions
+
+-- of what HAProxy sends, which has no actions; and of what agents send, which has no messages
+abbrev pub SpopReadFrame : List ℕ → ℕ → ℕ → ℕ → List ℕ → List ℕ → List ℕ → List ℕ → List ℕ → List ℕ → Type 0
+SpopReadFrame input limit r at before head oldMessages newMessages oldPairs newPairs =
+    FrameTold side.HAProxy (frameRead side.HAProxy limit (roomsOf oldMessages oldPairs []) input) r at before head oldMessages newMessages oldPairs newPairs [] []
+
+abbrev pub SpopReadAgentFrame : List ℕ → ℕ → ℕ → ℕ → List ℕ → List ℕ → List ℕ → List ℕ → List ℕ → List ℕ → Type 0
+SpopReadAgentFrame input limit r at before head oldPairs newPairs oldActions newActions =
+    FrameTold side.Agents (frameRead side.Agents limit (roomsOf [] oldPairs oldActions) input) r at before head [] [] oldPairs newPairs oldActions newActions
 
 pub record SpopReadFrameRecords (input : List ℕ) (limit r at : ℕ) (before head oldMessages newMessages : List ℕ) (oldPairs newPairs : List Pair) : Type 0 where
-  pub told : Told (answerOf (frameRead limit (roomsFor oldMessages oldPairs) input)) r at
-  pub numbers : head ≡ valueOr (headNumbers countsOf) (answerOf (frameRead limit (roomsFor oldMessages oldPairs) input)) before
-  pub fills : FillsRecords (contentsRead (frameRead limit (roomsFor oldMessages oldPairs) input)) oldMessages newMessages oldPairs newPairs
-
-pub record SpopReadAgentFrame (input : List ℕ) (limit r at : ℕ) (before head oldPairs newPairs oldActions newActions : List ℕ) : Type 0 where
-  pub told : Told (answerOf (readInto oldPairs oldActions limit input)) r at
-  pub numbers : head ≡ valueOr (headNumbers sentCounts) (answerOf (readInto oldPairs oldActions limit input)) before
-  pub fills : FillsSent (sentRead (readInto oldPairs oldActions limit input)) oldPairs newPairs oldActions newActions
+  pub told : HeadTold side.HAProxy (frameRead side.HAProxy limit (roomsFor oldMessages oldPairs) input) r at before head
+  pub fills : FillsRecords (contentsRead (frameRead side.HAProxy limit (roomsFor oldMessages oldPairs) input)) oldMessages newMessages oldPairs newPairs
 
 module _ (fin abort : Bool) (stream frame limit : ℕ) (buffer : List ℕ) where
   abbrev pub SpopWriteKv : ℕ → List ℕ → ℕ → ℕ → ℕ → List ℕ → List ℕ → Type 0

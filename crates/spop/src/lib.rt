@@ -3,16 +3,18 @@
 //
 // A call answers a refusal's number, 0 for done, and `at` takes what goes with it: the bytes used or written, after a wait those that are
 // missing, or the place. Whatever else is lent changes only after 0.
-use agent::AgentRead;
 use answer::Refusal;
 use answer::WAIT;
 use answer::Written;
+use frame::Head;
 use frame::PAIR_WIDTH;
 use frame::Pair;
+use frame::Side;
 use hello::Chosen;
 use hello::Size;
 use parser::FrameRead;
-use parser::PairRead;
+use payload::Counts;
+use payload::PairRead;
 use plain::Compared;
 use types::VALUE_WIDTH;
 use types::Value;
@@ -21,15 +23,12 @@ use varint::NumberRead;
 ghost use mathlib.Core.Path.{_≡_};
 ghost use Rattle.answer.specs.Writes.{said};
 ghost use Rattle.types.specs.Promise.{recordOf};
-ghost use Rattle.frame.specs.declared.Head.{Head};
-ghost use Rattle.frame.specs.Read.{Reading, answerOf};
-ghost use Rattle.parser.specs.Payload.{Contents};
-ghost use Rattle.parser.specs.Promise.{countsOf, frameSaid, frameTells};
-ghost use Rattle.agent.specs.Frame.{Sent};
-ghost use Rattle.agent.specs.Promise.{agentSaid, agentTells};
-ghost use Rattle.spop.specs.Told.{Told, valueOr};
-ghost use Rattle.spop.specs.Values.{recordIn, headNumbers, sentCounts};
-ghost use Rattle.spop.specs.Promise.{SpopVarintLen, SpopEncodeVarint, SpopDecodeVarint, SpopIsUtf8, SpopSameText, SpopSameTextPlain, SpopLossyText, SpopTypedData, SpopValueLen, SpopCheckValue, SpopWriteValue, SpopReadPair, SpopReadFrame, SpopReadFrameRecords, SpopReadAgentFrame, SpopWriteKv, SpopWriteActions, SpopWriteNotify, SpopNegotiateMaxFrameSize, SpopNegotiateVersion};
+ghost use Rattle.frame.specs.Read.{Reading};
+ghost use Rattle.payload.specs.Payload.{Contents};
+ghost use Rattle.parser.specs.Promise.{frameSaid, frameTells};
+ghost use Rattle.spop.specs.Told.{Told};
+ghost use Rattle.spop.specs.Values.{recordIn, headNumbers};
+ghost use Rattle.spop.specs.Promise.{HeadTold, SpopVarintLen, SpopEncodeVarint, SpopDecodeVarint, SpopIsUtf8, SpopSameText, SpopSameTextPlain, SpopLossyText, SpopTypedData, SpopValueLen, SpopCheckValue, SpopWriteValue, SpopReadPair, SpopReadFrame, SpopReadFrameRecords, SpopReadAgentFrame, SpopWriteKv, SpopWriteActions, SpopWriteNotify, SpopNegotiateMaxFrameSize, SpopNegotiateVersion};
 
 const DONE: u64 = 0;
 
@@ -162,7 +161,7 @@ fn value_of(value: &[u64; VALUE_WIDTH]) -> Value
 pub extern "C" fn spop_read_pair(input: &[u8], pair: &mut [u64; PAIR_WIDTH], at: &mut u64) -> u64
     ensures { λ r. ⌜ SpopReadPair (now (input .entry)) r (now (at .exit)) (now (pair .entry)) (now (pair .exit)) ⌝ }
 {
-    match parser::read_pair(input) {
+    match payload::read_pair(input) {
         PairRead::Done { pair: p, used } => {
             *pair = [
                 p.start,
@@ -222,8 +221,8 @@ pub extern "C" fn spop_read_agent_frame(
 ) -> u64
     ensures { λ r. ⌜ SpopReadAgentFrame (now (input .entry)) limit r (now (at .exit)) (now (head .entry)) (now (head .exit)) (now (pairs .entry)) (now (pairs .exit)) (now (actions .entry)) (now (actions .exit)) ⌝ }
 {
-    let answer = agent::read_agent_frame(input, limit, pairs, actions);
-    tell_agent(answer, head, at)
+    let answer = parser::read_agent_frame(input, limit, pairs, actions);
+    tell_side(answer, Side::Agents, head, at)
 }
 
 #[no_mangle]
@@ -358,25 +357,24 @@ fn tell(answer: Written, at: &mut u64) -> u64
     }
 }
 
-// What the frame reader answers.
+// What the reader of HAProxy's frames answers.
 fn tell_frame(answer: FrameRead, head: &mut [u64; 6], at: &mut u64) -> u64
-    ensures { λ r. ⌜ ((x : Reading (Head × Contents)) → frameSaid answer ≡ frameTells x → Told (answerOf x) r (now (at .exit)) × (now (head .exit) ≡ valueOr (headNumbers countsOf) (answerOf x) (now (head .entry)))) ⌝ }
+    ensures { λ r. ⌜ ((x : Reading (Head × Contents)) → frameSaid answer ≡ frameTells x → HeadTold Side.HAProxy x r (now (at .exit)) (now (head .entry)) (now (head .exit))) ⌝ }
+{
+    tell_side(answer, Side::HAProxy, head, at)
+}
+
+// What the reader of a side's frames answers.
+fn tell_side(answer: FrameRead, side: Side, head: &mut [u64; 6], at: &mut u64) -> u64
+    ensures { λ r. ⌜ ((x : Reading (Head × Contents)) → frameSaid answer ≡ frameTells x → HeadTold side x r (now (at .exit)) (now (head .entry)) (now (head .exit))) ⌝ }
 {
     match answer {
         FrameRead::Done {
-            head: m,
-            messages,
-            pairs,
+            head: h,
+            counts,
             used,
         } => {
-            *head = [
-                m.frame_type as u64,
-                m.flags as u64,
-                m.stream,
-                m.frame,
-                messages as u64,
-                pairs as u64,
-            ];
+            *head = head_numbers(side, h, counts);
             *at = used as u64;
             DONE
         },
@@ -388,33 +386,18 @@ fn tell_frame(answer: FrameRead, head: &mut [u64; 6], at: &mut u64) -> u64
     }
 }
 
-// What the reader of agents' frames answers.
-fn tell_agent(answer: AgentRead, head: &mut [u64; 6], at: &mut u64) -> u64
-    ensures { λ r. ⌜ ((x : Reading (Head × Sent)) → agentSaid answer ≡ agentTells x → Told (answerOf x) r (now (at .exit)) × (now (head .exit) ≡ valueOr (headNumbers sentCounts) (answerOf x) (now (head .entry)))) ⌝ }
+// The six numbers of a frame's head. The last two count messages and pairs, or pairs and actions, by the side that sends.
+fn head_numbers(side: Side, h: Head, counts: Counts) -> [u64; 6]
+    ensures { λ r. ⌜ r ≡ headNumbers side h counts ⌝ }
 {
-    match answer {
-        AgentRead::Done {
-            head: m,
-            pairs: pair_count,
-            actions: action_count,
-            used,
-        } => {
-            *head = [
-                m.frame_type as u64,
-                m.flags as u64,
-                m.stream,
-                m.frame,
-                pair_count as u64,
-                action_count as u64,
-            ];
-            *at = used as u64;
-            DONE
-        },
-        AgentRead::Wait(missing) => {
-            *at = missing as u64;
-            WAIT
-        },
-        AgentRead::Refused(r) => refuse(r, at),
+    let frame_type = h.frame_type as u64;
+    let flags = h.flags as u64;
+    let messages = counts.messages as u64;
+    let pairs = counts.pairs as u64;
+    let actions = counts.actions as u64;
+    match side {
+        Side::HAProxy => [frame_type, flags, h.stream, h.frame, messages, pairs],
+        Side::Agents => [frame_type, flags, h.stream, h.frame, pairs, actions],
     }
 }
 

@@ -44,10 +44,11 @@ use Rattle.frame.proofs.Pair as Q
 use Rattle.frame.proofs.Pair.Laws as Q′
 use Rattle.frame.specs.declared.Head.{Head}
 use Rattle.parser.specs.declared.FrameRead.{FrameRead}
-use Rattle.parser.specs.Payload.{Contents}
-use Rattle.frame.specs.Read.{Reading, answerOf}
+use Rattle.payload.specs.Payload.{Contents}
+use Rattle.frame.specs.declared.Side.the-variants as side
+use Rattle.frame.specs.Read.{Reading}
 use Rattle.parser.specs.Frame.{frameRead}
-use Rattle.parser.specs.Promise.{countsOf, frameSaid, frameTells}
+use Rattle.parser.specs.Promise.{frameSaid, frameTells}
 use Rattle.parser.proofs.FrameRead as F
 use Rattle.parser.proofs.FrameRead.Laws as F′
 use Rattle.records.specs.Promise.{roomsFor, ReadFrameRecords}
@@ -55,9 +56,7 @@ use Rattle.records.proofs.read_frame_records as read
 use Rattle.records.proofs.read_frame_records.Symbol as read-def
 use Rattle.records.proofs.read_frame_records.Symbol.{name as #read}
 use Rattle.records.proofs.read_frame_records.Met as read-thm
-use Rattle.spop.specs.Told.{Told, valueOr}
-use Rattle.spop.specs.Values.{headNumbers}
-use Rattle.spop.specs.Promise.{SpopReadFrameRecords}
+use Rattle.spop.specs.Promise.{HeadTold, SpopReadFrameRecords}
 use Rattle.spop.proofs.tell_frame as tell
 use Rattle.spop.proofs.tell_frame.Symbol as tell-def
 use Rattle.spop.proofs.tell_frame.Symbol.{name as #tell}
@@ -190,10 +189,10 @@ module _ {M : Type 1} (𝓤 : URA M) (H : Heap 𝓤) (A : Atoms 𝓤) (W : Given
   Reads f ms ws = ReadFrameRecords (now s) n f (now m) ms (now r) ws
 
   abbrev Tells : FrameRead → ℕ → List ℕ → ℕ → Type 0
-  Tells f k hs at = (x : Reading (Head × Contents)) → frameSaid f ≡ frameTells x → Told (answerOf x) k at × (hs ≡ valueOr (headNumbers countsOf) (answerOf x) (now h))
+  Tells f k hs at = (x : Reading (Head × Contents)) → frameSaid f ≡ frameTells x → HeadTold side.HAProxy x k at (now h) hs
 
   kept : (f : FrameRead) (ms : List ℕ) (ws : List Pair) (k : ℕ) (hs : List ℕ) (at : ℕ) → Reads f ms ws → Tells f k hs at → SpopReadFrameRecords (now s) n k at (now h) hs (now m) ms (now r) ws
-  kept f ms ws k hs at e e′ = let o = e′ (frameRead n (roomsFor (now m) (now r)) (now s)) (e .says) in record { told = o .0; numbers = o .1; fills = e .fills }
+  kept f ms ws k hs at e e′ = record { told = e′ (frameRead side.HAProxy n (roomsFor (now m) (now r)) (now s)) (e .says); fills = e .fills }
 
   exits : (f : FrameRead) (ms : List ℕ) (ws : List Pair) (k : ℕ) (hs : List ℕ) (at : ℕ) → Reads f ms ws → Tells f k hs at → length ms ≡ length (now m) → length ws ≡ length (now r) → k < 2 ^ 64
       → ent 𝓤 (⋆ 𝓤 H A (Tok₂ ∷ ‵ (fres (t .name) (u64 .coded .code at)) ∷ ‵ (fres (h .name) (Array u64 6 .coded .code hs)) ∷ Tok₁ ∷ ‵ (finally Q.the-row (r .name) ws) ∷ ‵ (finally u64 (m .name) ms) ∷ ‵ Own₀ ∷ [])) (Post (vint w64 k))

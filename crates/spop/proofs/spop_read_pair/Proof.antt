@@ -3,7 +3,7 @@
 use borrow.Author.Needs.{needs}
 use mathlib.Core.Path.{sym, ap, _∙_}
 use Rattle.frame.specs.Records.{pairNumbers}
-use Rattle.parser.specs.Promise.{pairSaid}
+use Rattle.payload.specs.Promise.{pairSaid}
 use Rattle.spop.proofs.Telling.{told-done, told-refused}
 use Rattle.spop.proofs.spop_read_pair.Statement.{statement}
 use Rattle.spop.proofs.spop_read_pair.Tie as tie
