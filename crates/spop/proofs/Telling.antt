@@ -9,7 +9,8 @@ use Rattle.answer.proofs.Cases.{not-both}
 use Rattle.frame.specs.declared.Head.{Head}
 use Rattle.frame.specs.declared.Side.{Side}
 use Rattle.frame.specs.Read.{Reading, wait, answered, answerOf}
-use Rattle.frame.proofs.Answers.{refused-as, wait-same, wait-answered, answered-same}
+use Rattle.frame.proofs.Answers.{wait-same, wait-answered, answered-same}
+use Rattle.answer.proofs.Answers.{refused-as}
 use Rattle.payload.specs.declared.Counts.{Counts}
 use Rattle.payload.specs.Payload.{Contents}
 use Rattle.payload.specs.Promise.{countsOf}
