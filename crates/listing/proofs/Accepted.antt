@@ -20,7 +20,7 @@ use Rattle.frame.specs.declared.Pair.{Pair}
 use Rattle.frame.specs.declared.Message.{Message}
 use Rattle.frame.specs.declared.Action.{Action}
 use Rattle.frame.specs.Read.{Sender}
-use Rattle.frame.proofs.Answers.{done-same}
+use Rattle.answer.proofs.Answers.{done-same}
 use Rattle.payload.specs.declared.Counts.{Counts}
 use Rattle.payload.specs.declared.Payload.{Payload}
 use Rattle.payload.specs.declared.Payload.the-variants as k
@@ -31,7 +31,7 @@ use Rattle.payload.specs.Inner.{Run}
 use Rattle.payload.proofs.Pairs.{pair-key, pair-value, pair-whole, pair-cases}
 use Rattle.payload.proofs.Rows.{from-next}
 use Rattle.payload.proofs.Steps.{string-next, message-says}
-use Rattle.payload.proofs.Rowing.{Row}
+use Rattle.answer.proofs.Row.{Row}
 use Rattle.payload.proofs.Standing.{stands, by-verb}
 use Rattle.payload.proofs.Accepted.{Group, pairsOf, messagesOf, kv-run, messages-run, actions-run}
 use Rattle.parser.specs.Frame.{payloadOf, framed}

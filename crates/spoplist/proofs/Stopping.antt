@@ -12,7 +12,8 @@ use Rattle.answer.proofs.Cases.{not-both}
 use Rattle.frame.specs.declared.Head.{Head}
 use Rattle.frame.specs.declared.Side.{Side}
 use Rattle.frame.specs.Read.{Reading, wait, answered}
-use Rattle.frame.proofs.Answers.{refused-same, answered-same, wait-same, wait-answered}
+use Rattle.frame.proofs.Answers.{answered-same, wait-same, wait-answered}
+use Rattle.answer.proofs.Answers.{refused-same}
 use Rattle.payload.specs.declared.Counts.{Counts}
 use Rattle.payload.specs.Payload.{Contents}
 use Rattle.parser.specs.Frame.{frameRead}
