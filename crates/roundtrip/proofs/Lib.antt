@@ -5,3 +5,6 @@ pub mod Rows
 pub mod Value
 pub mod Pair
 pub mod Action
+pub mod Groups
+pub mod Head
+pub mod Rewritten
