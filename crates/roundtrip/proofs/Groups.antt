@@ -33,14 +33,15 @@ groupBytes f g = nameBytes f (g .0) ++ joined (pairBytes f) (g .1)
 abbrev pub PlainGroup : List ℕ → Message × List Pair → Type 0
 PlainGroup f g = Each (Plain f) (g .1)
 
--- they are where their pairs are
-pub groups-plain : (f : List ℕ) (gs : List (Message × List Pair)) → Each (Plain f) (pairsOf gs) → Each (PlainGroup f) gs
-groups-plain f [] e = tt
-groups-plain f (g ∷ gs) e = let o = each-parts (Plain f) (g .1) (pairsOf gs) e in (o .0, groups-plain f gs (o .1))
+-- what holds of all pairs of groups holds of each group's, and the other way round
+module _ (Q : Pair → Type 0) where
+  pub groups-parts : (gs : List (Message × List Pair)) → Each Q (pairsOf gs) → Each (λ g. Each Q (g .1)) gs
+  groups-parts [] e = tt
+  groups-parts (g ∷ gs) e = let o = each-parts Q (g .1) (pairsOf gs) e in (o .0, groups-parts gs (o .1))
 
-pub plain-groups : (f : List ℕ) (gs : List (Message × List Pair)) → Each (PlainGroup f) gs → Each (Plain f) (pairsOf gs)
-plain-groups f [] e = tt
-plain-groups f (g ∷ gs) e = each-both (Plain f) (g .1) (pairsOf gs) (e .0) (plain-groups f gs (e .1))
+  pub groups-all : (gs : List (Message × List Pair)) → Each (λ g. Each Q (g .1)) gs → Each Q (pairsOf gs)
+  groups-all [] e = tt
+  groups-all (g ∷ gs) e = each-both Q (g .1) (pairsOf gs) (e .0) (groups-all gs (e .1))
 
 module _ (f : List ℕ) (small : Bytes f) where
   -- ---- their bytes

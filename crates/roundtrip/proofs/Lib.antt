@@ -8,3 +8,7 @@ pub mod Action
 pub mod Groups
 pub mod Head
 pub mod Rewritten
+pub mod Keys
+pub mod Again
+pub mod Inverse
+pub mod Agents
