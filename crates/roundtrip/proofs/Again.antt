@@ -1,194 +1,311 @@
--- What the writers answer to the records that the frame reader left of an accepted frame, with the frame's own bytes as their buffer: the frame's bytes, where
--- its texts are UTF-8 and its values plain; 15 at the first record with another text; and else other bytes. Of a KV list it is Kv that says so.
+-- What the writers answer to the records that a reader left of an accepted frame, with the frame's own bytes as their buffer, whichever side sent it: the frame's
+-- bytes, where its texts are UTF-8 and its values plain; 15 at the first record with another text; and else other bytes.
 use mathlib.Core.Path.{_≡_, refl, sym, ap, _∙_}
-use mathlib.Core.Bool.{true, false, not, _||_}
+use mathlib.Core.Bool.{true, false, cond, not, _||_, _&&_}
 use mathlib.Core.List.{List, [], _++_}
 use Prim.Native.Nat.{ℕ, _+_, _*_, _≤_, _<_}
 use native.Mathlib.Omega.{arith}
 use lib.Dec.{eqb}
-use lib.ListN.{length, take, length-append}
+use lib.ListN.{length, take, length-append, length-map}
+use lib.Seq.{getD-take, length-take-le}
 use borrow.Author.Tests.{le-leb, eq-eqb, ne-eqb, eqb-true, eqb-false}
 use Rattle.answer.specs.Answer.{done, refused}
-use Rattle.answer.specs.Inner.{Sound}
-use Rattle.answer.specs.Table.{records, joined}
+use Rattle.answer.specs.Order.{inOrder}
+use Rattle.answer.specs.Inner.{Sound, InRow}
+use Rattle.answer.specs.Table.{records, joined, some}
 use Rattle.answer.proofs.Cases.{bool-cases}
+use Rattle.answer.proofs.Each.{Each}
+use Rattle.answer.proofs.Records.{records-none, records-length}
 use Rattle.varint.proofs.Reading.{Bytes}
 use Rattle.types.proofs.Checking.{string-ill, string-well}
 use Rattle.frame.specs.declared.Head.{Head}
-use Rattle.frame.specs.Records.{messageWidth, messageAt, messageNumbers, pairWidth, pairAt}
-use Rattle.parser.specs.declared.Rooms.{Rooms}
-use Rattle.parser.specs.Payload.{Contents}
+use Rattle.frame.specs.declared.Pair.{Pair}
+use Rattle.frame.specs.declared.Message.{Message}
+use Rattle.frame.specs.declared.Side.{Side}
+use Rattle.frame.specs.declared.Side.the-variants as side
+use Rattle.frame.specs.Records.{messageWidth, messageAt, messageNumbers, pairWidth, pairAt, pairNumbers, actionWidth, actionAt, actionNumbers, sameKey}
 use Rattle.frame.specs.Read.{answered}
 use Rattle.frame.proofs.Heads.{three-says}
-use Rattle.parser.specs.Frame.{haproxys, frameRead}
-use Rattle.parser.specs.Promise.{roomsOf, contentsRead, Fills}
-use Rattle.parser.specs.Inner.{Run}
-use Rattle.parser.proofs.Filling.{joined-width}
-use Rattle.records.specs.Inner.{Laid}
-use Rattle.parser.proofs.Accepted.{frame-cut}
-use Rattle.listing.proofs.Accepted.{Named, Held, whole-held}
-use Rattle.listing.proofs.Tables.{table-messages}
+use Rattle.payload.specs.declared.Counts.{Counts}
+use Rattle.payload.specs.declared.Payload.{Payload}
+use Rattle.payload.specs.declared.Payload.the-variants as k
+use Rattle.payload.specs.Pair.{pairFrom}
+use Rattle.payload.specs.Action.{actionFrom}
+use Rattle.payload.specs.Payload.{Contents, payload}
+use Rattle.payload.specs.Promise.{countsOf}
+use Rattle.payload.specs.Inner.{Run}
+use Rattle.payload.proofs.Filling.{joined-width}
+use Rattle.payload.proofs.Rowing.{Row, Found, row-found}
+use Rattle.payload.proofs.Accepted.{Group, KvHeld, kv-run, MessagesHeld, messages-run, ActionsHeld, actions-run, Once, messagesOf, pairsOf}
+use Rattle.parser.specs.declared.FrameRead.{FrameRead}
+use Rattle.parser.specs.declared.FrameRead.the-variants as v
+use Rattle.parser.specs.Frame.{payloadOf, frameRead}
+use Rattle.parser.specs.Promise.{frameSaid, FrameFills}
+use Rattle.parser.proofs.Entries.{said-done}
+use Rattle.parser.proofs.Frames.{frame-cut}
+use Rattle.writer.specs.Pair.{pairBytes, kvChecks}
+use Rattle.writer.specs.Action.{actionBytes}
 use Rattle.writer.specs.Message.{messageBytes, runStart}
-use Rattle.writer.specs.Inner.{pairOrder, messageOrder}
-use Rattle.writer.specs.Frame.{headOf, kvAllowed, messagesBytes, notifyAnswer}
+use Rattle.writer.specs.Inner.{pairOrder, messageOrder, actionOrder}
+use Rattle.writer.specs.Frame.{headOf, finAlone, kvAllowed, kvAnswer, messagesBytes, notifyAnswer, actionsAnswer}
+use Rattle.writer.proofs.Pairs.{kv-own, kv-new}
 use Rattle.writer.proofs.Messages.{message-name}
-use Rattle.writer.proofs.Answers.{kv-haproxy-hello, kv-haproxy-disconnect, notify-held, notify-named, notify-passed}
-use Rattle.roundtrip.proofs.Plain.{plainPair, wellPair, wellName, WellNames}
-use Rattle.roundtrip.proofs.Payload.{Distinct, kv-distinct, kv-stands, messages-stand}
-use Rattle.roundtrip.proofs.Listed.{messages-form, messages-only, Runs, runs-stand, no-stray}
+use Rattle.writer.proofs.Answers.{kv-haproxy-hello, kv-haproxy-disconnect, kv-agent-hello, kv-agent-disconnect, kv-list, actions-list, notify-held, notify-named, notify-passed}
+use Rattle.roundtrip.proofs.Plain.{plainPair, plainAction, wellPair, wellName, wellAction, WellNames}
+use Rattle.roundtrip.proofs.Held.{Whole, pair-there, table-messages, table-pairs, table-actions}
+use Rattle.roundtrip.proofs.Rows.{row-each}
+use Rattle.roundtrip.proofs.Pair.{Plain, run-form, run-only, pair-refuses}
+use Rattle.roundtrip.proofs.Action.{RefusesText, actions-form, actions-only, actions-refuse}
+use Rattle.roundtrip.proofs.Groups.{groupBytes, groups-parts, groups-all, groups-form, groups-only, groups-bytes, Runs, runs-stand, no-stray}
+use Rattle.roundtrip.proofs.Keys.{once-at}
 use Rattle.roundtrip.proofs.Head.{Accepted, frame-accepted}
-use Rattle.roundtrip.proofs.Pair.{Plain}
-use Rattle.roundtrip.proofs.Rewritten.{Rewrites, Says, says-number, none-ill, first-ill, each-held, held-each, frame-same, frame-only}
-use Rattle.roundtrip.proofs.Kv.{pair-says, Kv, table-in}
+use Rattle.roundtrip.proofs.Rewritten.{Rewrites, fifteen, Says, says-number, none-ill, first-ill, each-held, held-each, frame-same, frame-only, list-rewrites}
 
--- ---- an accepted frame
+-- ---- what a reader leaves
 
-module _ (rooms : Rooms) (limit : ℕ) (s : List ℕ) (m : Head) (c : Contents) (used : ℕ) (x : Accepted (haproxys rooms) limit s m c used) where
-  ends : x .start + x .end ≡ length (take used s)
-  ends = x .ends ∙ sym (x .long)
+-- a table that holds these records at its front
+pub record Table {A : Type 0} (at : List ℕ → ℕ → A) (width : ℕ) (table : List ℕ) (n : ℕ) (xs : List A) : Type 0 where
+  pub hold : records (at table) 0 n ≡ xs
+  pub room : n * width ≤ length table
 
-  -- Law: a list's pairs stand one behind the other up to its end, and no key is met twice; and so do a NOTIFY's messages.
-  pub frame-run : (m .«frame_type» ≡ 3 → ⊥) → Run (take used s) (x .start) (c .pairs) (length (take used s)) × Distinct (take used s) [] (c .pairs)
-  frame-run kv =
-      let f = take used s in
-      let is = rw (ap not (ne-eqb (m .«frame_type») 3 kv)) at (x .read) in
-      let same = ap (λ (d : Contents). d .pairs) (x .moved) in
-      (rw (same, ends) at (kv-stands rooms f (x .start) (x .contents) (x .end) is), rw same at (kv-distinct rooms f (x .start) (x .contents) (x .end) is))
+-- the records' numbers at its front make such a table
+in-table : {A : Type 0} (numbers : A → List ℕ) (at : List ℕ → ℕ → A) (width : ℕ) → ((x : A) → length (numbers x) ≡ width)
+    → ((xs : List A) (t : List ℕ) → records (at (joined numbers xs ++ t)) 0 (length xs) ≡ xs) → (xs : List A) (table t : List ℕ) → table ≡ joined numbers xs ++ t
+    → (n : ℕ) → length xs ≡ n → Table at width table n xs
+in-table numbers at width each holds xs table t is n many =
+    rw (sym many)
+    (record { hold = rw is (holds xs t); room = omega (arith, ap length is, length-append (joined numbers xs) t, joined-width numbers width each xs) })
 
-  pub frame-laid : m .«frame_type» ≡ 3 → Laid (take used s) (x .start) 0 (c .messages) (c .pairs) (length (take used s))
-  frame-laid notify =
-      let o = messages-stand rooms (take used s) (x .start) (x .there) (x .contents) (x .end) (rw (ap not (eq-eqb (m .«frame_type») 3 notify)) at (x .read)) in
-      let ms = ap (λ (d : Contents). d .messages) (x .moved) in
-      let ps = ap (λ (d : Contents). d .pairs) (x .moved) in
-      rw (ms, ps, ends) at o
+-- A frame f of a side that was accepted, and tables that hold so many records of it.
+pub record Left (x : Side) (limit : ℕ) (f : List ℕ) (m : Head) (counts : Counts) (messages pairs actions : List ℕ) : Type 0 where
+  pub small : Bytes f
+  pub contents : Contents
+  pub rooms : Counts
+  pub whole : Accepted x limit rooms f m contents
+  pub in-messages : Table messageAt messageWidth messages (counts .messages) (contents .messages)
+  pub in-pairs : Table pairAt pairWidth pairs (counts .pairs) (contents .pairs)
+  pub in-actions : Table actionAt actionWidth actions (counts .actions) (contents .actions)
 
--- ---- and the tables that the reader left
+-- Law: where a reader is done, it left such tables; and the frame has as many bytes as it took.
+module _ (x : Side) (limit : ℕ) (rooms : Counts) (s : List ℕ) (small : Bytes s) (r : FrameRead) (oldMessages newMessages oldPairs newPairs oldActions newActions : List ℕ)
+    (reads : FrameFills (frameRead x limit rooms s) r oldMessages newMessages oldPairs newPairs oldActions newActions) (m : Head) (counts : Counts) (used : ℕ) (is : r ≡ v.Done m counts used) where
+  found : (c : Contents) × (frameRead x limit rooms s ≡ answered (done (m, c) used)) × (countsOf c ≡ counts)
+  found = said-done (frameRead x limit rooms s) m counts used (ap frameSaid (sym is) ∙ reads .says)
 
-module _ (limit : ℕ) (s oldMessages newMessages oldPairs newPairs : List ℕ) (m : Head) (c : Contents) (used : ℕ) (small : Bytes (take used s))
-    (e : frameRead limit (roomsOf oldMessages oldPairs) s ≡ answered (done (m, c) used))
-    (fills : Fills (contentsRead (frameRead limit (roomsOf oldMessages oldPairs) s)) oldMessages newMessages oldPairs newPairs) where
-  abbrev f : List ℕ
-  f = take used s
+  there : used ≤ length s
+  there = frame-cut x limit rooms s m (found .0) used (found .1) .there
+
+  pub long : length (take used s) ≡ used
+  long = length-take-le used s there
+
+  bytes : Bytes (take used s)
+  bytes i l = rw (getD-take used s i 0 (omega (arith, long))) (small i (omega (arith, long, there)))
+
+  pub left : Left x limit (take used s) m counts newMessages newPairs newActions
+  left =
+      let c = found .0 in
+      let e = found .1 in
+      let n = found .2 in
+      record {
+        small = bytes;
+        contents = c;
+        rooms = rooms;
+        whole = frame-accepted x limit rooms s m c used bytes e;
+        in-messages = in-table messageNumbers messageAt messageWidth (λ y. refl) table-messages (c .messages) newMessages _ (rw e at (reads .fills .messages)) (counts .messages) (ap (λ (z : Counts). z .messages) n);
+        in-pairs = in-table pairNumbers pairAt pairWidth (λ y. refl) table-pairs (c .pairs) newPairs _ (rw e at (reads .fills .pairs)) (counts .pairs) (ap (λ (z : Counts). z .pairs) n);
+        in-actions = in-table actionNumbers actionAt actionWidth (λ y. refl) table-actions (c .actions) newActions _ (rw e at (reads .fills .actions)) (counts .actions) (ap (λ (z : Counts). z .actions) n);
+      }
+
+-- ---- what the writers answer to it
+
+module _ {x : Side} {limit : ℕ} {f : List ℕ} {m : Head} {counts : Counts} {messages pairs actions : List ℕ} (l : Left x limit f m counts messages pairs actions) where
+  abbrev c : Contents
+  c = l .contents
+
+  abbrev start : ℕ
+  start = l .whole .start
 
   abbrev h : Head
   h = headOf (m .«frame_type») true false (m .stream) (m .frame)
 
   abbrev rows : ℕ
-  rows = length (c .messages)
+  rows = counts .messages
 
   abbrev total : ℕ
-  total = length (c .pairs)
+  total = counts .pairs
 
-  x : Accepted (haproxys (roomsOf oldMessages oldPairs)) limit s m c used
-  x = frame-accepted limit (roomsOf oldMessages oldPairs) s m c used small e
+  read-as : (kind : Payload) → payloadOf (m .«frame_type») ≡ kind → payload kind (l .rooms) start f ≡ done c (length f)
+  read-as kind is = ap (λ (y : Payload). payload y (l .rooms) start f) (sym is) ∙ l .whole .read
 
-  held : Held (length f) c
-  held = whole-held (roomsOf oldMessages oldPairs) f m c used (frame-cut limit (roomsOf oldMessages oldPairs) s m c used e .is)
+  -- pairs in a row lie in the bytes; and of a pair that does, its own checks are its texts'
+  run-whole : (at : ℕ) (ps : List Pair) (end : ℕ) → Run f at ps end → Each (Whole (length f)) ps
+  run-whole at ps end r = row-each {Here = Found (λ n. pairFrom n f)} (Whole (length f)) (λ n p next e. pair-there f n p next e) at ps end (row-found (λ n. pairFrom n f) at ps end r)
 
-  table : (records (pairAt newPairs) 0 total ≡ c .pairs) × (total * pairWidth ≤ length newPairs)
-  table = table-in (c .pairs) newPairs _ (rw e at (fills .pairs))
+  pair-says : Each (Whole (length f)) (c .pairs) → (i : ℕ) → i < total → inOrder (pairOrder f pairs i) 0 ≡ cond (wellPair f (pairAt pairs i)) 0 15
+  pair-says whole i b = pair-refuses f (pairAt pairs i) (held-each (Whole (length f)) (pairAt pairs) total (c .pairs) (l .in-pairs .hold) whole i b)
 
-  in-messages : (t : List ℕ) × (newMessages ≡ joined messageNumbers (c .messages) ++ t)
-  in-messages = (_, rw e at (fills .messages))
+  -- ---- a KV list
 
-  hold-messages : records (messageAt newMessages) 0 rows ≡ c .messages
-  hold-messages = rw (in-messages .1) (table-messages (c .messages) (in-messages .0))
+  module _ (kv : payloadOf (m .«frame_type») ≡ k.KvList) (allowed : kvAllowed h ≡ true) where
+    kv-held : KvHeld f start c (length f)
+    kv-held = kv-run (l .rooms) start f c (length f) (read-as k.KvList kv)
 
-  messages-room : rows * messageWidth ≤ length newMessages
-  messages-room =
-      omega (arith, ap length (in-messages .1), length-append (joined messageNumbers (c .messages)) (in-messages .0), joined-width messageNumbers messageWidth (λ p. refl) (c .messages))
+    fresh : (i : ℕ) → i < total → some (sameKey f (pairAt pairs i)) (records (pairAt pairs) 0 i) ≡ false
+    fresh i b =
+        let here : 0 + i ≡ i = omega arith in
+        let once : Once f (records (pairAt pairs) 0 0) (records (pairAt pairs) 0 total) = rw (records-none (pairAt pairs) 0, l .in-pairs .hold) (kv-held .once) in
+        rw here at (once-at f (pairAt pairs) total 0 once i b)
 
-  -- ---- KV frames
-
-  -- their pairs and the table that holds them, and that their head may be written
-  module _ (kv : m .«frame_type» ≡ 3 → ⊥) where
-    pub kv-listed : Kv limit f h newPairs (c .pairs)
-    kv-listed =
-        let o = frame-run (roomsOf oldMessages oldPairs) limit s m c used x kv in
+    kv-says : (i : ℕ) → i < total → Says (kvChecks f pairs i) (wellPair f (pairAt pairs i))
+    kv-says i b =
+        let own = pair-says (run-whole start (c .pairs) (length f) (kv-held .run)) i b in
         record {
-          start = x .start;
-          form = x .form;
-          fits = omega (arith, x .long, x .fits);
-          hold = table .0;
-          room = table .1;
-          run = o .0;
-          distinct = o .1;
+          passes = λ t. kv-new f pairs i (says-number _ _ tt own .passes t) (fresh i b);
+          refuses = λ t. kv-own f pairs i 15 (sym (own ∙ rw t)) fifteen;
         }
 
-    pub kv-may : kvAllowed h ≡ true
-    kv-may =
-        bool-cases (eqb (m .«frame_type») 1)
-        (λ t. kv-haproxy-hello h (eqb-true (m .«frame_type») 1 t))
-        (λ t.
-        bool-cases (eqb (m .«frame_type») 2)
-        (λ u. kv-haproxy-disconnect h (eqb-true (m .«frame_type») 2 u))
-        (λ u. absurd (kv (by-elimination (eqb-false (m .«frame_type») 1 t) (eqb-false (m .«frame_type») 2 u)))))
-      where
-        by-elimination : (m .«frame_type» ≡ 1 → ⊥) → (m .«frame_type» ≡ 2 → ⊥) → m .«frame_type» ≡ 3
-        by-elimination a b = omega (arith, three-says 1 (m .«frame_type») (x .own))
+    -- Law: the writer writes the frame again, by its pairs.
+    pub kv-rewrites : Rewrites limit f h (kvAnswer h limit f pairs total) total (λ i. wellPair f (pairAt pairs i)) (λ i. plainPair f (pairAt pairs i))
+    kv-rewrites =
+        rw (kv-list h limit f pairs total)
+        (list-rewrites limit f h start (l .whole .form) (l .whole .fits) (pairBytes f) (wellPair f) (plainPair f) (pairAt pairs) total (c .pairs) (l .in-pairs .hold)
+        (run-form f (l .small) start (c .pairs) (length f) (kv-held .run)) (λ is. run-only f (l .small) start (c .pairs) (length f) (kv-held .run) [] is .0)
+        (kvAllowed h) allowed pairWidth pairs (l .in-pairs .room) (kvChecks f pairs) kv-says)
 
-  -- ---- NOTIFY frames
+  -- ---- actions
+
+  module _ (ack : m .«frame_type» ≡ 103) where
+    acts : InRow (λ n. actionFrom n f) start (c .actions) (length f)
+    acts = actions-run (l .rooms) start f c (length f) (read-as k.Actions (ap payloadOf ack)) .run
+
+    action-says : (i : ℕ) → i < counts .actions → Says (actionOrder f actions i) (wellAction f (actionAt actions i))
+    action-says i b =
+        says-number _ _ tt
+        (held-each (RefusesText f) (actionAt actions) (counts .actions) (c .actions) (l .in-actions .hold) (actions-refuse f (l .small) start (c .actions) (length f) acts) i b)
+
+    -- Law: the same, by its actions.
+    pub ack-rewrites : Rewrites limit f h (actionsAnswer h limit f actions (counts .actions)) (counts .actions) (λ i. wellAction f (actionAt actions i)) (λ i. plainAction f (actionAt actions i))
+    ack-rewrites =
+        rw (actions-list h limit f actions (counts .actions))
+        (list-rewrites limit f h start (l .whole .form) (l .whole .fits) (actionBytes f) (wellAction f) (plainAction f) (actionAt actions) (counts .actions) (c .actions) (l .in-actions .hold)
+        (actions-form f (l .small) start (c .actions) (length f) acts) (actions-only f (l .small) start (c .actions) (length f) acts [])
+        (finAlone h) refl actionWidth actions (l .in-actions .room) (actionOrder f actions) action-says)
+
+  -- ---- messages
 
   module _ (notify : m .«frame_type» ≡ 3) where
-    lie : Laid f (x .start) 0 (c .messages) (c .pairs) (length f)
-    lie = frame-laid (roomsOf oldMessages oldPairs) limit s m c used x notify
+    held : MessagesHeld f start c (length f)
+    held = messages-run (l .rooms) start f c (length f) (read-as k.Messages (ap payloadOf notify))
 
-    runs : (i : ℕ) → i < rows → Runs newMessages rows total i
-    runs i l =
+    abbrev gs : List (Message × List Pair)
+    gs = held .groups
+
+    -- the tables hold the groups' messages and pairs
+    many-rows : length gs ≡ rows
+    many-rows = sym (length-map gs (λ g. g .0)) ∙ ap length (sym (l .in-messages .hold ∙ held .messages)) ∙ records-length (messageAt messages) rows 0
+
+    many-pairs : length (c .pairs) ≡ total
+    many-pairs = ap length (sym (l .in-pairs .hold)) ∙ records-length (pairAt pairs) total 0
+
+    pairs-held : records (pairAt pairs) 0 (length (pairsOf gs)) ≡ pairsOf gs
+    pairs-held = ap (records (pairAt pairs) 0) (ap length (sym (held .pairs)) ∙ many-pairs) ∙ l .in-pairs .hold ∙ held .pairs
+
+    runs : (i : ℕ) → i < rows → Runs f messages rows total i
+    runs i b =
         let here : 0 + i ≡ i = omega arith in
-        rw here at (runs-stand f small newMessages rows 0 (x .start) 0 (c .pairs) (length f) rows total (rw hold-messages lie) refl (omega arith) (omega arith) i l)
+        let count : rows ≡ 0 + length gs = omega (arith, many-rows) in
+        rw here at
+        (runs-stand f messages (l .small) rows total 0 (start, 0) gs (length f, length (c .pairs)) (held .run)
+        (ap (records (messageAt messages) 0) many-rows ∙ l .in-messages .hold ∙ held .messages) refl count (sym many-pairs) i (omega (arith, many-rows)))
 
     no-pair : not (eqb rows 0) || eqb total 0 ≡ true
     no-pair =
         bool-cases (eqb rows 0)
-        (λ t. rw (t, eq-eqb total 0 (no-stray f small (x .start) 0 (c .messages) (c .pairs) (length f) lie (eqb-true rows 0 t))))
+        (λ t. rw (t, eq-eqb total 0 (sym many-pairs ∙ ap length (held .pairs) ∙ no-stray gs (many-rows ∙ eqb-true rows 0 t))))
         (λ t. rw t)
 
-    name-says : (i : ℕ) → i < rows → Says (messageOrder f total newMessages rows i) (wellName f (messageAt newMessages i))
-    name-says i l =
-        let a = messageAt newMessages i in
-        let r = runs i l in
-        let there = le-leb _ (length f) (held-each (Named (length f)) (messageAt newMessages) (c .messages) hold-messages (held .messages) i l) in
+    name-says : (i : ℕ) → i < rows → Says (messageOrder f total messages rows i) (wellName f (messageAt messages i))
+    name-says i b =
+        let a = messageAt messages i in
+        let r = runs i b in
+        let there = le-leb (a .start + a .len) (length f) (r .inside) in
         says-number _ _ tt
-        (message-name f total (runStart newMessages i) (eqb (i + 1) rows) a (eq-eqb (a .first) (runStart newMessages i) (r .starts))
+        (message-name f total (runStart messages i) (eqb (i + 1) rows) a (eq-eqb (a .first) (runStart messages i) (r .starts))
         (λ t. eq-eqb total (a .first + a .count) (r .ends (eqb-true (i + 1) rows t)))
         (r .few)
         ∙ bool-cases (wellName f a) (λ t. string-well f _ _ there t ∙ rw t) (λ t. string-ill f _ _ there t ∙ rw t))
 
     -- Law: where a name is not UTF-8, and all before it are, the writer refuses with 15 and the message's index.
-    pub notify-refuses-name : (i : ℕ) → i < rows → wellName f (messageAt newMessages i) ≡ false → WellNames f newMessages i
-        → notifyAnswer h limit f newMessages rows newPairs total ≡ refused 15 i
-    notify-refuses-name i l ill ws =
-        notify-held h limit f newMessages rows newPairs total refl messages-room (table .1) no-pair
-        ∙ first-ill (messageOrder f total newMessages rows) rows (λ i. wellName f (messageAt newMessages i)) name-says _ i l ill ws
+    pub notify-refuses-name : (i : ℕ) → i < rows → wellName f (messageAt messages i) ≡ false → WellNames f messages i
+        → notifyAnswer h limit f messages rows pairs total ≡ refused 15 i
+    notify-refuses-name i b ill ws =
+        notify-held h limit f messages rows pairs total refl (l .in-messages .room) (l .in-pairs .room) no-pair
+        ∙ first-ill (messageOrder f total messages rows) rows (λ i. wellName f (messageAt messages i)) name-says _ i b ill ws
 
     -- Law: where all names are UTF-8, it writes the frame again, by its pairs.
-    module _ (names : WellNames f newMessages rows) where
-      no-name : Sound (messageOrder f total newMessages rows) rows
-      no-name = none-ill (messageOrder f total newMessages rows) rows (λ i. wellName f (messageAt newMessages i)) name-says names
+    module _ (names : WellNames f messages rows) where
+      no-name : Sound (messageOrder f total messages rows) rows
+      no-name = none-ill (messageOrder f total messages rows) rows (λ i. wellName f (messageAt messages i)) name-says names
 
-      pairs-say : (i : ℕ) → i < total → Says (pairOrder f newPairs i) (wellPair f (pairAt newPairs i))
-      pairs-say i l = says-number _ _ tt (pair-says f newPairs (c .pairs) (table .0) (held .pairs) i l)
+      arguments-whole : Each (Whole (length f)) (c .pairs)
+      arguments-whole =
+          rw (held .pairs)
+          (groups-all (Whole (length f)) gs
+          (row-each (λ g. Each (Whole (length f)) (g .1)) (λ p g q y. run-whole (y .place) (g .1) (q .0) (y .run)) (start, 0) gs (length f, length (c .pairs)) (held .run)))
 
-      all : messagesBytes f newMessages rows newPairs ≡ joined (messageBytes f newPairs) (c .messages)
-      all = ap (joined (messageBytes f newPairs)) hold-messages
+      pairs-say : (i : ℕ) → i < total → Says (pairOrder f pairs i) (wellPair f (pairAt pairs i))
+      pairs-say i b = says-number _ _ tt (pair-says arguments-whole i b)
 
-      pub notify-rewrites : Rewrites limit f h (notifyAnswer h limit f newMessages rows newPairs total) total (λ i. wellPair f (pairAt newPairs i)) (λ i. plainPair f (pairAt newPairs i))
+      all : messagesBytes f messages rows pairs ≡ joined (groupBytes f) gs
+      all =
+          ap (joined (messageBytes f pairs)) (l .in-messages .hold ∙ held .messages)
+          ∙ groups-bytes f (l .small) pairs (start, 0) gs (length f, length (c .pairs)) (held .run) pairs-held
+
+      pub notify-rewrites : Rewrites limit f h (notifyAnswer h limit f messages rows pairs total) total (λ i. wellPair f (pairAt pairs i)) (λ i. plainPair f (pairAt pairs i))
       notify-rewrites =
           record {
-            payload = messagesBytes f newMessages rows newPairs;
-            fits = omega (arith, x .long, x .fits);
+            payload = messagesBytes f messages rows pairs;
+            fits = l .whole .fits;
             taken = λ ws.
-                notify-passed h limit f newMessages rows newPairs total refl messages-room (table .1) no-pair no-name
-                (none-ill (pairOrder f newPairs) total (λ i. wellPair f (pairAt newPairs i)) pairs-say ws);
-            ill = λ i l ill ws.
-                notify-named h limit f newMessages rows newPairs total refl messages-room (table .1) no-pair no-name
-                ∙ first-ill (pairOrder f newPairs) total (λ i. wellPair f (pairAt newPairs i)) pairs-say _ i l ill ws;
+                notify-passed h limit f messages rows pairs total refl (l .in-messages .room) (l .in-pairs .room) no-pair no-name
+                (none-ill (pairOrder f pairs) total (λ i. wellPair f (pairAt pairs i)) pairs-say ws);
+            ill = λ i b ill ws.
+                notify-named h limit f messages rows pairs total refl (l .in-messages .room) (l .in-pairs .room) no-pair no-name
+                ∙ first-ill (pairOrder f pairs) total (λ i. wellPair f (pairAt pairs i)) pairs-say _ i b ill ws;
             same = λ ps.
                 rw all
-                (frame-same f h (x .start) (x .form) (joined (messageBytes f newPairs) (c .messages))
-                (messages-form f small newPairs (x .start) 0 (c .messages) (c .pairs) (length f) lie (table .0) (each-held (Plain f) (pairAt newPairs) (c .pairs) (table .0) ps)));
+                (frame-same f h start (l .whole .form) (joined (groupBytes f) gs)
+                (groups-form f (l .small) (start, 0) gs (length f, length (c .pairs)) (held .run)
+                (groups-parts (Plain f) gs (rw (held .pairs) at (each-held (Plain f) (pairAt pairs) total (c .pairs) (l .in-pairs .hold) ps)))));
             only = λ is.
-                held-each (Plain f) (pairAt newPairs) (c .pairs) (table .0)
-                (messages-only f small newPairs (x .start) 0 (c .messages) (c .pairs) (length f) lie (table .0) [] (rw all at (frame-only f h (x .start) (x .form) _ is)));
+                held-each (Plain f) (pairAt pairs) total (c .pairs) (l .in-pairs .hold)
+                (rw (held .pairs)
+                (groups-all (Plain f) gs
+                (groups-only f (l .small) (start, 0) gs (length f, length (c .pairs)) (held .run) [] (rw all at (frame-only f h start (l .whole .form) _ is)))));
           }
+
+-- ---- which frames are KV lists, and what of their head may be written
+
+module _ {limit : ℕ} {f : List ℕ} {m : Head} {counts : Counts} {messages pairs actions : List ℕ} where
+  pub haproxy-kv : Left side.HAProxy limit f m counts messages pairs actions → (m .«frame_type» ≡ 3 → ⊥) → (payloadOf (m .«frame_type») ≡ k.KvList) × (kvAllowed (headOf (m .«frame_type») true false (m .stream) (m .frame)) ≡ true)
+  haproxy-kv l kv =
+      let own = three-says 1 (m .«frame_type») (l .whole .own) in (
+        rw (ne-eqb (m .«frame_type») 3 kv, ne-eqb (m .«frame_type») 103 (λ e. omega (arith, e, own .1))),
+        bool-cases (eqb (m .«frame_type») 1) (λ t. kv-haproxy-hello (headOf (m .«frame_type») true false (m .stream) (m .frame)) (eqb-true (m .«frame_type») 1 t))
+            (λ t. kv-haproxy-disconnect (headOf (m .«frame_type») true false (m .stream) (m .frame)) (second (eqb-false (m .«frame_type») 1 t) own)),
+      )
+    where
+      second : (m .«frame_type» ≡ 1 → ⊥) → (1 ≤ m .«frame_type») × (m .«frame_type» ≤ 3) → m .«frame_type» ≡ 2
+      second a own = omega (arith, own)
+
+  pub agent-kv : Left side.Agents limit f m counts messages pairs actions → (m .«frame_type» ≡ 103 → ⊥)
+      → (payloadOf (m .«frame_type») ≡ k.KvList) × (kvAllowed (headOf (m .«frame_type») true false (m .stream) (m .frame)) ≡ eqb (m .stream) 0 && eqb (m .frame) 0)
+  agent-kv l kv =
+      let own = three-says 101 (m .«frame_type») (l .whole .own) in (
+        rw (ne-eqb (m .«frame_type») 3 (λ e. omega (arith, e, own .0)), ne-eqb (m .«frame_type») 103 kv),
+        bool-cases (eqb (m .«frame_type») 101) (λ t. kv-agent-hello (headOf (m .«frame_type») true false (m .stream) (m .frame)) (eqb-true (m .«frame_type») 101 t))
+            (λ t. kv-agent-disconnect (headOf (m .«frame_type») true false (m .stream) (m .frame)) (second (eqb-false (m .«frame_type») 101 t) own)),
+      )
+    where
+      second : (m .«frame_type» ≡ 101 → ⊥) → (101 ≤ m .«frame_type») × (m .«frame_type» ≤ 103) → m .«frame_type» ≡ 102
+      second a own = omega (arith, own)

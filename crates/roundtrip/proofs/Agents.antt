@@ -1,66 +1,51 @@
 -- The same of agents' frames, as the calls promise it: `read_agent_frame` leaves records of an accepted frame of types 101 to 103, and `write_kv` or
 -- `write_actions` is given them, with the frame's own bytes as its buffer and the same limit.
-use mathlib.Core.Path.{_≡_, sym, ap, _∙_}
+use mathlib.Core.Path.{_≡_, _∙_}
 use mathlib.Core.Bool.{true, false, _&&_}
-use mathlib.Core.List.{List, _++_}
-use Prim.Native.Nat.{ℕ, _/_, _≤_, _<_}
-use native.Mathlib.Omega.{arith}
+use mathlib.Core.List.{List, [], _++_}
+use Prim.Native.Nat.{ℕ, _≤_, _<_}
 use lib.Dec.{eqb}
 use lib.ListN.{length, take, drop}
-use lib.Seq.{getD-take, length-take-le}
 use borrow.Author.Tests.{eq-eqb, eqb-true, eqb-false}
-use Rattle.answer.specs.Answer.{done}
 use Rattle.answer.specs.declared.Written.{Written}
 use Rattle.answer.specs.declared.Written.the-variants as w
 use Rattle.answer.proofs.Cases.{bool-cases}
 use Rattle.varint.proofs.Reading.{Bytes}
 use Rattle.frame.specs.declared.Head.{Head}
-use Rattle.frame.specs.Records.{pairWidth, pairAt, actionWidth, actionAt}
-use Rattle.frame.specs.Read.{answered}
-use Rattle.agent.specs.declared.AgentRead.{AgentRead}
-use Rattle.agent.specs.declared.AgentRead.the-variants as a
-use Rattle.agent.specs.Frame.{Sent}
-use Rattle.parser.specs.Promise.{Counts}
-use Rattle.agent.specs.Promise.{agentSaid, readInto, ReadAgentFrame}
-use Rattle.agent.proofs.Entries.{countsOf, said-done}
+use Rattle.frame.specs.declared.Side.the-variants as side
+use Rattle.frame.specs.Records.{pairWidth, pairAt, actionAt}
+use Rattle.payload.specs.declared.Counts.{Counts}
+use Rattle.payload.specs.Promise.{roomsOf}
+use Rattle.parser.specs.declared.FrameRead.{FrameRead}
+use Rattle.parser.specs.declared.FrameRead.the-variants as v
+use Rattle.parser.specs.Promise.{ReadAgentFrame}
 use Rattle.writer.specs.Pair.{kvChecks}
 use Rattle.writer.specs.Frame.{headOf, limited, kvAllowed, pairsBytes, kvAnswer, actionsAnswer}
 use Rattle.writer.specs.Promise.{WriteKv, WriteActions}
 use Rattle.writer.proofs.Answers.{kv-list, list-metadata}
 use Rattle.roundtrip.proofs.Plain.{plainPair, wellPair, WellPairs, PlainPairs, plainAction, wellAction, WellActions, PlainActions}
-use Rattle.agent.proofs.Standing.{agent-cut}
 use Rattle.roundtrip.proofs.Rewritten.{Rewrites, caller-refused, done-refused, wrote-back, wrote-none, wrote-other, wrote-only}
-use Rattle.roundtrip.proofs.Kv.{kv-rewrites}
-use Rattle.roundtrip.proofs.Sent.{sent-listed, sent-may, ack-rewrites}
+use Rattle.roundtrip.proofs.Again.{Left, left, long, agent-kv, kv-rewrites, ack-rewrites}
 
 -- ---- a frame that `read_agent_frame` accepted
 
 -- The bytes lent to it are bytes. It took `used` of them, and left so many records.
-module _ (limit : ℕ) (s : List ℕ) (small : Bytes s) (r : AgentRead) (oldPairs newPairs oldActions newActions : List ℕ)
-    (reads : ReadAgentFrame s limit r oldPairs newPairs oldActions newActions) (m : Head) (total rows used : ℕ) (is : r ≡ a.Done m total rows used) where
+module _ (limit : ℕ) (s : List ℕ) (small : Bytes s) (r : FrameRead) (oldPairs newPairs oldActions newActions : List ℕ)
+    (reads : ReadAgentFrame s limit r oldPairs newPairs oldActions newActions) (m : Head) (counts : Counts) (used : ℕ) (is : r ≡ v.Done m counts used) where
   abbrev f : List ℕ
   f = take used s
 
-  found : (c : Sent) × (readInto oldPairs oldActions limit s ≡ answered (done (m, c) used)) × (countsOf c ≡ (total, rows))
-  found = said-done (readInto oldPairs oldActions limit s) m (total, rows) used (ap agentSaid (sym is) ∙ reads .says)
+  abbrev total : ℕ
+  total = counts .pairs
 
-  abbrev c : Sent
-  c = found .0
+  abbrev rows : ℕ
+  rows = counts .actions
 
-  pair-count : length (c .pairs) ≡ total
-  pair-count = ap (λ (k : Counts). k .0) (found .2)
+  l : Left side.Agents limit f m counts [] newPairs newActions
+  l = left side.Agents limit (roomsOf [] oldPairs oldActions) s small r [] [] oldPairs newPairs oldActions newActions reads m counts used is
 
-  row-count : length (c .actions) ≡ rows
-  row-count = ap (λ (k : Counts). k .1) (found .2)
-
-  there : used ≤ length s
-  there = agent-cut limit (length oldPairs / pairWidth) (length oldActions / actionWidth) s m c used (found .1) .there
-
-  long : length f ≡ used
-  long = length-take-le used s there
-
-  bytes : Bytes f
-  bytes i l = rw (getD-take used s i 0 (omega (arith, long))) (small i (omega (arith, long, there)))
+  many : length f ≡ used
+  many = long side.Agents limit (roomsOf [] oldPairs oldActions) s small r [] [] oldPairs newPairs oldActions newActions reads m counts used is
 
   abbrev head : Head
   head = headOf (m .«frame_type») true false (m .stream) (m .frame)
@@ -72,11 +57,11 @@ module _ (limit : ℕ) (s : List ℕ) (small : Bytes s) (r : AgentRead) (oldPair
       (writes : WriteActions true false (m .stream) (m .frame) limit f newActions rows out old new) where
     r-ack : Rewrites limit f (headOf 103 true false (m .stream) (m .frame)) (actionsAnswer (headOf 103 true false (m .stream) (m .frame)) limit f newActions rows) rows
         (λ i. wellAction f (actionAt newActions i)) (λ i. plainAction f (actionAt newActions i))
-    r-ack = rw (row-count, ack) at (ack-rewrites limit s oldPairs newPairs oldActions newActions m c used bytes (found .1) (reads .fills) ack)
+    r-ack = rw ack at (ack-rewrites l ack)
 
     -- Law: with room for the frame, where all texts are UTF-8 and all values plain, exactly the frame's bytes are written.
     pub ack-back : WellActions f newActions rows → PlainActions f newActions rows → used ≤ length old → (out ≡ w.Done used) × (new ≡ f ++ drop used old)
-    ack-back = wrote-back r-ack writes used long
+    ack-back = wrote-back r-ack writes used many
 
     -- Law: where an action has a text that is not UTF-8, and none before it has, it is 15 with the action's index, and no byte is written.
     pub ack-text : (i : ℕ) → i < rows → wellAction f (actionAt newActions i) ≡ false → WellActions f newActions i
@@ -98,7 +83,7 @@ module _ (limit : ℕ) (s : List ℕ) (small : Bytes s) (r : AgentRead) (oldPair
   module _ (kv : m .«frame_type» ≡ 103 → ⊥) (out : Written) (old new : List ℕ)
       (writes : WriteKv true false (m .stream) (m .frame) limit f (m .«frame_type») newPairs total out old new) where
     may : kvAllowed head ≡ eqb (m .stream) 0 && eqb (m .frame) 0
-    may = sent-may limit s oldPairs newPairs oldActions newActions m c used bytes (found .1) (reads .fills) kv
+    may = agent-kv l kv .1
 
     -- Law: where an id is not 0, it is 14, and no byte is written.
     pub agent-kv-ids : (m .stream ≡ 0 → m .frame ≡ 0 → ⊥) → (out ≡ w.Refused (record { number = 14; place = 0 })) × (new ≡ old)
@@ -119,13 +104,11 @@ module _ (limit : ℕ) (s : List ℕ) (small : Bytes s) (r : AgentRead) (oldPair
       allowed = may ∙ rw (eq-eqb (m .stream) 0 stream, eq-eqb (m .frame) 0 frame)
 
       r-kv : Rewrites limit f head (kvAnswer head limit f newPairs total) total (λ i. wellPair f (pairAt newPairs i)) (λ i. plainPair f (pairAt newPairs i))
-      r-kv =
-          rw pair-count at
-          (kv-rewrites limit f bytes head newPairs (c .pairs) (sent-listed limit s oldPairs newPairs oldActions newActions m c used bytes (found .1) (reads .fills) kv) allowed)
+      r-kv = kv-rewrites l (agent-kv l kv .0) allowed
 
       -- Law: with room for the frame, where all texts are UTF-8 and all values plain, exactly the frame's bytes are written.
       pub agent-kv-back : WellPairs f newPairs total → PlainPairs f newPairs total → used ≤ length old → (out ≡ w.Done used) × (new ≡ f ++ drop used old)
-      agent-kv-back = wrote-back r-kv writes used long
+      agent-kv-back = wrote-back r-kv writes used many
 
       -- Law: where a pair has a text that is not UTF-8, and none before it has, it is 15 with the pair's index, and no byte is written.
       pub agent-kv-text : (i : ℕ) → i < total → wellPair f (pairAt newPairs i) ≡ false → WellPairs f newPairs i

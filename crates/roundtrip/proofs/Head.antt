@@ -7,25 +7,24 @@ use native.Mathlib.Omega.{arith}
 use lib.Dec.{eqb}
 use lib.ListN.{length, take, drop, length-drop, take-append-drop}
 use lib.Seq.{drop-cons, drop-drop, length-take-le}
-use Rattle.answer.specs.Answer.{done, behind}
+use Rattle.answer.specs.Answer.{done}
 use Rattle.answer.specs.Table.{some}
 use Rattle.varint.specs.Number.{numberBytes}
 use Rattle.varint.proofs.Reading.{Bytes, number-exact}
 use Rattle.frame.specs.declared.Head.{Head}
 use Rattle.frame.specs.Head.{fourBytes, fourNumber, headBytes, frameBytes}
 use Rattle.frame.proofs.Laws.{four-kept}
-use Rattle.parser.specs.declared.Rooms.{Rooms}
-use Rattle.parser.specs.Payload.{Contents}
 use Rattle.frame.specs.declared.Side.{Side}
-use Rattle.frame.specs.declared.Side.the-variants as side
-use Rattle.frame.specs.Read.{answered, Sender, sender, head}
-use Rattle.frame.proofs.Heads.{HeadSays, head-says, head-start, fin-alone}
-use Rattle.parser.specs.Frame.{Entry, haproxys, frameRead}
-use Rattle.parser.proofs.Exact.{bytes-drop}
-use Rattle.parser.proofs.Accepted.{Cut, frame-cut}
+use Rattle.frame.specs.Read.{answered, Sender, sender}
+use Rattle.frame.proofs.Heads.{HeadSays, head-says, fin-alone}
+use Rattle.payload.specs.declared.Counts.{Counts}
+use Rattle.payload.specs.Payload.{Contents, payload}
+use Rattle.payload.proofs.Exact.{bytes-drop}
+use Rattle.parser.specs.Frame.{payloadOf, frameRead}
+use Rattle.parser.proofs.Frames.{Cut, frame-cut}
 use Rattle.writer.specs.Frame.{headOf}
 use Rattle.roundtrip.proofs.Value.{form-rest}
-use Rattle.roundtrip.proofs.Pair.{cancel}
+use Rattle.roundtrip.proofs.Rows.{cancel}
 
 -- ---- four bytes
 
@@ -81,65 +80,49 @@ pub payload-same : (h : Head) (p q : List ℕ) → frameBytes h p ≡ frameBytes
 unfolding frameBytes fourBytes
 payload-same h p q e = cancel (headBytes h) p q (ap (drop 4) e)
 
--- ---- a frame of any entry
+-- ---- an accepted frame
 
--- An accepted frame, of its own bytes f: its head, as it is written, and its payload, which was read from where it starts.
-pub record Accepted {A : Type 0} (x : Entry A) (limit : ℕ) (s : List ℕ) (m : Head) (c : A) (used : ℕ) : Type 0 where
+-- An accepted frame, of its own bytes: its head, as it is written, and its payload, which was read from where it starts to its end.
+pub record Accepted (x : Side) (limit : ℕ) (rooms : Counts) (f : List ℕ) (m : Head) (c : Contents) : Type 0 where
   pub start : ℕ
-  pub contents : A
-  pub end : ℕ
-  pub long : length (take used s) ≡ used
-  pub fits : used ≤ 4 + limit
-  pub there : start ≤ length (take used s)
-  pub own : some (eqb (m .«frame_type»)) (x .side .own) ≡ true
-  pub form : take used s ≡ frameBytes (headOf (m .«frame_type») true false (m .stream) (m .frame)) (drop start (take used s))
-  pub read : x .payloadOf (m .«frame_type») (drop start (take used s)) ≡ done contents end
-  pub moved : x .moved start contents ≡ c
-  pub ends : start + end ≡ used
+  pub fits : length f ≤ 4 + limit
+  pub own : some (eqb (m .«frame_type»)) (sender x .own) ≡ true
+  pub form : f ≡ frameBytes (headOf (m .«frame_type») true false (m .stream) (m .frame)) (drop start f)
+  pub read : payload (payloadOf (m .«frame_type»)) rooms start f ≡ done c (length f)
 
-module _ {A : Type 0} {x : Entry A} {limit : ℕ} {s : List ℕ} {m : Head} {c : A} {used : ℕ} (from : Side) (theirs : x .side ≡ sender from)
-    (small : Bytes (take used s)) (o : Cut x limit s m c used) where
+module _ (x : Side) (limit : ℕ) (rooms : Counts) (s : List ℕ) (m : Head) (c : Contents) (used : ℕ) (small : Bytes (take used s))
+    (e : frameRead x limit rooms s ≡ answered (done (m, c) used)) where
   abbrev f : List ℕ
   f = take used s
 
-  long : length f ≡ used
-  long = length-take-le used s (o .there)
+  o : Cut x limit rooms s m c used
+  o = frame-cut x limit rooms s m c used e
+
+  pub frame-long : length f ≡ used
+  frame-long = length-take-le used s (o .there)
 
   four : fourNumber f ≡ length (drop 4 f)
   four =
-      let same : fourNumber f ≡ fourNumber s = sym (four-kept f (drop used s) (omega (arith, long, o .four))) ∙ ap fourNumber (take-append-drop used s) in
-      omega (arith, same, o .says, long, length-drop 4 f)
+      let same : fourNumber f ≡ fourNumber s = sym (four-kept f (drop used s) (omega (arith, frame-long, o .four))) ∙ ap fourNumber (take-append-drop used s) in
+      omega (arith, same, o .says, frame-long, length-drop 4 f)
 
   framed : (h : Head) (start : ℕ) → drop 4 f ≡ headBytes h ++ drop start f → f ≡ frameBytes h (drop start f)
   unfolding frameBytes
   framed h start behind =
-      form-rest (fourBytes (fourNumber f)) f 4 (four-exact f small (omega (arith, long, o .four)))
+      form-rest (fourBytes (fourNumber f)) f 4 (four-exact f small (omega (arith, frame-long, o .four)))
       ∙ ap₂ (λ (k : ℕ) (l : List ℕ). fourBytes k ++ l) (four ∙ ap length behind) behind
 
-  -- Law: every accepted frame is so.
-  pub entry-accepted : Accepted x limit s m c used
-  entry-accepted =
-      let h = o .holds in
-      let p = head-says (x .side) f m (h .start) (h .head) in
-      let alone = fin-alone from f m (h .start) (head-says (sender from) f m (h .start) (ap (λ (y : Sender). head y f) (sym theirs) ∙ h .head)) in
+  -- Law: every accepted frame is so, whichever side sent it.
+  pub frame-accepted : Accepted x limit rooms f m c
+  frame-accepted =
+      let h = o .held in
+      let p = head-says (sender x) f m (h .start) (h .reads) in
       record {
         start = h .start;
-        contents = h .held;
-        end = h .end;
-        long = long;
-        fits = omega (arith, o .says, o .fits);
-        there = head-start (x .side) f m (h .start) (h .head);
+        fits = omega (arith, frame-long, o .says, o .fits);
         own = p .own;
         form =
-            framed m (h .start) (head-form (x .side) f m (h .start) small p)
-            ∙ ap (λ (y : Head). frameBytes y (drop (h .start) f)) (fin-only m alone);
-        read = h .is;
-        moved = h .moved;
-        ends = h .sum;
+            framed m (h .start) (head-form (sender x) f m (h .start) small p)
+            ∙ ap (λ (y : Head). frameBytes y (drop (h .start) f)) (fin-only m (fin-alone x f m (h .start) p));
+        read = h .holds ∙ ap (done c) (sym frame-long);
       }
-
--- Law: so is every frame that HAProxy sends.
-pub frame-accepted : (limit : ℕ) (rooms : Rooms) (s : List ℕ) (m : Head) (c : Contents) (used : ℕ) → Bytes (take used s)
-    → frameRead limit rooms s ≡ answered (done (m, c) used) → Accepted (haproxys rooms) limit s m c used
-unfolding frameRead
-frame-accepted limit rooms s m c used small e = entry-accepted side.HAProxy refl small (frame-cut limit rooms s m c used e)

@@ -1,63 +1,47 @@
 -- What is read is written back, byte for byte, as the calls promise it: `read_frame` leaves records of an accepted frame of types 1 to 3, and `write_kv` or
 -- `write_notify` is given them, with the frame's own bytes as its buffer and the same limit. The conditions are those of Plain, and no others.
-use mathlib.Core.Path.{_≡_, sym, ap, _∙_}
+use mathlib.Core.Path.{_≡_}
 use mathlib.Core.Bool.{true, false}
 use mathlib.Core.Logic.{⊎-elim}
-use mathlib.Core.List.{List, _++_}
+use mathlib.Core.List.{List, [], _++_}
 use Prim.Native.Nat.{ℕ, _≤_, _<_}
-use native.Mathlib.Omega.{arith}
 use lib.ListN.{length, take, drop}
-use lib.Seq.{getD-take, length-take-le}
 use Rattle.answer.specs.declared.Written.{Written}
 use Rattle.answer.specs.declared.Written.the-variants as w
-use Rattle.answer.specs.Answer.{done}
 use Rattle.varint.proofs.Reading.{Bytes}
 use Rattle.frame.specs.declared.Head.{Head}
+use Rattle.frame.specs.declared.Side.the-variants as side
 use Rattle.frame.specs.Records.{messageAt, pairAt}
+use Rattle.payload.specs.declared.Counts.{Counts}
+use Rattle.payload.specs.Promise.{roomsOf}
 use Rattle.parser.specs.declared.FrameRead.{FrameRead}
 use Rattle.parser.specs.declared.FrameRead.the-variants as v
-use Rattle.parser.specs.Payload.{Contents}
-use Rattle.frame.specs.Read.{answered}
-use Rattle.parser.specs.Frame.{frameRead}
-use Rattle.parser.specs.Promise.{Counts, countsOf, frameSaid, roomsOf, ReadFrame}
-use Rattle.parser.proofs.Entries.{said-done}
-use Rattle.parser.proofs.Accepted.{frame-cut}
+use Rattle.parser.specs.Promise.{ReadFrame}
 use Rattle.writer.specs.Frame.{headOf, kvAnswer, notifyAnswer}
 use Rattle.writer.specs.Promise.{WriteKv, WriteNotify}
 use Rattle.roundtrip.proofs.Plain.{plainPair, wellPair, wellName, WellPairs, WellNames, PlainPairs}
-use Rattle.roundtrip.proofs.Head.{frame-accepted}
 use Rattle.roundtrip.proofs.Rewritten.{Rewrites, caller-refused, done-refused, first-or-all, wrote-back, wrote-none, wrote-other, wrote-only}
-use Rattle.roundtrip.proofs.Kv.{kv-rewrites}
-use Rattle.roundtrip.proofs.Again.{kv-listed, kv-may, notify-refuses-name, notify-rewrites}
+use Rattle.roundtrip.proofs.Again.{Left, left, long, haproxy-kv, kv-rewrites, notify-refuses-name, notify-rewrites}
 
 -- ---- a frame that `read_frame` accepted
 
 -- The bytes lent to it are bytes. It took `used` of them, and left so many records.
 module _ (limit : ℕ) (s : List ℕ) (small : Bytes s) (r : FrameRead) (oldMessages newMessages oldPairs newPairs : List ℕ)
-    (reads : ReadFrame s limit r oldMessages newMessages oldPairs newPairs) (m : Head) (rows total used : ℕ) (is : r ≡ v.Done m rows total used) where
+    (reads : ReadFrame s limit r oldMessages newMessages oldPairs newPairs) (m : Head) (counts : Counts) (used : ℕ) (is : r ≡ v.Done m counts used) where
   abbrev f : List ℕ
   f = take used s
 
-  found : (c : Contents) × (frameRead limit (roomsOf oldMessages oldPairs) s ≡ answered (done (m, c) used)) × (countsOf c ≡ (rows, total))
-  found = said-done (frameRead limit (roomsOf oldMessages oldPairs) s) m (rows, total) used (ap frameSaid (sym is) ∙ reads .says)
+  abbrev rows : ℕ
+  rows = counts .messages
 
-  abbrev c : Contents
-  c = found .0
+  abbrev total : ℕ
+  total = counts .pairs
 
-  row-count : length (c .messages) ≡ rows
-  row-count = ap (λ (k : Counts). k .0) (found .2)
+  l : Left side.HAProxy limit f m counts newMessages newPairs []
+  l = left side.HAProxy limit (roomsOf oldMessages oldPairs []) s small r oldMessages newMessages oldPairs newPairs [] [] reads m counts used is
 
-  pair-count : length (c .pairs) ≡ total
-  pair-count = ap (λ (k : Counts). k .1) (found .2)
-
-  bytes : Bytes f
-  bytes i l =
-      let there = frame-cut limit (roomsOf oldMessages oldPairs) s m c used (found .1) .there in
-      let long = length-take-le used s there in
-      rw (getD-take used s i 0 (omega arith)) (small i (omega arith))
-
-  long : length f ≡ used
-  long = frame-accepted limit (roomsOf oldMessages oldPairs) s m c used bytes (found .1) .long
+  many : length f ≡ used
+  many = long side.HAProxy limit (roomsOf oldMessages oldPairs []) s small r oldMessages newMessages oldPairs newPairs [] [] reads m counts used is
 
   abbrev head : Head
   head = headOf (m .«frame_type») true false (m .stream) (m .frame)
@@ -68,14 +52,11 @@ module _ (limit : ℕ) (s : List ℕ) (small : Bytes s) (r : FrameRead) (oldMess
   module _ (kv : m .«frame_type» ≡ 3 → ⊥) (out : Written) (old new : List ℕ)
       (writes : WriteKv true false (m .stream) (m .frame) limit f (m .«frame_type») newPairs total out old new) where
     r-kv : Rewrites limit f head (kvAnswer head limit f newPairs total) total (λ i. wellPair f (pairAt newPairs i)) (λ i. plainPair f (pairAt newPairs i))
-    r-kv =
-        rw pair-count at
-        (kv-rewrites limit f bytes head newPairs (c .pairs) (kv-listed limit s oldMessages newMessages oldPairs newPairs m c used bytes (found .1) (reads .fills) kv)
-        (kv-may limit s oldMessages newMessages oldPairs newPairs m c used bytes (found .1) (reads .fills) kv))
+    r-kv = let k = haproxy-kv l kv in kv-rewrites l (k .0) (k .1)
 
     -- Law: with room for the frame, where all texts are UTF-8 and all values plain, exactly the frame's bytes are written.
     pub kv-back : WellPairs f newPairs total → PlainPairs f newPairs total → used ≤ length old → (out ≡ w.Done used) × (new ≡ f ++ drop used old)
-    kv-back = wrote-back r-kv writes used long
+    kv-back = wrote-back r-kv writes used many
 
     -- Law: where a pair has a text that is not UTF-8, and none before it has, it is 15 with the pair's index, and no byte is written.
     pub kv-text : (i : ℕ) → i < total → wellPair f (pairAt newPairs i) ≡ false → WellPairs f newPairs i
@@ -98,13 +79,11 @@ module _ (limit : ℕ) (s : List ℕ) (small : Bytes s) (r : FrameRead) (oldMess
     module _ (ns : WellNames f newMessages rows) where
       r-notify : Rewrites limit f (headOf 3 true false (m .stream) (m .frame)) (notifyAnswer (headOf 3 true false (m .stream) (m .frame)) limit f newMessages rows newPairs total) total
           (λ i. wellPair f (pairAt newPairs i)) (λ i. plainPair f (pairAt newPairs i))
-      r-notify =
-          rw (row-count, pair-count, notify) at
-          (notify-rewrites limit s oldMessages newMessages oldPairs newPairs m c used bytes (found .1) (reads .fills) notify (rw (sym row-count) at ns))
+      r-notify = rw notify at (notify-rewrites l notify ns)
 
       -- Law: the same.
       pub notify-back : WellPairs f newPairs total → PlainPairs f newPairs total → used ≤ length old → (out ≡ w.Done used) × (new ≡ f ++ drop used old)
-      notify-back = wrote-back r-notify writes used long
+      notify-back = wrote-back r-notify writes used many
 
       -- Law: where a pair has a text that is not UTF-8, and none before it has, it is 15 with the pair's index, and no byte is written.
       pub notify-text : (i : ℕ) → i < total → wellPair f (pairAt newPairs i) ≡ false → WellPairs f newPairs i
@@ -118,10 +97,9 @@ module _ (limit : ℕ) (s : List ℕ) (small : Bytes s) (r : FrameRead) (oldMess
     -- Law: where a name is not UTF-8, and none before it is, it is 15 with the message's index, and no byte is written.
     pub notify-name : (i : ℕ) → i < rows → wellName f (messageAt newMessages i) ≡ false → WellNames f newMessages i
         → (out ≡ w.Refused (record { number = 15; place = i })) × (new ≡ old)
-    notify-name i l ill ns =
+    notify-name i b ill ns =
         caller-refused writes 15 i
-        (rw (row-count, pair-count, notify) at
-        (notify-refuses-name limit s oldMessages newMessages oldPairs newPairs m c used bytes (found .1) (reads .fills) notify i (rw (sym row-count) at l) ill ns))
+        (rw notify at (notify-refuses-name l notify i b ill ns))
 
     -- Law: so the frame's bytes are written only where all texts are UTF-8 and all values plain.
     pub notify-only : (n : ℕ) → out ≡ w.Done n → take n new ≡ f → WellNames f newMessages rows × WellPairs f newPairs total × PlainPairs f newPairs total

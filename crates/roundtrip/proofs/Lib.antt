@@ -1,20 +1,14 @@
 -- What is read is written back, byte for byte: the conditions, and the laws from a value up to a frame. And what is written is read back.
 pub mod Plain
+pub mod Held
+pub mod Rows
 pub mod Value
 pub mod Pair
 pub mod Action
-pub mod Actions
-pub mod Payload
-pub mod Listed
+pub mod Groups
 pub mod Head
 pub mod Rewritten
-pub mod Kv
+pub mod Keys
 pub mod Again
-pub mod Sent
-pub mod Apart
 pub mod Inverse
 pub mod Agents
-pub mod Walked
-pub mod ReadBack
-pub mod AgentBack
-pub mod Examples

@@ -3,8 +3,7 @@
 use mathlib.Core.Path.{_≡_, refl, sym, ap, ap₂, _∙_}
 use mathlib.Core.Bool.{true, cond, not, _||_}
 use mathlib.Core.List.{List, [], _∷_, _++_, append-assoc}
-use Prim.Native.Nat.{ℕ, _+_, _<_}
-use native.Mathlib.Numerals.{add-one}
+use Prim.Native.Nat.{ℕ, suc, _+_}
 use native.Mathlib.Omega.{arith}
 use lib.Dec.{eqb}
 use lib.ListN.{length, drop, getD}
@@ -14,7 +13,6 @@ use Rattle.answer.specs.Answer.{Answer, done, refused, behind}
 use Rattle.answer.specs.Order.{inOrder}
 use Rattle.answer.specs.Table.{joined}
 use Rattle.answer.proofs.Cases.{bool-cases, answer-cases, not-both}
-use Rattle.answer.proofs.Records.{joined-none, joined-on}
 use Rattle.varint.proofs.Reading.{Bytes}
 use Rattle.utf8.specs.Text.{isUtf8}
 use Rattle.types.specs.Value.{Span, span, string, Record, value, points, shape, moved, typed}
@@ -24,24 +22,24 @@ use Rattle.types.proofs.Reading.{string-accepted}
 use Rattle.frame.specs.declared.Pair.{Pair}
 use Rattle.frame.specs.declared.Message.{Message}
 use Rattle.frame.specs.Records.{keyOf}
-use Rattle.parser.specs.Pair.{pairOf, movedPair, pair, pairFrom}
-use Rattle.parser.specs.Payload.{movedSpan, stringFrom}
-use Rattle.parser.specs.Inner.{Run}
-use Rattle.parser.proofs.Pairs.{done-same, pair-cases, pair-key, pair-value, pair-whole}
-use Rattle.parser.proofs.Exact.{bytes-drop}
-use Rattle.parser.proofs.Back.{part-moved}
+use Rattle.frame.proofs.Answers.{done-same}
+use Rattle.payload.specs.Pair.{pairOf, movedPair, pair, pairFrom}
+use Rattle.payload.specs.Payload.{movedSpan, stringFrom, messageFrom}
+use Rattle.payload.specs.Inner.{Run}
+use Rattle.payload.proofs.Pairs.{pair-cases, pair-key, pair-value, pair-whole}
+use Rattle.payload.proofs.Steps.{message-says}
+use Rattle.payload.proofs.Rowing.{Found, row-found}
+use Rattle.payload.proofs.Exact.{bytes-drop}
+use Rattle.payload.proofs.Back.{part-moved}
 use Rattle.answer.proofs.Each.{Each}
-use Rattle.listing.proofs.Accepted.{Whole}
+use Rattle.roundtrip.proofs.Held.{Whole}
 use Rattle.writer.specs.Pair.{pairBytes, pairChecks}
 use Rattle.writer.specs.Message.{nameBytes}
 use Rattle.writer.proofs.Pairs.{pair-bytes}
 use Rattle.writer.proofs.Messages.{name-bytes}
 use Rattle.roundtrip.proofs.Plain.{plainValue, plainPair, wellPair}
+use Rattle.roundtrip.proofs.Rows.{cancel, row-form, row-only}
 use Rattle.roundtrip.proofs.Value.{form-rest, string-form, value-form-moved, value-form, value-only}
-
--- what stands behind the same form is the same
-pub cancel : (form t r : List ℕ) → form ++ t ≡ form ++ r → t ≡ r
-cancel form t r e = sym (drop-at form t (length form) refl) ∙ ap (drop (length form)) e ∙ drop-at form r (length form) refl
 
 -- ---- a pair at the front
 
@@ -166,23 +164,12 @@ Plain f p = plainPair f p ≡ true
 
 module _ (f : List ℕ) (small : Bytes f) where
   pub run-form : (at : ℕ) (ps : List Pair) (end : ℕ) → Run f at ps end → Each (Plain f) ps → drop at f ≡ joined (pairBytes f) ps ++ drop end f
-  run-form at [] end r h = ap (λ (n : ℕ). drop n f) r ∙ ap (λ (l : List ℕ). l ++ drop end f) (sym (joined-none (pairBytes f)))
-  run-form at (p ∷ ps) end r h =
-      pair-at-form f at p (r .0) small (r .1) (h .0)
-      ∙ ap (λ (l : List ℕ). pairBytes f p ++ l) (run-form (r .0) ps end (r .2) (h .1))
-      ∙ sym (append-assoc (pairBytes f p) (joined (pairBytes f) ps) (drop end f))
-      ∙ ap (λ (l : List ℕ). l ++ drop end f) (sym (joined-on (pairBytes f) p ps))
+  run-form at ps end r = row-form {Here = Found (λ n. pairFrom n f)} (λ n. n) f (pairBytes f) (Plain f) (λ n p end e. pair-at-form f n p end small e) at ps end (row-found (λ n. pairFrom n f) at ps end r)
 
-  pub run-only : (at : ℕ) (ps : List Pair) (end : ℕ) → Run f at ps end → (t : List ℕ) → joined (pairBytes f) ps ++ t ≡ drop at f
-      → Each (Plain f) ps × (t ≡ drop end f)
-  run-only at [] end r t is = (tt, ap (λ (l : List ℕ). l ++ t) (sym (joined-none (pairBytes f))) ∙ is ∙ ap (λ (n : ℕ). drop n f) r)
-  run-only at (p ∷ ps) end r t is =
-      let rest = joined (pairBytes f) ps ++ t in
-      let first : pairBytes f p ++ rest ≡ drop at f =
-      sym (append-assoc (pairBytes f p) (joined (pairBytes f) ps) t) ∙ ap (λ (l : List ℕ). l ++ t) (sym (joined-on (pairBytes f) p ps)) ∙ is in
-      let plain = pair-at-only f at p (r .0) small (r .1) rest first in
-      let more = run-only (r .0) ps end (r .2) t (cancel (pairBytes f p) rest (drop (r .0) f) (first ∙ pair-at-form f at p (r .0) small (r .1) plain)) in
-      ((plain, more .0), more .1)
+  pub run-only : (at : ℕ) (ps : List Pair) (end : ℕ) → Run f at ps end → (t : List ℕ) → joined (pairBytes f) ps ++ t ≡ drop at f → Each (Plain f) ps × (t ≡ drop end f)
+  run-only at ps end r =
+      row-only {Here = Found (λ n. pairFrom n f)} (λ n. n) f (pairBytes f) (Plain f) (λ n p end e. pair-at-form f n p end small e) (λ n p end e. pair-at-only f n p end small e) at ps end
+      (row-found (λ n. pairFrom n f) at ps end r)
 
 -- ---- a name at a place
 
@@ -204,14 +191,15 @@ string-at-form f at start len place small e = go (string (drop at f)) refl
     go (refused n place) r = not-both e (ap (behind movedSpan at) r)
 
 -- Law: from the place of a message on stand the bytes that its name and its count are written as, and then what comes next.
-pub name-at-form : (f : List ℕ) (at : ℕ) (m : Message) (place : ℕ) → Bytes f → stringFrom at f ≡ done (span (m .start) (m .len)) place → place < length f
-    → getD f place 0 ≡ m .count → drop at f ≡ nameBytes f m ++ drop (place + 1) f
-name-at-form f at m place small e byte count =
+pub name-at-form : (f : List ℕ) (first at : ℕ) (m : Message) (end : ℕ) → Bytes f → messageFrom first at f ≡ done m end → drop at f ≡ nameBytes f m ++ drop end f
+name-at-form f first at m end small e =
     let k = stringBytes (part f (m .start) (m .len)) in
-    string-at-form f at (m .start) (m .len) place small e
-    ∙ ap (λ (l : List ℕ). k ++ l) (drop-cons f place 0 byte ∙ ap₂ (λ (n l : ℕ). n ∷ drop l f) count (sym (add-one place)))
-    ∙ sym (append-assoc k (m .count ∷ []) (drop (place + 1) f))
-    ∙ ap (λ (l : List ℕ). l ++ drop (place + 1) f) (sym (name-bytes f m))
+    let n = message-says first at f m end e in
+    let next : suc (n .place) ≡ end = omega (arith, n .ends) in
+    string-at-form f at (m .start) (m .len) (n .place) small (n .name)
+    ∙ ap (λ (l : List ℕ). k ++ l) (drop-cons f (n .place) 0 (n .byte) ∙ ap₂ (λ (i j : ℕ). i ∷ drop j f) (sym (n .count)) next)
+    ∙ sym (append-assoc k (m .count ∷ []) (drop end f))
+    ∙ ap (λ (l : List ℕ). l ++ drop end f) (sym (name-bytes f m))
 
 -- ---- what a writer refuses of a pair
 

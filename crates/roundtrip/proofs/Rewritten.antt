@@ -69,12 +69,12 @@ module _ (checks : ℕ → List Check) (n : ℕ) (well : ℕ → Bool) (says : (
 -- ---- what they are written as
 
 -- records of a table, by index and one by one
-module _ {A : Type 0} (P : A → Type 0) (at : ℕ → A) (xs : List A) (hold : records at 0 (length xs) ≡ xs) where
-  pub each-held : ((i : ℕ) → i < length xs → P (at i)) → Each P xs
-  each-held p = rw hold at (each-record P at (length xs) 0 (λ i g l. p i (omega arith)))
+module _ {A : Type 0} (P : A → Type 0) (at : ℕ → A) (n : ℕ) (xs : List A) (hold : records at 0 n ≡ xs) where
+  pub each-held : ((i : ℕ) → i < n → P (at i)) → Each P xs
+  each-held p = rw hold at (each-record P at n 0 (λ i g l. p i (omega arith)))
 
-  pub held-each : Each P xs → (i : ℕ) → i < length xs → P (at i)
-  held-each g i l = let here : 0 + i ≡ i = omega arith in rw here at (each-at P at (length xs) 0 (rw hold g) i l)
+  pub held-each : Each P xs → (i : ℕ) → i < n → P (at i)
+  held-each g i l = let here : 0 + i ≡ i = omega arith in rw here at (each-at P at n 0 (rw hold g) i l)
 
 -- a frame whose payload starts there, and the frame with another payload
 module _ (f : List ℕ) (h : Head) (start : ℕ) (form : f ≡ frameBytes h (drop start f)) (payload : List ℕ) where
@@ -99,14 +99,11 @@ limited-whole limit h p f is l =
 
 -- The records xs stand in a table, and in f from start on, up to its end.
 module _ {A : Type 0} (limit : ℕ) (f : List ℕ) (h : Head) (start : ℕ) (form : f ≡ frameBytes h (drop start f)) (fits : length f ≤ 4 + limit)
-    (bytes : A → List ℕ) (well plain : A → Bool) (at : ℕ → A) (xs : List A) (hold : records at 0 (length xs) ≡ xs)
+    (bytes : A → List ℕ) (well plain : A → Bool) (at : ℕ → A) (n : ℕ) (xs : List A) (hold : records at 0 n ≡ xs)
     (forms : Each (λ x. plain x ≡ true) xs → drop start f ≡ joined bytes xs ++ drop (length f) f)
     (only : joined bytes xs ++ [] ≡ drop start f → Each (λ x. plain x ≡ true) xs)
-    (allowed : Bool) (may : allowed ≡ true) (width : ℕ) (table : List ℕ) (room : length xs * width ≤ length table)
-    (checks : ℕ → List Check) (says : (i : ℕ) → i < length xs → Says (checks i) (well (at i))) where
-  abbrev n : ℕ
-  n = length xs
-
+    (allowed : Bool) (may : allowed ≡ true) (width : ℕ) (table : List ℕ) (room : n * width ≤ length table)
+    (checks : ℕ → List Check) (says : (i : ℕ) → i < n → Says (checks i) (well (at i))) where
   abbrev all : List ℕ
   all = joined bytes (records at 0 n)
 
@@ -121,8 +118,8 @@ module _ {A : Type 0} (limit : ℕ) (f : List ℕ) (h : Head) (start : ℕ) (for
         fits = fits;
         taken = λ ws. held ∙ each-pass checks (limited limit h all) n (none-ill checks n (λ i. well (at i)) says ws);
         ill = λ i l ill ws. held ∙ first-ill checks n (λ i. well (at i)) says (limited limit h all) i l ill ws;
-        same = λ ps. rw hold (frame-same f h start form (joined bytes xs) (forms (each-held (λ x. plain x ≡ true) at xs hold ps)));
-        only = λ is. held-each (λ x. plain x ≡ true) at xs hold (only (rw hold at (frame-only f h start form all is)));
+        same = λ ps. rw hold (frame-same f h start form (joined bytes xs) (forms (each-held (λ x. plain x ≡ true) at n xs hold ps)));
+        only = λ is. held-each (λ x. plain x ≡ true) at n xs hold (only (rw hold at (frame-only f h start form all is)));
       }
 
 -- ---- what its caller learns

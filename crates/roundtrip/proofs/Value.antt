@@ -19,9 +19,9 @@ use Rattle.types.proofs.Shapes.{signed-below}
 use Rattle.types.proofs.Reading.{string-accepted, typed-none, typed-some, value-same, integer-whole, integer-refused, address-whole, address-short, text-whole, text-refused, content-accepted}
 use Rattle.types.proofs.Writing.{string-bytes, part-length, value-bytes}
 use Rattle.types.proofs.Exact.{string-exact}
-use Rattle.parser.proofs.Pairs.{done-same}
-use Rattle.parser.proofs.Exact.{bytes-drop}
-use Rattle.parser.proofs.Back.{part-moved}
+use Rattle.frame.proofs.Answers.{done-same}
+use Rattle.payload.proofs.Exact.{bytes-drop}
+use Rattle.payload.proofs.Back.{part-moved}
 use Rattle.roundtrip.proofs.Plain.{plainData, plainValue}
 
 -- ---- a form at the front of some bytes
