@@ -16,7 +16,7 @@ use Rattle.varint.proofs.Reading.{Bytes}
 use Rattle.frame.specs.declared.Action.{Action}
 use Rattle.payload.specs.Pair.{pair}
 use Rattle.payload.specs.Action.{argumentCount, actionFrom}
-use Rattle.payload.proofs.Rowing.{Found, row-found}
+use Rattle.answer.proofs.Row.{Found, row-found}
 use Rattle.payload.proofs.Standing.{Stands, stands, by-verb}
 use Rattle.roundtrip.proofs.Held.{action-whole}
 use Rattle.writer.specs.Action.{actionWritable, actionBytes, actionChecks}

@@ -35,7 +35,7 @@ use Rattle.payload.specs.Payload.{Contents, payload}
 use Rattle.payload.specs.Promise.{countsOf}
 use Rattle.payload.specs.Inner.{Run}
 use Rattle.payload.proofs.Filling.{joined-width}
-use Rattle.payload.proofs.Rowing.{Row, Found, row-found}
+use Rattle.answer.proofs.Row.{Row, Found, row-found}
 use Rattle.payload.proofs.Accepted.{Group, KvHeld, kv-run, MessagesHeld, messages-run, ActionsHeld, actions-run, Once, messagesOf, pairsOf}
 use Rattle.parser.specs.declared.FrameRead.{FrameRead}
 use Rattle.parser.specs.declared.FrameRead.the-variants as v

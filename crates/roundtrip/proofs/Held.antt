@@ -20,7 +20,7 @@ use Rattle.frame.specs.declared.Pair.{Pair}
 use Rattle.frame.specs.declared.Message.{Message}
 use Rattle.frame.specs.declared.Action.{Action}
 use Rattle.frame.specs.Records.{messageWidth, messageAt, messageNumbers, pairWidth, pairIn, pairAt, pairNumbers, actionWidth, actionAt, actionNumbers}
-use Rattle.frame.proofs.Answers.{done-same}
+use Rattle.answer.proofs.Answers.{done-same}
 use Rattle.payload.specs.Pair.{pairOf, movedPair, pair, pairFrom}
 use Rattle.payload.proofs.Pairs.{pair-key, pair-value, pair-whole}
 use Rattle.payload.proofs.Steps.{string-next}

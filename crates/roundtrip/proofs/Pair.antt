@@ -22,13 +22,13 @@ use Rattle.types.proofs.Reading.{string-accepted}
 use Rattle.frame.specs.declared.Pair.{Pair}
 use Rattle.frame.specs.declared.Message.{Message}
 use Rattle.frame.specs.Records.{keyOf}
-use Rattle.frame.proofs.Answers.{done-same}
+use Rattle.answer.proofs.Answers.{done-same}
 use Rattle.payload.specs.Pair.{pairOf, movedPair, pair, pairFrom}
 use Rattle.payload.specs.Payload.{movedSpan, stringFrom, messageFrom}
 use Rattle.payload.specs.Inner.{Run}
 use Rattle.payload.proofs.Pairs.{pair-cases, pair-key, pair-value, pair-whole}
 use Rattle.payload.proofs.Steps.{message-says}
-use Rattle.payload.proofs.Rowing.{Found, row-found}
+use Rattle.answer.proofs.Row.{Found, row-found}
 use Rattle.payload.proofs.Exact.{bytes-drop}
 use Rattle.payload.proofs.Back.{part-moved}
 use Rattle.answer.proofs.Each.{Each}

@@ -7,7 +7,7 @@ use lib.Seq.{drop-at}
 use Rattle.answer.specs.Table.{joined}
 use Rattle.answer.proofs.Records.{joined-none, joined-on}
 use Rattle.answer.proofs.Each.{Each}
-use Rattle.payload.proofs.Rowing.{Row}
+use Rattle.answer.proofs.Row.{Row}
 
 -- what stands behind the same form is the same
 pub cancel : (form t r : List ℕ) → form ++ t ≡ form ++ r → t ≡ r
