@@ -1,7 +1,5 @@
--- Laws about how a frame's messages and pairs lie in its bytes, and about taking them from there.
-pub mod Laying
-pub mod Messages
-pub mod Taking
-pub mod Preparing
+-- Laws about filling the tables step by step, about finding the payload of a frame, and about a table that is lent on and comes back.
+pub mod Meeting
+pub mod Finding
 pub mod Again
 pub mod Unique

@@ -9,15 +9,17 @@ use Rattle.answer.specs.Answer.{Answer, done, refused, next, written, leaves}
 use Rattle.answer.specs.Table.{joined}
 use Rattle.answer.proofs.Records.{joined-none, joined-on, joined-both}
 use Rattle.frame.specs.declared.Pair.{Pair}
+use Rattle.frame.specs.declared.Side.the-variants as side
 use Rattle.frame.specs.Records.{messageWidth, pairWidth, pairNumbers}
-use Rattle.parser.specs.declared.Rooms.{Rooms}
+use Rattle.payload.specs.declared.Counts.{Counts}
+use Rattle.payload.specs.Payload.{Contents}
+use Rattle.payload.specs.Promise.{roomsOf}
+use Rattle.payload.proofs.Filling.{joined-width}
 use Rattle.parser.specs.declared.FrameRead.{FrameRead}
-use Rattle.parser.specs.Payload.{Contents}
 use Rattle.parser.specs.Frame.{frameRead}
-use Rattle.parser.specs.Promise.{roomsOf, contentsRead, frameTells, ReadFrame}
-use Rattle.parser.proofs.Filling.{joined-width}
+use Rattle.parser.specs.Promise.{contentsRead, frameTells, ReadFrame}
 use Rattle.parser.proofs.Unique.{frame-same}
-use Rattle.records.specs.Promise.{roomsFor, pairsLeft, ReadFrameRecords}
+use Rattle.records.specs.Promise.{roomsFor, recordsLeft, ReadFrameRecords}
 
 pub read-frame-records-unique : (input : List ℕ) (limit : ℕ) (r q : FrameRead) (oldMessages newMessages otherMessages : List ℕ) (oldPairs newPairs otherPairs : List Pair)
     → ReadFrameRecords input limit r oldMessages newMessages oldPairs newPairs → ReadFrameRecords input limit q oldMessages otherMessages oldPairs otherPairs
@@ -44,7 +46,7 @@ drop-joined (suc n) (p ∷ ps) =
 
 -- what is left of both
 left-same : (a : Answer Contents) (old : List Pair)
-    → leaves (next a (λ c used. written (joined pairNumbers (c .pairs)))) (joined pairNumbers old) ≡ joined pairNumbers (pairsLeft a old)
+    → leaves (next a (λ c used. written (joined pairNumbers (c .pairs)))) (joined pairNumbers old) ≡ joined pairNumbers (recordsLeft a old)
 left-same (refused n place) old = refl
 left-same (done c used) old =
     ap (λ (k : ℕ). joined pairNumbers (c .pairs) ++ drop k (joined pairNumbers old)) (pairs-wide (c .pairs))
@@ -58,9 +60,9 @@ pub records-as-numbers : (input : List ℕ) (limit : ℕ) (r q : FrameRead) (old
     → (r ≡ q) × (newMessages ≡ otherMessages) × (numbers ≡ joined pairNumbers newPairs)
 records-as-numbers input limit r q oldMessages newMessages otherMessages oldPairs newPairs numbers p s =
     let room : length (joined pairNumbers oldPairs) / pairWidth ≡ length oldPairs = omega (arith, pairs-wide oldPairs) in
-    let same : roomsOf oldMessages (joined pairNumbers oldPairs) ≡ roomsFor oldMessages oldPairs =
-    ap (λ (n : ℕ). record { messages = length oldMessages / messageWidth; pairs = n }) room in (
-      frame-same r q (p .says ∙ ap (λ (x : Rooms). frameTells (frameRead limit x input)) (sym same) ∙ sym (s .says)),
+    let same : roomsOf oldMessages (joined pairNumbers oldPairs) [] ≡ roomsFor oldMessages oldPairs =
+    ap (λ (n : ℕ). record { messages = length oldMessages / messageWidth; pairs = n; actions = 0 }) room in (
+      frame-same r q (p .says ∙ ap (λ (x : Counts). frameTells (frameRead side.HAProxy limit x input)) (sym same) ∙ sym (s .says)),
       p .fills .messages ∙ sym (rw same at (s .fills .messages)),
-      rw same at (s .fills .pairs) ∙ left-same (contentsRead (frameRead limit (roomsFor oldMessages oldPairs) input)) oldPairs ∙ ap (joined pairNumbers) (sym (p .fills .pairs)),
+      rw same at (s .fills .pairs) ∙ left-same (contentsRead (frameRead side.HAProxy limit (roomsFor oldMessages oldPairs) input)) oldPairs ∙ ap (joined pairNumbers) (sym (p .fills .pairs)),
     )

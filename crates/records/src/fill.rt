@@ -1,37 +1,29 @@
-// What an accepted frame holds: its pairs are given one after the other, a few of them by value and else from where they stand in the bytes, and its messages
-// go into their table on the way.
-use crate::Far;
+// What a frame holds: where its payload lies, and its pairs, which are given one after the other, while its messages go into their table on the way.
+use crate::Area;
 use crate::Found;
 use crate::Given;
-use crate::Source;
-use answer::Refusal;
-use answer::TABLE_FULL;
-use answer::TOO_SOON;
 use frame::MESSAGE_WIDTH;
 use frame::Message;
+use frame::NOTIFY;
 use frame::Pair;
-use parser::Few;
 use parser::FrameRead;
-use parser::Rooms;
-use types::StringRead;
+use payload::Counts;
+use payload::Cursor;
+use payload::Item;
+use payload::Payload;
 use types::Value;
-use walker::Place;
-use walker::Step;
 ghost use mathlib.Core.Path.{_≡_};
-ghost use mathlib.Core.Bool.{true, false};
-ghost use mathlib.Core.List.{List, [], _∷_};
-ghost use Prim.Native.Nat.{ℕ, _-_, _≤_};
-ghost use lib.ListN.{length, drop, getD};
-ghost use Rattle.answer.specs.Answer.{done, written, leaves};
-ghost use Rattle.types.specs.Value.{string};
-ghost use Rattle.types.specs.Promise.{stringSaid};
-ghost use Rattle.frame.specs.declared.Pair.{Pair as PairRecord};
+ghost use mathlib.Core.Bool.{false};
+ghost use Prim.Native.Nat.{_+_, _-_, _≤_, _<_, _^_};
+ghost use lib.ListN.{length};
+ghost use Rattle.answer.specs.Answer.{written, leaves};
 ghost use Rattle.frame.specs.Records.{messageWidth, messageNumbers};
-ghost use Rattle.parser.specs.Pair.{pairFrom};
-ghost use Rattle.parser.specs.Promise.{noPair};
-ghost use Rattle.records.specs.Inner.{afterPair, FromMessages, FromBytes, four, InFew, Comes, TakesNext, noneFound, Prepared};
+ghost use Rattle.payload.specs.declared.Item.the-variants as i;
+ghost use Rattle.payload.specs.Inner.{began, afterItem};
+ghost use Rattle.parser.specs.Frame.{payloadOf};
+ghost use Rattle.records.specs.Inner.{nothingOf, Finds, Ready, NextPair};
 
-// A pair that is not there, and four of these.
+// A pair that is not there.
 const NO_PAIR: Pair = Pair {
     start: 0,
     len: 0,
@@ -43,39 +35,76 @@ const NO_PAIR: Pair = Pair {
     },
 };
 
-const NONE: Few = Few {
-    first: NO_PAIR,
-    second: NO_PAIR,
-    third: NO_PAIR,
-    fourth: NO_PAIR,
-};
-
-// The string that stands at `at`; a refusal where that lies behind the bytes.
-fn name_at(input: &[u8], at: usize) -> StringRead
-    ensures { λ r. ⌜ stringSaid r ≡ string (drop at (now (input .entry))) ⌝ }
+// Where a payload starts.
+fn begin(start: usize) -> Cursor
+    ensures { λ r. ⌜ r ≡ began start ⌝ }
 {
-    if input.len() < at {
-        return StringRead::Refused(Refusal {
-            number: TOO_SOON,
-            place: 0,
-        });
+    Cursor {
+        at: start,
+        left: 0,
+        messages: 0,
+        pairs: 0,
+        actions: 0,
     }
-    types::read_string(&input[at..])
 }
 
-// One less, where there is one.
-fn one_less(n: usize) -> usize
-    ensures { λ r. ⌜ r ≡ n - 1 ⌝ }
+// What the payload of a frame that HAProxy sends is a list of, by the frame's type.
+fn payload_of(frame_type: u8) -> Payload
+    ensures { λ r. ⌜ («frame_type» ≤ 3 → r ≡ payloadOf «frame_type») ⌝ }
 {
-    if n == 0 {
-        return 0;
+    if frame_type == NOTIFY {
+        return Payload::Messages;
     }
-    n - 1
+    Payload::KvList
+}
+
+// An answer that comes with nothing.
+fn nothing(answer: FrameRead) -> Found
+    ensures { λ r. ⌜ r ≡ nothingOf answer ⌝ }
+{
+    Found {
+        answer,
+        area: Area {
+            kind: Payload::KvList,
+            end: 0,
+        },
+        start: begin(0),
+    }
+}
+
+// Looks at the frame, with tables of such lengths; where it is accepted, finds its payload.
+pub(crate) fn find(input: &[u8], limit: u32, messages: usize, pairs: usize) -> Found
+    ensures { λ r. ⌜ Finds (now (input .entry)) limit messages pairs r ⌝ }
+{
+    let rooms = Counts {
+        messages: messages / MESSAGE_WIDTH,
+        pairs,
+        actions: 0,
+    };
+    let answer = parser::look_frame(input, limit, rooms);
+    let FrameRead::Done {
+        head,
+        counts: _,
+        used,
+    } = answer
+    else {
+        return nothing(answer);
+    };
+    let place = walker::kv_of(&input[..used]);
+    let area = Area {
+        kind: payload_of(head.frame_type),
+        end: used,
+    };
+    Found {
+        answer,
+        area,
+        start: begin(place.at),
+    }
 }
 
 // No pair.
-fn none(x: Far) -> Given
-    ensures { λ r. ⌜ r ≡ record { some = false; pair = noPair; next = x } ⌝ }
+fn none(x: Cursor) -> Given
+    ensures { λ r. ⌜ r .some ≡ false ⌝ }
 {
     Given {
         some: false,
@@ -84,26 +113,36 @@ fn none(x: Far) -> Given
     }
 }
 
-// The pair that stands there, and how far it is behind it. How many are left is counted here, so the walker is told that one is.
-fn taken(input: &[u8], x: Far) -> Given
-    ensures { λ r. ⌜ ((p : PairRecord) (end : ℕ) → pairFrom (x .at) (now (input .entry)) ≡ done p end → r ≡ record { some = true; pair = p; next = afterPair x end }) ⌝ }
+// How far it is behind a pair that ends there.
+fn behind_pair(x: Cursor, end: usize) -> Cursor
+    requires { ⌜ x .pairs + 1 < 2 ^ 64 ⌝ }
+    ensures { λ r. ⌜ r ≡ record { at = end; left = x .left - 1; messages = x .messages; pairs = x .pairs + 1; actions = x .actions } ⌝ }
 {
-    let place = Place {
-        at: x.at,
-        left: 1,
-        kv: false,
-    };
-    let Step::Found { pair, next } = walker::step_from(input, place) else {
-        return none(x);
-    };
-    Given {
-        some: true,
-        pair,
-        next: Far {
-            at: next.at,
-            left: one_less(x.left),
-            messages: x.messages,
-        },
+    let pairs = x.pairs + 1;
+    let mut left = x.left;
+    if 0 < left {
+        left = left - 1;
+    }
+    Cursor {
+        at: end,
+        left,
+        messages: x.messages,
+        pairs,
+        actions: x.actions,
+    }
+}
+
+// How far it is behind a message that ends there, before its arguments.
+fn behind_message(x: Cursor, message: Message, end: usize) -> Cursor
+    requires { ⌜ x .messages + 1 < 2 ^ 64 ⌝ }
+    ensures { λ r. ⌜ r ≡ afterItem x (i.Message message end) ⌝ }
+{
+    Cursor {
+        at: end,
+        left: message.count as usize,
+        messages: x.messages + 1,
+        pairs: x.pairs,
+        actions: x.actions,
     }
 }
 
@@ -112,229 +151,45 @@ fn put_message(message: Message, table: &mut [u64])
     requires { ⌜ messageWidth ≤ length (now table) ⌝ }
     ensures { λ _. ⌜ now (table .exit) ≡ leaves (written (messageNumbers message)) (now (table .entry)) ⌝ }
 {
-    table[0] = message.start;
-    table[1] = message.len;
-    table[2] = message.first;
-    table[3] = message.count;
+    let numbers = [message.start, message.len, message.first, message.count];
+    let _ = frame::put(&numbers, table);
 }
 
-// Where no pair comes before the next message, fills in messages up to one that has arguments, or the last. So many pairs stand before these.
-fn to_argument(input: &[u8], total: usize, first: usize, from: Far, messages: &mut [u64]) -> Far
-    ensures { λ r. ⌜ ((ps : List PairRecord) (goal : List ℕ) → FromMessages (now (input .entry)) total first from (now (messages .entry)) goal ps → FromBytes (now (input .entry)) total first r (now (messages .exit)) goal ps) ⌝ }
+// The next pair, and how far it is behind it. Messages that stand before it are put into their table; behind the last pair, those that are left.
+pub(crate) fn next_pair(input: &[u8], area: Area, from: Cursor, messages: &mut [u64]) -> Given
+    requires { ⌜ Ready (now input) area from ⌝ }
+    ensures { λ r. ⌜ NextPair (now (input .entry)) area from r (now (messages .entry)) (now (messages .exit)) ⌝ }
 {
+    let all = area.end;
+    let kind = area.kind;
     let mut x = from;
-    while x.left == 0 {
-        let i = x.messages;
-        if total <= i {
-            return x;
-        }
-        if messages.len() / MESSAGE_WIDTH <= i {
-            return x;
-        }
-        let at = x.at;
-        let StringRead::Done { start, len, used } = name_at(input, at) else {
-            return x;
-        };
-        let end = at + used;
-        if input.len() <= end {
-            return x;
-        }
-        let count = input[end] as usize;
-        let to = i * MESSAGE_WIDTH;
-        put_message(
-            Message {
-                start: (at + start) as u64,
-                len: len as u64,
-                first: first as u64,
-                count: count as u64,
+    loop {
+        match payload::next_item(&input[..all], kind, x) {
+            Item::Pair { pair, end } => {
+                return Given {
+                    some: true,
+                    pair,
+                    next: behind_pair(x, end),
+                };
             },
-            &mut messages[to..],
-        );
-        x = Far {
-            at: end + 1,
-            left: count,
-            messages: i + 1,
-        };
-    }
-    x
-}
-
-// One of the pairs that are there by value, by its number.
-fn nth(few: Few, n: usize) -> Pair
-    ensures { λ r. ⌜ r ≡ getD (four few) n noPair ⌝ }
-{
-    if n == 0 {
-        return few.first;
-    }
-    if n == 1 {
-        return few.second;
-    }
-    if n == 2 {
-        return few.third;
-    }
-    if n == 3 {
-        return few.fourth;
-    }
-    NO_PAIR
-}
-
-// The next of them, and the number of the one behind it.
-fn taken_ahead(few: Few, x: Far) -> Given
-    ensures { λ r. ⌜ ((p : PairRecord) (ps : List PairRecord) → InFew few (x .at) (p ∷ ps) → (r .some ≡ true) × (r .pair ≡ p) × InFew few (r .next .at) ps) ⌝ }
-{
-    let n = x.at;
-    if 4 <= n {
-        return none(x);
-    }
-    Given {
-        some: true,
-        pair: nth(few, n),
-        next: Far {
-            at: n + 1,
-            left: 0,
-            messages: 0,
-        },
-    }
-}
-
-// The next pair, where i of so many were taken, and how far it is behind it. Messages that stand before it are filled in.
-pub(crate) fn take_next(
-    input: &[u8],
-    source: Source,
-    x: Far,
-    i: usize,
-    count: usize,
-    messages: &mut [u64],
-) -> Given
-    ensures { λ r. ⌜ TakesNext (now (input .entry)) source x i count r (now (messages .entry)) (now (messages .exit)) ⌝ }
-{
-    if count <= i {
-        return none(x);
-    }
-    if source.own {
-        let few = source.few;
-        return taken_ahead(few, x);
-    }
-    let y = to_argument(input, source.total, i, x, messages);
-    taken(input, y)
-}
-
-// Behind the last pair, of so many: fills in the messages that are left.
-pub(crate) fn finish(input: &[u8], source: Source, x: Far, i: usize, messages: &mut [u64])
-    ensures { λ _. ⌜ ((goal : List ℕ) → Comes (now (input .entry)) source x i (now (messages .entry)) goal [] → now (messages .exit) ≡ goal) ⌝ }
-{
-    if source.own {
-        return;
-    }
-    let _ = to_argument(input, source.total, i, x, messages);
-}
-
-// An answer that comes with no pairs.
-fn nothing(answer: FrameRead) -> Found
-    ensures { λ r. ⌜ r ≡ noneFound answer ⌝ }
-{
-    Found {
-        answer,
-        count: 0,
-        source: Source {
-            own: true,
-            few: NONE,
-            total: 0,
-        },
-        start: Far {
-            at: 0,
-            left: 0,
-            messages: 0,
-        },
-    }
-}
-
-// How many pairs come before the first message, where a payload has so many: all of a KV list.
-fn before_messages(frame_type: u8, pairs: usize) -> usize
-    ensures { λ r. ⌜ ((«frame_type» ≡ 3 → r ≡ 0) × ((«frame_type» ≡ 3 → ⊥) → r ≡ pairs)) ⌝ }
-{
-    if frame_type == frame::NOTIFY {
-        return 0;
-    }
-    pairs
-}
-
-// Looks at the frame; where it is accepted, finds where its payload starts.
-fn prepare_many(input: &[u8], limit: u32, room: usize, messages: &mut [u64]) -> Found
-    ensures { λ r. ⌜ Prepared (now (input .entry)) limit room r (now (messages .entry)) (now (messages .exit)) ⌝ }
-{
-    let rooms = Rooms {
-        messages: messages.len() / MESSAGE_WIDTH,
-        pairs: room,
-    };
-    let answer = parser::look_frame(input, limit, rooms);
-    let FrameRead::Done {
-        head,
-        messages: message_count,
-        pairs: pair_count,
-        used,
-    } = answer
-    else {
-        return nothing(answer);
-    };
-    let place = walker::kv_of(&input[..used]);
-    let start = Far {
-        at: place.at,
-        left: before_messages(head.frame_type, pair_count),
-        messages: 0,
-    };
-    Found {
-        answer,
-        count: pair_count,
-        source: Source {
-            own: false,
-            few: NONE,
-            total: message_count,
-        },
-        start,
-    }
-}
-
-// The same in one pass for a frame of a few pairs, which come by value.
-pub(crate) fn prepare(input: &[u8], limit: u32, room: usize, messages: &mut [u64]) -> Found
-    ensures { λ r. ⌜ Prepared (now (input .entry)) limit room r (now (messages .entry)) (now (messages .exit)) ⌝ }
-{
-    if room < 4 {
-        return prepare_many(input, limit, room, messages);
-    }
-    let read = parser::read_few(input, limit, messages);
-    let answer = read.answer;
-    match answer {
-        FrameRead::Done {
-            head: _,
-            messages: _,
-            pairs,
-            used: _,
-        } => {
-            let few = read.few;
-            return Found {
-                answer,
-                count: pairs,
-                source: Source {
-                    own: true,
-                    few,
-                    total: 0,
-                },
-                start: Far {
-                    at: 0,
-                    left: 0,
-                    messages: 0,
-                },
-            };
-        },
-        FrameRead::Wait(_) => {
-            return nothing(answer);
-        },
-        FrameRead::Refused(r) => {
-            if r.number == TABLE_FULL {
-                return prepare_many(input, limit, room, messages);
-            }
-            return nothing(answer);
-        },
+            Item::Message { message, end } => {
+                let i = x.messages;
+                if messages.len() / MESSAGE_WIDTH <= i {
+                    return none(x);
+                }
+                let to = i * MESSAGE_WIDTH;
+                put_message(message, &mut messages[to..]);
+                x = behind_message(x, message, end);
+            },
+            Item::Action { action: _, end: _ } => {
+                return none(x);
+            },
+            Item::End => {
+                return none(x);
+            },
+            Item::Refused(_) => {
+                return none(x);
+            },
+        }
     }
 }

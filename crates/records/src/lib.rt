@@ -5,36 +5,27 @@ mod fill;
 mod table;
 
 use frame::Pair;
-use parser::Few;
 use parser::FrameRead;
+use payload::Cursor;
+use payload::Payload;
 pub use table::read_frame_records;
 
-// Where pairs come from, which stays the same while they are taken: a few that are there by value, or else the bytes, in which so many messages stand.
-pub(crate) struct Source {
-    pub own: bool,
-    pub few: Few,
-    pub total: usize,
+// What a payload is a list of, and where it ends.
+pub(crate) struct Area {
+    pub kind: Payload,
+    pub end: usize,
 }
 
-// How far it is: the place of the next pair, or its number among those that are there by value; how many pairs come before the next message; and how many
-// messages are filled in.
-pub(crate) struct Far {
-    pub at: usize,
-    pub left: usize,
-    pub messages: usize,
+// What reading a frame comes to: the answer, its payload, and where that starts. A frame that is not accepted has an empty one.
+pub(crate) struct Found {
+    pub answer: FrameRead,
+    pub area: Area,
+    pub start: Cursor,
 }
 
-// Whether a pair was taken; the pair, and how far it is behind it.
+// Whether there was a pair; the pair, and how far it is behind it.
 pub(crate) struct Given {
     pub some: bool,
     pub pair: Pair,
-    pub next: Far,
-}
-
-// What reading a frame comes to but for its pairs: how many these are, where they come from, and how far it is before the first.
-pub(crate) struct Found {
-    pub answer: FrameRead,
-    pub count: usize,
-    pub source: Source,
-    pub start: Far,
+    pub next: Cursor,
 }
