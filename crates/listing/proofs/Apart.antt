@@ -20,7 +20,7 @@ use Rattle.frame.specs.declared.Action.{Action}
 use Rattle.frame.specs.Records.{keyOf}
 use Rattle.payload.proofs.Standing.{by-verb}
 use Rattle.listing.specs.Digits.{decimal, shown}
-use Rattle.listing.specs.Lines.{gap, others, filled, frameForm, messageForm, pairForm, setForm, unsetForm, endForm, valueText, frameLine, messageLine, pairLine, actionLine, endLine}
+use Rattle.listing.specs.Lines.{gap, filled, frameForm, messageForm, pairForm, setForm, unsetForm, endForm, valueText, frameLine, messageLine, pairLine, actionLine, endLine}
 use Rattle.listing.proofs.Accepted.{Acts}
 use Rattle.listing.proofs.Distinct.{lineMeaning, Plain, decimal-apart, shown-apart, values-apart, decimal-plain, shown-plain, value-plain, texts-apart}
 

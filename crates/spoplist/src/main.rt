@@ -14,10 +14,10 @@ use libc::STDOUT_FILENO;
 use listing::Place;
 use listing::Step;
 use parser::FrameRead;
+ghost use mathlib.Core.Path.{_≡_};
 ghost use Prim.Native.Nat.{_≤_};
 ghost use lib.ListN.{length};
 ghost use Rattle.answer.specs.Writes.{counted};
-ghost use mathlib.Core.Path.{_≡_};
 ghost use Rattle.parser.specs.Promise.{frameSaid, frameTells};
 ghost use Rattle.spoplist.specs.Inner.{readIn, sideIn, Takes, Ends};
 
