@@ -12,3 +12,5 @@ pub mod Keys
 pub mod Again
 pub mod Inverse
 pub mod Agents
+pub mod Apart
+pub mod Standing
