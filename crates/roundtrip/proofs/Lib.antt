@@ -14,3 +14,5 @@ pub mod Inverse
 pub mod Agents
 pub mod Apart
 pub mod Standing
+pub mod ReadBack
+pub mod Examples
