@@ -12,3 +12,7 @@ pub mod Keys
 pub mod Again
 pub mod Inverse
 pub mod Agents
+pub mod Apart
+pub mod Standing
+pub mod ReadBack
+pub mod Examples
