@@ -24,9 +24,9 @@ use Rattle.payload.specs.declared.Item.the-variants as i
 use Rattle.payload.specs.declared.Payload.{Payload}
 use Rattle.payload.specs.Payload.{Contents, empty, payload}
 use Rattle.payload.specs.Item.{itemAt}
-use Rattle.payload.specs.Inner.{began, afterItem, withItem, follows, tests, Stands, Goes, putAt, Accepted}
+use Rattle.payload.specs.Inner.{began, afterItem, follows, tests, Stands, Goes, putAt, Accepted}
 use Rattle.payload.proofs.Accepted.{payload-start}
-use Rattle.payload.proofs.Passing.{goes-start, stands-start, goes-then, Then}
+use Rattle.payload.proofs.Passing.{withItem, goes-start, stands-start, goes-then, Then}
 use Rattle.payload.proofs.Filling.{joined-width, Filled, filled-none, filled-more, filled-length, Roomy, by-tests}
 use Rattle.records.specs.declared.Area.{Area}
 use Rattle.records.specs.declared.Given.{Given}

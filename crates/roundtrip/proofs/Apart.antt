@@ -31,7 +31,7 @@ use Rattle.payload.specs.declared.Counts.{Counts}
 use Rattle.payload.specs.declared.Payload.{Payload}
 use Rattle.payload.specs.declared.Payload.the-variants as k
 use Rattle.payload.specs.Payload.{Contents, payload}
-use Rattle.payload.proofs.Rowing.{Row}
+use Rattle.answer.proofs.Row.{Row}
 use Rattle.payload.proofs.Accepted.{Group, kv-run, messages-run, actions-run, messagesOf, pairsOf}
 use Rattle.parser.specs.Frame.{payloadOf, frameRead}
 use Rattle.parser.proofs.Frames.{frame-cut, haproxy-actions, agent-messages}

@@ -32,7 +32,7 @@ use Rattle.payload.specs.declared.Payload.the-variants as k
 use Rattle.payload.specs.Pair.{pairFrom}
 use Rattle.payload.specs.Action.{actionFrom}
 use Rattle.payload.specs.Payload.{Contents, payload}
-use Rattle.payload.proofs.Rowing.{Row, found-row}
+use Rattle.answer.proofs.Row.{Row, found-row}
 use Rattle.payload.proofs.Accepted.{Group, messagesOf, pairsOf}
 use Rattle.payload.proofs.Holding.{kv-so, actions-so, messages-so}
 use Rattle.parser.specs.Frame.{payloadOf, frameRead}

@@ -29,7 +29,7 @@ use Rattle.payload.specs.Pair.{movedPair, pair, pairFrom}
 use Rattle.payload.specs.Action.{action, movedAction, actionFrom}
 use Rattle.payload.specs.Payload.{movedSpan, stringFrom, messageOf, messageFrom}
 use Rattle.payload.proofs.Steps.{count-there}
-use Rattle.payload.proofs.Rowing.{Row, Found, found-row}
+use Rattle.answer.proofs.Row.{Row, Found, found-row}
 use Rattle.payload.proofs.Accepted.{Group}
 use Rattle.payload.proofs.Back.{part-moved, pair-moved, PairBack, pair-back, ActionBack, set-back, unset-back}
 use Rattle.writer.specs.Pair.{pairBytes}
