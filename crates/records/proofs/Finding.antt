@@ -72,10 +72,10 @@ module _ (s : List ℕ) (limit messages pairs : ℕ) where
         says = e;
         begins = λ table l. record { within = omega arith; meets = meets-start s none 0 table pairs (record { contents = empty; end = 0; is = nothing-held table }) };
         fills = λ table new old ps l q f.
-        let o = said-nothing said a e t in
-        let u = rw (nothing-held table) at f in
-        let same : contentsRead (frameRead side.HAProxy limit (roomsFor table old) s) ≡ refused (o .0) (o .1) = ap (λ (x : Counts). contentsRead (frameRead side.HAProxy limit x s)) (rooms-are table old l q) ∙ o .2 in
-        rw same (record { messages = u .messages ∙ ap (λ (l : List ℕ). leaves (written l) table) (joined-none messageNumbers); pairs = u .pairs });
+            let o = said-nothing said a e t in
+            let u = rw (nothing-held table) at f in
+            let same : contentsRead (frameRead side.HAProxy limit (roomsFor table old) s) ≡ refused (o .0) (o .1) = ap (λ (x : Counts). contentsRead (frameRead side.HAProxy limit x s)) (rooms-are table old l q) ∙ o .2 in
+            rw same (record { messages = u .messages ∙ ap (λ (l : List ℕ). leaves (written l) table) (joined-none messageNumbers); pairs = u .pairs });
       }
 
   -- ---- one that is
@@ -100,8 +100,8 @@ module _ (s : List ℕ) (limit messages pairs : ℕ) where
           says = e;
           begins = λ table l. record { within = used-within; meets = meets-start s (areaOf kind) (place .at) table pairs (record { contents = read .0; end = used; is = there table l }) };
           fills = λ table new old ps l q f.
-          let same : contentsRead (frameRead side.HAProxy limit (roomsFor table old) s) ≡ done (read .0) used = ap (λ (x : Counts). contentsRead (frameRead side.HAProxy limit x s)) (rooms-are table old l q) ∙ ap contentsRead (read .1) in
-          rw same (rw (there table l) at f);
+              let same : contentsRead (frameRead side.HAProxy limit (roomsFor table old) s) ≡ done (read .0) used = ap (λ (x : Counts). contentsRead (frameRead side.HAProxy limit x s)) (rooms-are table old l q) ∙ ap contentsRead (read .1) in
+              rw same (rw (there table l) at f);
         }
       where
         there : (table : List ℕ) → length table ≡ messages → held s (areaOf kind) (place .at) table pairs ≡ done (read .0) used

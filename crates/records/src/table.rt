@@ -10,13 +10,7 @@ ghost use Rattle.records.specs.Promise.{FillsRecords, ReadFrameRecords};
 ghost use Rattle.records.specs.Inner.{held, Begins};
 
 // Fills in the pairs of a payload that is accepted, and its messages.
-fn fill_records(
-    input: &[u8],
-    area: Area,
-    start: Cursor,
-    messages: &mut [u64],
-    pairs: &mut [Pair],
-)
+fn fill_records(input: &[u8], area: Area, start: Cursor, messages: &mut [u64], pairs: &mut [Pair])
     requires { ⌜ Begins (now input) area start (now messages) (length (now pairs)) ⌝ }
     ensures { λ _. ⌜ FillsRecords (held (now (input .entry)) area (start .at) (now (messages .entry)) (length (now (pairs .entry)))) (now (messages .entry)) (now (messages .exit)) (now (pairs .entry)) (now (pairs .exit)) ⌝ }
 {
