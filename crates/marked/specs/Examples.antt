@@ -9,6 +9,7 @@ use lib.ListN.{length}
 use Rattle.answer.specs.Answer.{Answer, done, refused, written}
 use Rattle.answer.specs.Order.{inOrder, eachInOrder}
 use Rattle.answer.specs.Table.{records, joined, some}
+use Rattle.answer.specs.Row.{soMany, toEnd}
 use Rattle.varint.specs.Number.{more, number, groups, numberBytes}
 use Rattle.utf8.specs.Text.{rows, follow, inRange, matching, rowFor, step, bySteps, isUtf8, lossy, sameBytes, sameText}
 use Rattle.types.specs.Value.{Record, value, string, typed, shape, signExtended}
@@ -18,11 +19,12 @@ use Rattle.frame.specs.declared.Pair.{Pair}
 use Rattle.frame.specs.declared.Message.{Message}
 use Rattle.frame.specs.Head.{fourBytes, fourNumber, headBytes, frameBytes}
 use Rattle.frame.specs.Records.{messageAt, pairAt}
-use Rattle.parser.specs.declared.Rooms.{Rooms}
-use Rattle.parser.specs.Pair.{pair}
-use Rattle.parser.specs.Payload.{Contents, onePair, oneMessage, toEnd, payload}
+use Rattle.frame.specs.declared.Side.the-variants as side
 use Rattle.frame.specs.Read.{Reading, wait, answered, cut, head}
-use Rattle.parser.specs.Frame.{oneFrame, atFront, frameRead}
+use Rattle.payload.specs.declared.Counts.{Counts}
+use Rattle.payload.specs.Pair.{pair}
+use Rattle.payload.specs.Payload.{Contents, messageFrom, onePair, oneMessage, payload}
+use Rattle.parser.specs.Frame.{framed as cutOut, frameRead}
 use Rattle.writer.specs.Pair.{pairBytes, newKey}
 use Rattle.writer.specs.Message.{nameBytes, messageBytes}
 use Rattle.writer.specs.Frame.{headOf, limited, finAlone, kvAllowed, kvAnswer, notifyAnswer}
@@ -31,7 +33,7 @@ use Rattle.hello.specs.Hello.{frameSize}
 -- how a frame is read once more: under a limit, with rooms, and with these bytes behind it
 pub record Again : Type 0 where
   pub limit : ℕ
-  pub rooms : Rooms
+  pub rooms : Counts
   pub behind : List ℕ
 
 -- what an example says: a number is these bytes, written and read; some bytes are read so, as a number, as a value, or as a frame under a
@@ -41,14 +43,18 @@ pub data Example : Type 0 where
   is : ℕ → List ℕ → Example
   reads : List ℕ → Answer ℕ → Example
   values : List ℕ → Answer Record → Example
-  frames : ℕ → Rooms → List ℕ → Reading (Head × Contents) → Example
+  frames : ℕ → Counts → List ℕ → Reading (Head × Contents) → Example
   sizes : ℕ → ℕ → Answer Unit → Example
-  kept : ℕ → Rooms → List ℕ → Again → Reading (Head × Contents) → Example
+  kept : ℕ → Counts → List ℕ → Again → Reading (Head × Contents) → Example
   kvBack : Head → ℕ → List ℕ → List ℕ → ℕ → List ℕ → Again → Reading (Head × Contents) → Example
   notifyBack : Head → ℕ → List ℕ → List ℕ → ℕ → List ℕ → ℕ → List ℕ → Again → Reading (Head × Contents) → Example
 
+-- rooms for so many messages and pairs
+abbrev pub room : ℕ → ℕ → Counts
+room messages pairs = record { messages = messages; pairs = pairs; actions = 0 }
+
 -- what the laws on kept readings, and on frames that are read back, ask for
-abbrev pub noLess : ℕ → Rooms → Again → Bool
+abbrev pub noLess : ℕ → Counts → Again → Bool
 noLess limit rooms again =
     leb limit (again .limit) && (leb (rooms .messages) (again .rooms .messages) && leb (rooms .pairs) (again .rooms .pairs))
 
@@ -56,20 +62,20 @@ abbrev pub asParameters : Head → ℕ → Bool
 asParameters h limit = ltb (h .stream) (2 ^ 64) && (ltb (h .frame) (2 ^ 64) && ltb limit (2 ^ 32))
 
 abbrev pub readAgain : List ℕ → Again → Reading (Head × Contents)
-readAgain bytes again = frameRead (again .limit) (again .rooms) (bytes ++ again .behind)
+readAgain bytes again = frameRead side.HAProxy (again .limit) (again .rooms) (bytes ++ again .behind)
 
 abbrev pub Holds : Example → Type 0
 Holds (is n bytes) = (numberBytes n ≡ bytes) × (number bytes ≡ done n (length bytes))
 Holds (reads bytes answer) = number bytes ≡ answer
 Holds (values bytes answer) = typed bytes ≡ answer
-Holds (frames limit rooms bytes answer) = frameRead limit rooms bytes ≡ answer
+Holds (frames limit rooms bytes answer) = frameRead side.HAProxy limit rooms bytes ≡ answer
 Holds (sizes theirs ours answer) = frameSize theirs ours ≡ answer
-Holds (kept limit rooms bytes again answer) = (noLess limit rooms again ≡ true) × (frameRead limit rooms bytes ≡ answer) × (readAgain bytes again ≡ answer)
+Holds (kept limit rooms bytes again answer) = (noLess limit rooms again ≡ true) × (frameRead side.HAProxy limit rooms bytes ≡ answer) × (readAgain bytes again ≡ answer)
 Holds (kvBack h limit buffer pairs count bytes again answer) =
-    (asParameters h limit && (ltb (h .«frame_type») 101 && finAlone h) ≡ true) × (noLess limit (record { messages = 0; pairs = count }) again ≡ true)
+    (asParameters h limit && (ltb (h .«frame_type») 101 && finAlone h) ≡ true) × (noLess limit (room 0 count) again ≡ true)
     × (kvAnswer h limit buffer pairs count ≡ written bytes) × (readAgain bytes again ≡ answer)
 Holds (notifyBack h limit buffer messages count pairs total bytes again answer) =
-    (asParameters h limit ≡ true) × (noLess limit (record { messages = count; pairs = total }) again ≡ true)
+    (asParameters h limit ≡ true) × (noLess limit (room count total) again ≡ true)
     × (notifyAnswer h limit buffer messages count pairs total ≡ written bytes) × (readAgain bytes again ≡ answer)
 
 abbrev pub All : List Example → Type 0
@@ -85,10 +91,10 @@ a and b = (a, b)
 
 -- under this limit, with room for two messages and three pairs; and with room for one pair
 abbrev pub frame : List ℕ → Reading (Head × Contents) → Example
-frame bytes answer = frames 1048576 (record { messages = 2; pairs = 3 }) bytes answer
+frame bytes answer = frames 1048576 (room 2 3) bytes answer
 
 abbrev pub frameInOne : List ℕ → Reading (Head × Contents) → Example
-frameInOne bytes answer = frames 1048576 (record { messages = 2; pairs = 1 }) bytes answer
+frameInOne bytes answer = frames 1048576 (room 2 1) bytes answer
 
 -- n bytes behind the length bytes: a type, flags, and what comes behind them
 abbrev pub framed : ℕ → ℕ → ℕ → List ℕ → List ℕ
@@ -100,7 +106,7 @@ stops number place = answered (refused number place)
 
 abbrev pub accepted : ℕ → ℕ → ℕ → List Message → List Pair → ℕ → Reading (Head × Contents)
 accepted type stream id messages pairs used =
-    answered (done (record { «frame_type» = type; flags = 1; stream = stream; frame = id }, record { messages = messages; pairs = pairs; left = 0 }) used)
+    answered (done (record { «frame_type» = type; flags = 1; stream = stream; frame = id }, record { messages = messages; pairs = pairs; actions = [] }) used)
 
 -- records by the numbers of their tables
 abbrev pub aMessage : ℕ → ℕ → ℕ → ℕ → Message
@@ -110,9 +116,6 @@ abbrev pub aPair : ℕ → ℕ → ℕ → ℕ → ℕ → ℕ → Pair
 aPair start len kind a b flags = record { start = start; len = len; value = record { kind = kind; a = a; b = b; flags = flags } }
 
 -- ---- the laws
-
-abbrev pub room : ℕ → ℕ → Rooms
-room messages pairs = record { messages = messages; pairs = pairs }
 
 abbrev pub listing : List ℕ
 listing =
@@ -210,7 +213,7 @@ examples =
 pub marked : All examples
 unfolding more number groups numberBytes string typed shape signExtended fourNumber inOrder some
     rows follow inRange matching rowFor step bySteps lossy sameBytes sameText
-    pair onePair oneMessage toEnd payload head cut oneFrame atFront frameRead frameSize
+    pair messageFrom onePair oneMessage soMany toEnd payload head cut cutOut frameRead frameSize
     isUtf8 eachInOrder records joined stringBytes valueBytes fourBytes headBytes frameBytes messageAt pairAt pairBytes newKey
     nameBytes messageBytes limited kvAllowed kvAnswer notifyAnswer
 marked =

@@ -348,16 +348,15 @@ fn print_answer(answer: FrameRead) {
     match answer {
         FrameRead::Done {
             head: m,
-            messages,
-            pairs,
+            counts,
             used,
         } => {
             print_number(b"type ", m.frame_type as u64);
             print_number(b" flags ", m.flags as u64);
             print_number(b" stream ", m.stream);
             print_number(b" id ", m.frame);
-            print_number(b" messages ", messages as u64);
-            print_number(b" pairs ", pairs as u64);
+            print_number(b" messages ", counts.messages as u64);
+            print_number(b" pairs ", counts.pairs as u64);
             print_number(b" from ", used as u64);
         },
         FrameRead::Wait(missing) => {
@@ -380,8 +379,7 @@ fn numbers_of(answer: FrameRead) -> [u64; 8] {
     match answer {
         FrameRead::Done {
             head: m,
-            messages,
-            pairs,
+            counts,
             used,
         } => [
             0,
@@ -390,8 +388,8 @@ fn numbers_of(answer: FrameRead) -> [u64; 8] {
             m.flags as u64,
             m.stream,
             m.frame,
-            messages as u64,
-            pairs as u64,
+            counts.messages as u64,
+            counts.pairs as u64,
         ],
         FrameRead::Wait(missing) => [answer::WAIT, missing as u64, 0, 0, 0, 0, 0, 0],
         FrameRead::Refused(r) => [r.number, r.place as u64, 0, 0, 0, 0, 0, 0],
