@@ -1,34 +1,41 @@
--- Laws about accepted frames: each of their records has a line.
+-- Laws about accepted frames, whichever side sent them: each of their records has a line.
 use mathlib.Core.Path.{_≡_, refl, sym, ap, _∙_}
-use mathlib.Core.Bool.{Bool, true, false, cond, not, _&&_, _||_}
-use mathlib.Core.Logic.{⊎-elim}
-use mathlib.Core.List.{List, []}
-use Prim.Native.Nat.{ℕ, zero, suc, _+_, _≤_}
+use mathlib.Core.Bool.{true, cond, _&&_, _||_}
+use mathlib.Core.List.{List, [], _∷_}
+use Prim.Native.Nat.{ℕ, _+_, _≤_}
 use native.Mathlib.Omega.{arith}
-use lib.Dec.{ltb, eqb}
-use lib.ListN.{length, drop, getD, length-drop}
-use borrow.Author.Tests.{lt-ltb, le-ltb}
-use Rattle.answer.specs.Answer.{Answer, done, refused, behind}
-use Rattle.answer.proofs.Cases.{lt-or-le, bool-cases, answer-cases, not-both}
-use Rattle.answer.proofs.Each.{Each, each-more, each-map}
-use Rattle.types.specs.Value.{Span, span, string, Record, value, Shape, nothing, flag, integer, address, text, reserved, shape, points, moved, typed, inFields, inFlags}
+use lib.Dec.{eqb}
+use lib.ListN.{length, drop, length-drop}
+use Rattle.answer.specs.Answer.{done, behind}
+use Rattle.answer.specs.Inner.{InRow}
+use Rattle.answer.proofs.Cases.{true-false, answer-cases, not-both}
+use Rattle.answer.proofs.Each.{Each, each-both}
+use Rattle.types.specs.Value.{span, string, Record, value, Shape, nothing, flag, integer, address, text, reserved, shape, points, moved, typed, inFields, inFlags}
 use Rattle.types.specs.Form.{writableRecord}
 use Rattle.types.specs.Promise.{recordOf}
 use Rattle.types.proofs.Reading.{string-accepted, typed-accepted}
 use Rattle.types.proofs.Shapes.{in-record}
+use Rattle.frame.specs.declared.Head.{Head}
 use Rattle.frame.specs.declared.Pair.{Pair}
 use Rattle.frame.specs.declared.Message.{Message}
-use Rattle.parser.specs.declared.Rooms.{Rooms}
-use Rattle.frame.specs.declared.Head.{Head}
-use Rattle.frame.specs.declared.Side.the-variants as side
-use Rattle.frame.specs.Read.{sender}
-use Rattle.parser.specs.Pair.{pairOf, movedPair, pair, pairFrom}
-use Rattle.parser.specs.Payload.{Contents, withMessage, movedMessage, movedContents, stringFrom, oneItem, toEnd, payload}
-use Rattle.parser.specs.Frame.{oneFrame, haproxys}
-use Rattle.parser.proofs.Pairs.{pair-key, pair-value, pair-whole, done-same}
-use Rattle.parser.proofs.Walk.{pair-says, string-next, message-says, item-pair, item-message, item-next}
-use Rattle.parser.proofs.Accepted.{ended-same, whole-holds}
-use Rattle.frame.proofs.Heads.{head-start}
+use Rattle.frame.specs.declared.Action.{Action}
+use Rattle.frame.specs.Read.{Sender}
+use Rattle.frame.proofs.Answers.{done-same}
+use Rattle.payload.specs.declared.Counts.{Counts}
+use Rattle.payload.specs.declared.Payload.{Payload}
+use Rattle.payload.specs.declared.Payload.the-variants as k
+use Rattle.payload.specs.Pair.{pairOf, movedPair, pair, pairFrom}
+use Rattle.payload.specs.Action.{actionFrom}
+use Rattle.payload.specs.Payload.{Contents, payload}
+use Rattle.payload.specs.Inner.{Run}
+use Rattle.payload.proofs.Pairs.{pair-key, pair-value, pair-whole, pair-cases}
+use Rattle.payload.proofs.Rows.{from-next}
+use Rattle.payload.proofs.Steps.{string-next, message-says}
+use Rattle.payload.proofs.Rowing.{Row}
+use Rattle.payload.proofs.Standing.{stands, by-verb}
+use Rattle.payload.proofs.Accepted.{Group, pairsOf, messagesOf, kv-run, messages-run, actions-run}
+use Rattle.parser.specs.Frame.{payloadOf, framed}
+use Rattle.parser.proofs.Frames.{framed-holds}
 
 -- ---- records that have a line
 
@@ -42,9 +49,19 @@ pub record Whole (n : ℕ) (p : Pair) : Type 0 where
 abbrev pub Named : ℕ → Message → Type 0
 Named n m = m .start + m .len ≤ n
 
+-- A set or an unset of a scope that there is, whose name and value lie in so many bytes; an unset has null for its value.
+pub record Acts (n : ℕ) (x : Action) : Type 0 where
+  pub verbs : eqb (x .verb) 1 || eqb (x .verb) 2 ≡ true
+  pub scope : x .scope ≤ 4
+  pub whole : Whole n (x .pair)
+  pub null : x .verb ≡ 2 → recordOf (x .pair .value) ≡ value 0 0 0 0
+
 pub record Held (n : ℕ) (c : Contents) : Type 0 where
   pub messages : Each (Named n) (c .messages)
   pub pairs : Each (Whole n) (c .pairs)
+  pub actions : Each (Acts n) (c .actions)
+
+-- ---- a pair that was read
 
 -- behind k other bytes
 fields-moved : (k : ℕ) (v : Record) → writableRecord v ≡ true → writableRecord (moved k v) ≡ true
@@ -67,18 +84,6 @@ whole-moved k n p h =
       both = λ t. omega (arith, h .both t);
     }
 
-named-moved : (k n : ℕ) (m : Message) → Named n m → Named (k + n) (movedMessage k m)
-named-moved k n m h = omega arith
-
-pub held-moved : (k n : ℕ) (c : Contents) → Held n c → Held (k + n) (movedContents k c)
-held-moved k n c h =
-    record {
-      messages = each-map (Named (k + n)) (movedMessage k) (named-moved k n) (c .messages) (h .messages);
-      pairs = each-map (Whole (k + n)) (movedPair k) (whole-moved k n) (c .pairs) (h .pairs);
-    }
-
--- ---- a pair that was read
-
 pair-found : (s : List ℕ) (start len u : ℕ) → string s ≡ done (span start len) u → (kind a b f n : ℕ) → typed (drop u s) ≡ done (value kind a b f) n
     → Whole (length s) (pairOf (span start len) (moved u (value kind a b f)))
 pair-found s start len u key kind a b f n d =
@@ -92,71 +97,77 @@ pair-found s start len u key kind a b f n d =
     }
 
 pair-read : (s : List ℕ) (p : Pair) (used : ℕ) → pair s ≡ done p used → Whole (length s) p
-pair-read s p used e = by-key (string s) refl
-  where
-    by-value : (start len u : ℕ) → string s ≡ done (span start len) u → (y : Answer Record) → typed (drop u s) ≡ y → Whole (length s) p
-    by-value start len u key (done (value kind a b f) n) d =
-        rw (sym (done-same (sym (pair-whole s start len u key (value kind a b f) n d) ∙ e) .0)) (pair-found s start len u key kind a b f n d)
-    by-value start len u key (refused n place) r = not-both e (pair-value s start len u key n place r)
+pair-read s p used e =
+    pair-cases s
+    (λ n place r. not-both e (pair-key s n place r))
+    (λ start len u key n place r. not-both e (pair-value s start len u key n place r))
+    (λ start len u key kind a b f n d.
+    rw (sym (done-same (sym (pair-whole s start len u key (value kind a b f) n d) ∙ e) .0)) (pair-found s start len u key kind a b f n d))
 
-    by-key : (x : Answer Span) → string s ≡ x → Whole (length s) p
-    by-key (done (span start len) u) key = by-value start len u key (typed (drop u s)) refl
-    by-key (refused n place) r = not-both e (pair-key s n place r)
+-- Law: a pair that stands at a place has a line.
+pub pair-there : (s : List ℕ) (at : ℕ) (p : Pair) (end : ℕ) → pairFrom at s ≡ done p end → Whole (length s) p
+pair-there s at p end e =
+    let all : at + length (drop at s) ≡ length s = omega (arith, length-drop at s, from-next s at p end e .1) in
+    answer-cases (pair (drop at s))
+    (λ q used is.
+    rw (sym (done-same (sym (ap (behind movedPair at) is) ∙ e) .0))
+    (rw all at (whole-moved at (length (drop at s)) q (pair-read (drop at s) q used is))))
+    (λ n place r. not-both e (ap (behind movedPair at) r))
 
-pub pair-there : (s : List ℕ) (at : ℕ) (p : Pair) (end : ℕ) → at ≤ length s → pairFrom at s ≡ done p end → Whole (length s) p
-pair-there s at p end h e = by-pair (pair (drop at s)) refl
-  where
-    all : at + length (drop at s) ≡ length s
-    all = omega (arith, length-drop at s)
-
-    by-pair : (x : Answer Pair) → pair (drop at s) ≡ x → Whole (length s) p
-    by-pair (done q used) is =
-        rw (sym (done-same (sym (ap (behind movedPair at) is) ∙ e) .0))
-        (rw all at (whole-moved at (length (drop at s)) q (pair-read (drop at s) q used is)))
-    by-pair (refused n place) r = not-both e (ap (behind movedPair at) r)
+-- Law: so has an action that does.
+pub action-acts : (s : List ℕ) (at : ℕ) (x : Action) (end : ℕ) → actionFrom at s ≡ done x end → Acts (length s) x
+unfolding shape
+action-acts s at x end e =
+    let z = stands s at x end e in
+    record {
+      verbs = z .verbs;
+      scope = z .scope;
+      whole =
+          by-verb x (z .verbs)
+          (λ one. pair-there s (at + 3) (x .pair) end (z .set one))
+          (λ two.
+          let u = z .unset two in
+          let n = string-next s (at + 3) (x .pair .start) (x .pair .len) end (u .0) in
+          rw (sym (u .1)) (record { fields = refl; key = omega (arith, n); range = λ t. true-false t refl; both = λ t. true-false t refl }));
+      null = λ two. ap (λ (p : Pair). recordOf (p .value)) (sym (z .unset two .1));
+    }
 
 -- ---- a payload that was read
 
-module _ (kv : Bool) (rooms : Rooms) (s : List ℕ) where
-  item-held : (at : ℕ) (c d : Contents) (end : ℕ) → at ≤ length s → Held (length s) c → oneItem kv rooms at c s ≡ done d end → Held (length s) d
-  item-held at c d end h l e =
-      bool-cases (kv || ltb 0 (c .left))
-      (λ t.
-      let p = pair-says kv rooms at c s d end (sym (item-pair kv rooms at c s t) ∙ e) in
-      rw (sym (p .is)) (record { messages = l .messages; pairs = each-more (Whole (length s)) (c .pairs) (p .pair) (l .pairs) (pair-there s at (p .pair) end h (p .from)) }))
-      (λ t.
-      let m = message-says rooms at c s d end (sym (item-message kv rooms at c s t) ∙ e) in
-      rw (sym (m .is)) (by-name (m .name) (m .place) (getD s (m .place) 0) (m .from)))
-    where
-      by-name : (name : Span) (place count : ℕ) → stringFrom at s ≡ done name place → Held (length s) (withMessage c name count)
-      by-name (span start len) place count f =
-          let o = string-next s at start len place f in
-          record { messages = each-more (Named (length s)) (c .messages) _ (l .messages) (omega (arith, o)); pairs = l .pairs }
+run-whole : (s : List ℕ) (at : ℕ) (ps : List Pair) (end : ℕ) → Run s at ps end → Each (Whole (length s)) ps
+run-whole s at [] end r = tt
+run-whole s at (p ∷ ps) end r = (pair-there s at p (r .0) (r .1), run-whole s (r .0) ps end (r .2))
 
-  to-end-held : (k at : ℕ) (c d : Contents) (end : ℕ) → at ≤ length s → Held (length s) c → toEnd kv rooms k at c s ≡ done d end → Held (length s) d
-  unfolding toEnd
-  to-end-held zero at c d end h l e = rw (sym (ended-same at c d end e .0)) l
-  to-end-held (suc k) at c d end h l e =
-      ⊎-elim
-      (λ m.
-      let f = rw (lt-ltb at (length s) m) at e in
-      answer-cases (oneItem kv rooms at c s)
-      (λ x n is. to-end-held k n x d end (item-next kv rooms at c s x n is .1) (item-held at c x n h l is) (rw is at f))
-      (λ n place r. not-both {x = refused n place} (rw r at f) refl))
-      (λ m. rw (sym (ended-same at c d end (rw (le-ltb at (length s) m) at e) .0)) l)
-      (lt-or-le at (length s))
+run-acts : (s : List ℕ) (at : ℕ) (xs : List Action) (end : ℕ) → InRow (λ n. actionFrom n s) at xs end → Each (Acts (length s)) xs
+run-acts s at [] end r = tt
+run-acts s at (x ∷ xs) end r = (action-acts s at x (r .0) (r .1), run-acts s (r .0) xs end (r .2))
 
-  -- Law: each record of an accepted payload has a line.
-  pub payload-held : (c : Contents) (end : ℕ) → payload kv rooms s ≡ done c end → Held (length s) c
-  unfolding payload
-  payload-held c end e = to-end-held (length s) 0 (record { messages = []; pairs = []; left = 0 }) c end (omega arith) (record { messages = tt; pairs = tt }) e
+groups-held : (s : List ℕ) (from : ℕ × ℕ) (gs : List (Message × List Pair)) (to : ℕ × ℕ) → Row (Group s) from gs to
+    → Each (Named (length s)) (messagesOf gs) × Each (Whole (length s)) (pairsOf gs)
+groups-held s from [] to r = (tt, tt)
+groups-held s from (g ∷ gs) to r =
+    let m = g .0 in
+    let n = message-says (from .1) (from .0) s m (r .1 .place) (r .1 .message) in
+    let o = groups-held s (r .0) gs to (r .2) in (
+      (omega (arith, string-next s (from .0) (m .start) (m .len) (n .place) (n .name)), o .0),
+      each-both (Whole (length s)) (g .1) (pairsOf gs) (run-whole s (r .1 .place) (g .1) (r .0 .0) (r .1 .run)) (o .1),
+    )
 
--- ---- a frame that was read
+-- Law: each record of an accepted payload has a line.
+pub payload-held : (kind : Payload) (rooms : Counts) (start : ℕ) (s : List ℕ) (c : Contents) (end : ℕ) → payload kind rooms start s ≡ done c end → Held (length s) c
+payload-held k.KvList rooms start s c end e =
+    let h = kv-run rooms start s c end e in
+    record { messages = rw (h .messages) tt; pairs = run-whole s start (c .pairs) end (h .run); actions = rw (h .actions) tt }
+payload-held k.Messages rooms start s c end e =
+    let h = messages-run rooms start s c end e in
+    let o = groups-held s (start, 0) (h .groups) (end, length (c .pairs)) (h .run) in
+    record { messages = rw (h .messages) (o .0); pairs = rw (h .pairs) (o .1); actions = rw (h .actions) tt }
+payload-held k.Actions rooms start s c end e =
+    let h = actions-run rooms start s c end e in
+    record { messages = rw (h .messages) tt; pairs = rw (h .pairs) tt; actions = run-acts s start (c .actions) end (h .run) }
 
 -- Law: so has each record of an accepted frame.
-pub whole-held : (rooms : Rooms) (f : List ℕ) (m : Head) (c : Contents) (used : ℕ) → oneFrame (haproxys rooms) f ≡ done (m, c) used → Held (length f) c
-whole-held rooms f m c used e =
-    let h = whole-holds (haproxys rooms) f m c used e in
-    let rest = drop (h .start) f in
-    let all : h .start + length rest ≡ length f = omega (arith, length-drop (h .start) f, head-start (sender side.HAProxy) f m (h .start) (h .head)) in
-    rw (sym (h .moved)) (rw all at (held-moved (h .start) (length rest) (h .held) (payload-held (not (eqb (m .«frame_type») 3)) rooms rest (h .held) (h .end) (h .is))))
+pub whole-held : (sent : Sender) (rooms : Counts) (f : List ℕ) (m : Head) (c : Contents) (used : ℕ) → framed sent rooms f ≡ done (m, c) used → Held (length f) c
+whole-held sent rooms f m c used e =
+    let h = framed-holds sent rooms f m c used e in
+    payload-held (payloadOf (m .«frame_type»)) rooms (h .start) f c used (h .holds)

@@ -1,5 +1,5 @@
 -- Laws about the listing: decimal digits and other texts; lines in pieces; which line comes next; what accepted frames are; the lines of a
--- frame, and that they lose nothing; that the steps are a frame's lines; how long lines are; the same of agents' frames; and that no second result meets a promise.
+-- frame, and that they lose nothing; that the steps are a frame's lines; how long lines are; and that no second result meets a promise.
 pub mod Decimal
 pub mod Text
 pub mod Pieces
@@ -7,10 +7,9 @@ pub mod Coming
 pub mod Accepted
 pub mod Distinct
 pub mod Frames
+pub mod Apart
 pub mod Lossless
 pub mod Stepped
 pub mod Tables
 pub mod Room
-pub mod Sent
-pub mod SentLossless
 pub mod Unique

@@ -2,7 +2,7 @@
 use mathlib.Core.Path.{_≡_, refl, ap, _∙_}
 use mathlib.Core.Bool.{true}
 use mathlib.Core.Logic.{_⊎_, inl, inr, ⊎-elim}
-use mathlib.Core.List.{List, [], _∷_, _++_}
+use mathlib.Core.List.{List, [], _∷_}
 use Prim.Native.Nat.{ℕ, _+_, _*_, _^_, _≤_, _<_}
 use native.Mathlib.Omega.{arith}
 use lib.Dec.{eqb}
@@ -19,10 +19,11 @@ use Rattle.frame.specs.declared.Pair.{Pair}
 use Rattle.frame.specs.declared.Message.{Message}
 use Rattle.frame.specs.declared.Action.{Action}
 use Rattle.frame.specs.Records.{keyOf}
-use Rattle.parser.specs.declared.Rooms.{Rooms}
 use Rattle.frame.specs.declared.Head.{Head}
-use Rattle.parser.specs.Payload.{Contents}
-use Rattle.parser.specs.Frame.{oneFrame, haproxys}
+use Rattle.frame.specs.Read.{Sender}
+use Rattle.payload.specs.declared.Counts.{Counts}
+use Rattle.payload.specs.Payload.{Contents}
+use Rattle.parser.specs.Frame.{framed}
 use Rattle.listing.specs.Digits.{decimal, shown}
 use Rattle.listing.specs.Lines.{filled, hasSign, dataText, valueText, messageLine, pairLine, actionLine}
 use Rattle.listing.proofs.Decimal.{decimal-most}
@@ -154,9 +155,13 @@ action-room k f x n h scope w =
     omega (arith, all, unset-front (decimal k) (decimal (x .scope)), unset-back, digits, more, key, short, w .key))
 
 -- Law: so no line of an accepted frame is refused where 2n + 128 bytes are lent.
-pub accepted-room : (rooms : Rooms) (f : List ℕ) (m : Head) (c : Contents) (used k : ℕ) → oneFrame (haproxys rooms) f ≡ done (m, c) used → k < 2 ^ 64
+pub accepted-room : (sent : Sender) (rooms : Counts) (f : List ℕ) (m : Head) (c : Contents) (used k : ℕ) → framed sent rooms f ≡ done (m, c) used → k < 2 ^ 64
     → Each (λ (x : Message). x .count < 2 ^ 64 → length (messageLine k f x) ≤ 2 * length f + 128) (c .messages)
     × Each (λ (p : Pair). length (pairLine k f p) ≤ 2 * length f + 128) (c .pairs)
-accepted-room rooms f m c used k e h =
-    let o = whole-held rooms f m c used e in
-    (each-on (λ x w l. message-room k f x (length f) h l w) (c .messages) (o .messages), each-on (λ p w. pair-room k f p (length f) h w) (c .pairs) (o .pairs))
+    × Each (λ (x : Action). length (actionLine k f x) ≤ 2 * length f + 128) (c .actions)
+accepted-room sent rooms f m c used k e h =
+    let o = whole-held sent rooms f m c used e in (
+      each-on (λ x w l. message-room k f x (length f) h l w) (c .messages) (o .messages),
+      each-on (λ p w. pair-room k f p (length f) h w) (c .pairs) (o .pairs),
+      each-on (λ x w. action-room k f x (length f) h (w .scope) (w .whole)) (c .actions) (o .actions),
+    )

@@ -27,7 +27,7 @@ use Rattle.listing.proofs.Coming.{coming-pair, coming-message, coming-n
 -- ---- steps one after the other
 
 -- the bytes of an answer that is none where it is refused
-abbrev bytesOf : Answer (List ℕ) → List ℕ
+abbrev pub bytesOf : Answer (List ℕ) → List ℕ
 bytesOf (done bytes n) = bytes
 bytesOf (refused number place) = []
 

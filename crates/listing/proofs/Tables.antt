@@ -1,17 +1,19 @@
--- Laws about the tables of an accepted frame: they hold its records, and the steps over them give its lines.
+-- Laws about the tables of an accepted frame, whichever side sent it: they hold its records, and the steps over them give its lines.
 use mathlib.Core.Path.{_≡_, refl, sym, ap, ap₂, _∙_}
 use mathlib.Core.Bool.{true}
 use mathlib.Core.List.{List, [], _∷_, _++_, append-assoc}
 use Prim.Native.Nat.{ℕ, zero, suc, _+_, _*_, _≤_, _<_}
-use native.Mathlib.Nat.{one-mul}
+use native.Mathlib.Nat.{one-mul, mul-le-mul-right}
 use native.Mathlib.Omega.{arith}
+use lib.Dec.{leb}
 use lib.ListN.{length, take, length-append}
 use lib.Seq.{length-take-le}
-use borrow.Author.Tests.{le-leb}
-use Rattle.answer.specs.Answer.{done, written}
+use borrow.Author.Tests.{le-leb, eq-eqb, ne-eqb}
+use Rattle.answer.specs.Answer.{Answer, done, written}
+use Rattle.answer.specs.Order.{Check, inOrder, linesAt}
 use Rattle.answer.specs.Table.{numberAt, holds, records, joined}
-use Rattle.answer.proofs.Cases.{bool-cases}
 use Rattle.answer.specs.Inner.{Passes}
+use Rattle.answer.proofs.Cases.{bool-cases}
 use Rattle.answer.proofs.Order.{lines-pass}
 use Rattle.answer.proofs.Each.{Each, each-at}
 use Rattle.answer.proofs.Records.{records-none, joined-on}
@@ -19,23 +21,26 @@ use Rattle.answer.proofs.Rows.{number-later}
 use Rattle.types.specs.Value.{points, shape}
 use Rattle.types.specs.Form.{ranged}
 use Rattle.types.specs.Promise.{recordOf}
+use Rattle.frame.specs.declared.Head.{Head}
 use Rattle.frame.specs.declared.Pair.{Pair}
 use Rattle.frame.specs.declared.Message.{Message}
 use Rattle.frame.specs.declared.Action.{Action}
+use Rattle.frame.specs.declared.Side.{Side}
+use Rattle.frame.specs.Read.{answered, sender}
 use Rattle.frame.specs.Records.{messageWidth, messageAt, messageNumbers, pairWidth, pairIn, pairAt, pairNumbers, actionWidth, actionAt, actionNumbers}
-use Rattle.frame.specs.declared.Head.{Head}
-use Rattle.parser.specs.Payload.{Contents}
-use Rattle.frame.specs.Read.{answered}
+use Rattle.payload.specs.Payload.{Contents}
+use Rattle.payload.specs.Promise.{roomsOf, Fills}
+use Rattle.payload.proofs.Filling.{joined-width}
+use Rattle.payload.proofs.Standing.{by-verb}
 use Rattle.parser.specs.Frame.{frameRead}
-use Rattle.parser.specs.Promise.{roomsOf, contentsRead, Fills}
-use Rattle.parser.proofs.Filling.{joined-width}
-use Rattle.parser.proofs.Accepted.{frame-cut}
-use Rattle.listing.specs.Lines.{frameLine, messageLine, pairLine}
-use Rattle.listing.specs.Check.{messageLineChecks, pairLineChecks}
-use Rattle.listing.specs.Order.{messageAnswer, pairAnswer}
-use Rattle.listing.proofs.Frames.{itemLines, frameLines}
-use Rattle.listing.proofs.Accepted.{Named, Whole, whole-held}
-use Rattle.listing.proofs.Stepped.{steps, steps-lines}
+use Rattle.parser.specs.Promise.{contentsRead}
+use Rattle.parser.proofs.Frames.{Cut, frame-cut}
+use Rattle.listing.specs.Lines.{frameLine, messageLine, pairLine, actionLine}
+use Rattle.listing.specs.Check.{messageLineChecks, pairLineChecks, isAction, actionLineChecks}
+use Rattle.listing.specs.Order.{messageAnswer, pairAnswer, actionAnswer}
+use Rattle.listing.proofs.Frames.{itemLines, actionLines, frameLines}
+use Rattle.listing.proofs.Accepted.{Named, Whole, Acts, Held, whole-held}
+use Rattle.listing.proofs.Stepped.{bytesOf, steps, steps-lines}
 
 -- ---- what a table holds
 
@@ -106,59 +111,116 @@ table-actions = table-holds actionNumbers actionAt here later
 message-passes : (f : List ℕ) (m : Message) → Named (length f) m → Passes (messageLineChecks f m)
 message-passes f m h = (le-leb (m .start + m .len) (length f) h, tt)
 
-pub pair-passes : (f : List ℕ) (p : Pair) → Whole (length f) p → Passes (pairLineChecks f p)
+pair-passes : (f : List ℕ) (p : Pair) → Whole (length f) p → Passes (pairLineChecks f p)
 pair-passes f p h = (h .fields, (le-leb (p .start + p .len) (length f) (h .key), (range, tt)))
   where
     range : ranged f (recordOf (p .value)) ≡ true
     range = bool-cases (points (shape (p .value .kind))) (λ t. rw t (le-leb (p .value .a + p .value .b) (length f) (h .range t))) (λ t. rw t)
 
--- ---- the steps over an accepted frame's tables
+action-passes : (f : List ℕ) (x : Action) → Acts (length f) x → Passes (actionLineChecks f x)
+action-passes f x a = (known, pair-passes f (x .pair) (a .whole))
+  where
+    scope : leb (x .scope) 4 ≡ true
+    scope = le-leb (x .scope) 4 (a .scope)
 
-module _ (f messages pairs : List ℕ) (c : Contents) (n : ℕ) (long : n ≡ length f)
-    (held : Each (Named n) (c .messages) × Each (Whole n) (c .pairs)) (behindMessages behindPairs : List ℕ)
-    (inMessages : messages ≡ joined messageNumbers (c .messages) ++ behindMessages)
-    (inPairs : pairs ≡ joined pairNumbers (c .pairs) ++ behindPairs) where
-  hold-messages : records (messageAt messages) 0 (length (c .messages)) ≡ c .messages
-  hold-messages = rw inMessages (table-messages (c .messages) behindMessages)
+    known : isAction x ≡ true
+    known =
+        by-verb x (a .verbs) (λ one. rw (scope, eq-eqb (x .verb) 1 one))
+        (λ two.
+        let none = a .null two in
+        let kind : x .pair .value .kind ≡ 0 = cc in
+        let flags : x .pair .value .flags ≡ 0 = cc in
+        rw (scope, ne-eqb (x .verb) 1 (λ z. omega arith), eq-eqb (x .verb) 2 two, eq-eqb (x .pair .value .kind) 0 kind, eq-eqb (x .pair .value .flags) 0 flags))
 
-  hold-pairs : records (pairAt pairs) 0 (length (c .pairs)) ≡ c .pairs
-  hold-pairs = rw inPairs (table-pairs (c .pairs) behindPairs)
+-- A table with these records at its front: whatever holds of each of them, and lets its checks pass, record i is there and passes.
+answers : {A : Type 0} (numbers : A → List ℕ) (width : ℕ) → ((x : A) → length (numbers x) ≡ width) → (at : ℕ → A) (P : A → Type 0) (checks : A → List Check)
+    → ((x : A) → P x → Passes (checks x)) → (table : List ℕ) (xs : List A) (behind : List ℕ) → table ≡ joined numbers xs ++ behind
+    → records at 0 (length xs) ≡ xs → Each P xs → (i : ℕ) → i < length xs → (a : Answer (List ℕ))
+    → inOrder (linesAt 0 ((16, holds width table (i + 1)) ∷ checks (at i))) a ≡ a
+answers numbers width wide at P checks passes table xs behind is these each i h a =
+    let all = joined-width numbers width wide xs in
+    let few : i + 1 ≤ length xs = omega arith in
+    let more = mul-le-mul-right width few in
+    let room : (i + 1) * width ≤ length table = omega (arith, ap length is, length-append (joined numbers xs) behind) in
+    let here : 0 + i ≡ i = omega arith in
+    let there : P (at i) = rw here at (each-at P at (length xs) 0 (rw these each) i h) in
+    lines-pass ((16, holds width table (i + 1)) ∷ checks (at i)) (le-leb ((i + 1) * width) (length table) room, passes (at i) there) 0 a
 
-  named : (i : ℕ) → i < length (c .messages) → messageAnswer f messages i ≡ written (messageLine i f (messageAt messages i))
-  named i h =
-      let wide = joined-width messageNumbers messageWidth (λ m. refl) (c .messages) in
-      let room : (i + 1) * messageWidth ≤ length messages = omega (arith, ap length inMessages, length-append (joined messageNumbers (c .messages)) behindMessages, wide) in
-      let here : 0 + i ≡ i = omega arith in
-      let there : Named n (messageAt messages i) = rw here at (each-at (Named n) (messageAt messages) (length (c .messages)) 0 (rw hold-messages (held .0)) i h) in
-      lines-pass ((16, holds messageWidth messages (i + 1)) ∷ messageLineChecks f (messageAt messages i))
-      (le-leb ((i + 1) * messageWidth) (length messages) room, message-passes f (messageAt messages i) (rw long at there)) 0 _
+-- ---- the lines of the actions of a table
 
-  paired : (k : ℕ) → k < length (c .pairs) → pairAnswer f pairs k ≡ written (pairLine k f (pairAt pairs k))
-  paired k h =
-      let wide = joined-width pairNumbers pairWidth (λ p. refl) (c .pairs) in
-      let room : (k + 1) * pairWidth ≤ length pairs = omega (arith, ap length inPairs, length-append (joined pairNumbers (c .pairs)) behindPairs, wide) in
-      let here : 0 + k ≡ k = omega arith in
-      let there : Whole n (pairAt pairs k) = rw here at (each-at (Whole n) (pairAt pairs) (length (c .pairs)) 0 (rw hold-pairs (held .1)) k h) in
-      lines-pass ((16, holds pairWidth pairs (k + 1)) ∷ pairLineChecks f (pairAt pairs k))
-      (le-leb ((k + 1) * pairWidth) (length pairs) room, pair-passes f (pairAt pairs k) (rw long at there)) 0 _
+-- What the answers for so many actions of a table write, one behind the other.
+unfoldable pub actionSteps : List ℕ → List ℕ → ℕ → ℕ → List ℕ
+actionSteps f actions k zero = []
+actionSteps f actions k (suc n) = bytesOf (actionAnswer f actions k) ++ actionSteps f actions (suc k) n
 
-  pub steps-contents : steps f messages (length (c .messages)) pairs (length (c .pairs)) (length (c .messages) + length (c .pairs)) (record { messages = 0; pairs = 0; left = 0 })
-      ≡ itemLines f 0 0 (c .messages) (c .pairs)
-  steps-contents =
-      steps-lines f messages (length (c .messages)) pairs (length (c .pairs)) named paired
-      ∙ ap₂ (itemLines f 0 0) hold-messages hold-pairs
+action-steps : (f actions : List ℕ) (n k : ℕ) → ((i : ℕ) → i < k + n → actionAnswer f actions i ≡ written (actionLine i f (actionAt actions i)))
+    → actionSteps f actions k n ≡ actionLines f k (records (actionAt actions) k n)
+unfolding actionSteps actionLines records
+action-steps f actions zero k each = refl
+action-steps f actions (suc n) k each =
+    rw (each k (omega arith))
+    (ap (λ (l : List ℕ). actionLine k f (actionAt actions k) ++ l) (action-steps f actions n (suc k) (λ i h. each i (omega arith))))
 
--- Law: over the tables that the reader left of an accepted frame, the steps from the first place on are its lines, in order, behind its own.
-pub accepted-lines : (limit index : ℕ) (s oldMessages newMessages oldPairs newPairs : List ℕ) (m : Head) (c : Contents) (used : ℕ)
-    → frameRead limit (roomsOf oldMessages oldPairs) s ≡ answered (done (m, c) used)
-    → Fills (contentsRead (frameRead limit (roomsOf oldMessages oldPairs) s)) oldMessages newMessages oldPairs newPairs
-    → frameLine index m used
-    ++ steps (take used s) newMessages (length (c .messages)) newPairs (length (c .pairs)) (length (c .messages) + length (c .pairs)) (record { messages = 0; pairs = 0; left = 0 })
-    ≡ frameLines index (take used s) m c
-unfolding frameLines
-accepted-lines limit index s oldMessages newMessages oldPairs newPairs m c used e fills =
-    let o = frame-cut limit (roomsOf oldMessages oldPairs) s m c used e in
-    let h = whole-held (roomsOf oldMessages oldPairs) (take used s) m c used (o .is) in
-    let long = length-take-le used s (o .there) in
-    ap₂ (λ (n : ℕ) (l : List ℕ). frameLine index m n ++ l) (sym long)
-    (steps-contents (take used s) newMessages newPairs c (length (take used s)) refl (h .messages, h .pairs) _ _ (rw e at (fills .messages)) (rw e at (fills .pairs)))
+-- ---- an accepted frame's tables
+
+-- The bytes of a frame that was accepted, and the tables that its reader left.
+module _ (side : Side) (limit : ℕ) (s oldMessages newMessages oldPairs newPairs oldActions newActions : List ℕ) (m : Head) (c : Contents) (used : ℕ)
+    (e : frameRead side limit (roomsOf oldMessages oldPairs oldActions) s ≡ answered (done (m, c) used))
+    (fills : Fills (contentsRead (frameRead side limit (roomsOf oldMessages oldPairs oldActions) s)) oldMessages newMessages oldPairs newPairs oldActions newActions) where
+  abbrev f : List ℕ
+  f = take used s
+
+  cut : Cut side limit (roomsOf oldMessages oldPairs oldActions) s m c used
+  cut = frame-cut side limit (roomsOf oldMessages oldPairs oldActions) s m c used e
+
+  held : Held (length f) c
+  held = whole-held (sender side) (roomsOf oldMessages oldPairs oldActions) f m c used (cut .is)
+
+  inMessages : (t : List ℕ) × (newMessages ≡ joined messageNumbers (c .messages) ++ t)
+  inMessages = (_, rw e at (fills .messages))
+
+  inPairs : (t : List ℕ) × (newPairs ≡ joined pairNumbers (c .pairs) ++ t)
+  inPairs = (_, rw e at (fills .pairs))
+
+  inActions : (t : List ℕ) × (newActions ≡ joined actionNumbers (c .actions) ++ t)
+  inActions = (_, rw e at (fills .actions))
+
+  -- Laws: each table holds the frame's records of its sort.
+  pub messages-held : records (messageAt newMessages) 0 (length (c .messages)) ≡ c .messages
+  messages-held = rw (inMessages .1) (table-messages (c .messages) (inMessages .0))
+
+  pub pairs-held : records (pairAt newPairs) 0 (length (c .pairs)) ≡ c .pairs
+  pairs-held = rw (inPairs .1) (table-pairs (c .pairs) (inPairs .0))
+
+  pub actions-held : records (actionAt newActions) 0 (length (c .actions)) ≡ c .actions
+  actions-held = rw (inActions .1) (table-actions (c .actions) (inActions .0))
+
+  -- Laws: and each of them is answered with its line.
+  pub message-answered : (i : ℕ) → i < length (c .messages) → messageAnswer f newMessages i ≡ written (messageLine i f (messageAt newMessages i))
+  message-answered i h =
+      answers messageNumbers messageWidth (λ x. refl) (messageAt newMessages) (Named (length f)) (messageLineChecks f) (message-passes f) newMessages (c .messages) (inMessages .0) (inMessages .1)
+      messages-held (held .messages) i h _
+
+  pub pair-answered : (k : ℕ) → k < length (c .pairs) → pairAnswer f newPairs k ≡ written (pairLine k f (pairAt newPairs k))
+  pair-answered k h =
+      answers pairNumbers pairWidth (λ x. refl) (pairAt newPairs) (Whole (length f)) (pairLineChecks f) (pair-passes f) newPairs (c .pairs) (inPairs .0) (inPairs .1)
+      pairs-held (held .pairs) k h _
+
+  pub action-answered : (k : ℕ) → k < length (c .actions) → actionAnswer f newActions k ≡ written (actionLine k f (actionAt newActions k))
+  action-answered k h =
+      answers actionNumbers actionWidth (λ x. refl) (actionAt newActions) (Acts (length f)) (actionLineChecks f) (action-passes f) newActions (c .actions) (inActions .0) (inActions .1)
+      actions-held (held .actions) k h _
+
+  -- Law: so the steps from the first place on, and then the actions one by one, are the frame's lines, in order, behind its own.
+  pub accepted-lines : (index : ℕ)
+      → frameLine index m used
+      ++ (steps f newMessages (length (c .messages)) newPairs (length (c .pairs)) (length (c .messages) + length (c .pairs)) (record { messages = 0; pairs = 0; left = 0 })
+      ++ actionSteps f newActions 0 (length (c .actions)))
+      ≡ frameLines index f m c
+  unfolding frameLines
+  accepted-lines index =
+      let items =
+      steps-lines f newMessages (length (c .messages)) newPairs (length (c .pairs)) message-answered pair-answered
+      ∙ ap₂ (itemLines f 0 0) messages-held pairs-held in
+      let actions = action-steps f newActions (length (c .actions)) 0 (λ i h. action-answered i (omega arith)) ∙ ap (actionLines f 0) actions-held in
+      ap₂ (λ (n : ℕ) (l : List ℕ). frameLine index m n ++ l) (sym (length-take-le used s (cut .there))) (ap₂ _++_ items actions)

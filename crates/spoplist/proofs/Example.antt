@@ -4,20 +4,22 @@ use mathlib.Core.Path.{_≡_, refl}
 use mathlib.Core.List.{List, [], _∷_, _++_}
 use Prim.Native.Nat.{ℕ}
 use Rattle.answer.specs.Order.{inOrder}
+use Rattle.answer.specs.Row.{soMany, toEnd}
 use Rattle.answer.specs.Table.{joined, some}
 use Rattle.varint.specs.Number.{more, number}
 use Rattle.types.specs.Value.{string, typed, shape, signExtended}
 use Rattle.frame.specs.Head.{fourNumber}
-use Rattle.parser.specs.Pair.{pair}
-use Rattle.parser.specs.Payload.{onePair, oneMessage, toEnd, payload}
+use Rattle.frame.specs.declared.Side.the-variants as side
 use Rattle.frame.specs.Read.{cut, head}
-use Rattle.parser.specs.Frame.{oneFrame, atFront, frameRead}
-use Rattle.agent.specs.Action.{variable, action, oneAction, actionsToEnd, actions}
+use Rattle.payload.specs.Pair.{pair}
+use Rattle.payload.specs.Action.{variable, action}
+use Rattle.payload.specs.Payload.{messageFrom, onePair, oneMessage, oneAction, payload}
+use Rattle.parser.specs.Frame.{framed, frameRead}
 use Rattle.listing.specs.Digits.{letters, digits, decimal, signed, shown}
 use Rattle.listing.specs.Lines.{filled, valueText, frameLine, messageLine, pairLine, actionLine, endLine}
 use Rattle.spoplist.specs.Listing.{stopFrom}
-use Rattle.spoplist.proofs.Inputs.{linesFrom, listing, sentListing}
-use Rattle.listing.proofs.Frames.{pairLines, itemLines, frameLines, actionLines, sentLines}
+use Rattle.listing.proofs.Frames.{pairLines, itemLines, frameLines, actionLines}
+use Rattle.spoplist.proofs.Inputs.{linesFrom, listing}
 
 abbrev pub input : List ℕ
 input =
@@ -32,10 +34,10 @@ lines =
     ++ letters "pair 1 key 6f6b kind 1 value 1\n"
     ++ letters "end 29 0 0\n"
 
-pub example : listing 65532 (record { messages = 64; pairs = 256 }) input ≡ lines
-unfolding more number string typed shape signExtended fourNumber inOrder some joined
-    pair onePair oneMessage toEnd payload head cut oneFrame atFront frameRead
-    digits decimal signed shown filled valueText frameLine messageLine pairLine endLine pairLines itemLines frameLines stopFrom linesFrom
+pub example : listing side.HAProxy 65532 (record { messages = 64; pairs = 256; actions = 0 }) input ≡ lines
+unfolding more number string typed shape signExtended fourNumber inOrder some joined soMany toEnd
+    pair messageFrom onePair oneMessage payload head cut framed frameRead
+    digits decimal signed shown filled valueText frameLine messageLine pairLine endLine pairLines itemLines actionLines frameLines stopFrom linesFrom
 example = refl
 
 -- ---- an agent's
@@ -53,8 +55,8 @@ sentLinesOf =
     ++ letters "action 2 set scope 0 name - kind 0 value -\n"
     ++ letters "end 32 0 0\n"
 
-pub sent-example : sentListing 65532 256 256 sent ≡ sentLinesOf
-unfolding more number string typed shape signExtended fourNumber inOrder some joined
-    pair variable action oneAction actionsToEnd actions head cut oneFrame atFront
-    digits decimal signed shown filled valueText frameLine actionLine endLine pairLines actionLines sentLines stopFrom linesFrom
+pub sent-example : listing side.Agents 65532 (record { messages = 0; pairs = 256; actions = 256 }) sent ≡ sentLinesOf
+unfolding more number string typed shape signExtended fourNumber inOrder some joined toEnd
+    pair variable action oneAction payload head cut framed frameRead
+    digits decimal signed shown filled valueText frameLine actionLine endLine pairLines itemLines actionLines frameLines stopFrom linesFrom
 sent-example = refl

@@ -1,5 +1,6 @@
 -- Laws about where a listing stops: how it goes on behind a frame, and what the reader's answer is.
 use mathlib.Core.Path.{_≡_, refl, sym, ap, ap₂, _∙_}
+use mathlib.Core.Bool.{Bool, true, false}
 use mathlib.Core.List.{List}
 use Prim.Native.Nat.{ℕ, zero, suc, _+_, _≤_, _<_}
 use native.Mathlib.Omega.{arith}
@@ -7,69 +8,42 @@ use lib.ListN.{length, drop, length-drop}
 use lib.Seq.{drop-drop}
 use borrow.Author.Tests.{lt-ltb, le-ltb}
 use Rattle.answer.specs.Answer.{Answer, done, refused}
-use Rattle.parser.specs.declared.Rooms.{Rooms}
+use Rattle.answer.proofs.Cases.{not-both}
 use Rattle.frame.specs.declared.Head.{Head}
+use Rattle.frame.specs.declared.Side.{Side}
 use Rattle.frame.specs.Read.{Reading, wait, answered}
+use Rattle.frame.proofs.Answers.{refused-same, answered-same, wait-same, wait-answered}
+use Rattle.payload.specs.declared.Counts.{Counts}
+use Rattle.payload.specs.Payload.{Contents}
 use Rattle.parser.specs.Frame.{frameRead}
-use Rattle.parser.specs.Promise.{Counts, countsOf, frameTells}
-use Rattle.agent.specs.Frame.{agentRead}
-use Rattle.agent.specs.Promise.{agentTells}
+use Rattle.parser.specs.Promise.{frameTells}
 use Rattle.parser.proofs.Entries.{said-done}
-use Rattle.parser.proofs.Accepted.{frame-cut}
-use Rattle.agent.proofs.Entries.{countsOf as sentCounts, said-done as said-done-by}
-use Rattle.agent.proofs.Standing.{agent-cut}
-use Rattle.spoplist.specs.Listing.{taken, stopFrom, stopOf, haproxysTake, agentsTake}
-use Rattle.spoplist.specs.Inner.{Accepts}
+use Rattle.parser.proofs.Frames.{frame-cut}
+use Rattle.spoplist.specs.Listing.{taken, stopFrom, stopOf}
+use Rattle.spoplist.specs.Inner.{Accepts, readIn}
 
 -- ---- what a reader said
 
--- Of any reader, by what is told of its answers: counts stand for the records.
-module _ {A : Type 0} (count : A → Counts) (tells : Reading (Head × A) → Reading (Head × Counts)) (waits : (n : ℕ) → tells (wait n) ≡ wait n)
-    (does : (m : Head) (c : A) (n : ℕ) → tells (answered (done (m, c) n)) ≡ answered (done (m, count c) n))
-    (refuses : (n place : ℕ) → tells (answered (refused n place)) ≡ answered (refused n place)) where
-  pub told-wait : (x : Reading (Head × A)) (n : ℕ) → wait n ≡ tells x → taken x ≡ refused 1 n
-  told-wait (wait m) n q = let e = q ∙ waits m in let same : n ≡ m = cc in ap (refused 1) (sym same)
-  told-wait (answered (refused m place)) n q = let e = q ∙ refuses m place in let z : _≡_ {A = ℕ} 0 1 = cc in absurd (omega arith)
-  told-wait (answered (done (m, c) u)) n q = let e = q ∙ does m c u in let z : _≡_ {A = ℕ} 0 1 = cc in absurd (omega arith)
+pub said-wait : (x : Reading (Head × Contents)) (n : ℕ) → wait n ≡ frameTells x → taken x ≡ refused 1 n
+said-wait (wait m) n e = ap (refused 1) (sym (wait-same e))
+said-wait (answered a) n e = wait-answered e
 
-  pub told-refused : (x : Reading (Head × A)) (number place : ℕ) → answered (refused number place) ≡ tells x → taken x ≡ refused number place
-  told-refused (wait m) number place q = let e = q ∙ waits m in let z : _≡_ {A = ℕ} 0 1 = cc in absurd (omega arith)
-  told-refused (answered (refused m p)) number place q =
-      let e = q ∙ refuses m p in
-      let a : number ≡ m = cc in
-      let b : place ≡ p = cc in
-      ap₂ refused (sym a) (sym b)
-  told-refused (answered (done (m, c) u)) number place q = let e = q ∙ does m c u in let z : _≡_ {A = ℕ} 0 1 = cc in absurd (omega arith)
+pub said-refused : (x : Reading (Head × Contents)) (number place : ℕ) → answered (refused number place) ≡ frameTells x → taken x ≡ refused number place
+said-refused (wait m) number place e = wait-answered (sym e)
+said-refused (answered (refused m p)) number place e = let o = refused-same (answered-same e) in ap₂ refused (sym (o .0)) (sym (o .1))
+said-refused (answered (done y u)) number place e = not-both refl (sym (answered-same e))
 
--- of HAProxy's frames
-module _ (limit : ℕ) (rooms : Rooms) (s : List ℕ) where
-  pub said-taken : (m : Head) (k : Counts) (used : ℕ) → answered (done (m, k) used) ≡ frameTells (frameRead limit rooms s)
-      → Accepts s (haproxysTake limit rooms s) used
-  said-taken m k used e =
-      let o = said-done (frameRead limit rooms s) m k used e in
-      let h = frame-cut limit rooms s m (o .0) used (o .1) in
-      record { is = ap taken (o .1); some = omega (arith, h .four); most = h .there }
+side-taken : (x : Side) (limit : ℕ) (rooms : Counts) (s : List ℕ) (h : Head) (k : Counts) (used : ℕ) → answered (done (h, k) used) ≡ frameTells (frameRead x limit rooms s)
+    → Accepts s (taken (frameRead x limit rooms s)) used
+side-taken x limit rooms s h k used e =
+    let o = said-done (frameRead x limit rooms s) h k used e in
+    let c = frame-cut x limit rooms s h (o .0) used (o .1) in
+    record { is = ap taken (o .1); some = omega (arith, c .four); most = c .there }
 
-  pub said-wait : (n : ℕ) → wait n ≡ frameTells (frameRead limit rooms s) → haproxysTake limit rooms s ≡ refused 1 n
-  said-wait n e = told-wait countsOf frameTells (λ n. refl) (λ n c u. refl) (λ n p. refl) (frameRead limit rooms s) n e
-
-  pub said-refused : (number place : ℕ) → answered (refused number place) ≡ frameTells (frameRead limit rooms s) → haproxysTake limit rooms s ≡ refused number place
-  said-refused number place e = told-refused countsOf frameTells (λ n. refl) (λ n c u. refl) (λ n p. refl) (frameRead limit rooms s) number place e
-
--- and of agents'
-module _ (limit pairs room : ℕ) (s : List ℕ) where
-  pub sent-taken : (m : Head) (k : Counts) (used : ℕ) → answered (done (m, k) used) ≡ agentTells (agentRead limit pairs room s)
-      → Accepts s (agentsTake limit pairs room s) used
-  sent-taken m k used e =
-      let o = said-done-by (agentRead limit pairs room s) m k used e in
-      let h = agent-cut limit pairs room s m (o .0) used (o .1) in
-      record { is = ap taken (o .1); some = omega (arith, h .four); most = h .there }
-
-  pub sent-wait : (n : ℕ) → wait n ≡ agentTells (agentRead limit pairs room s) → agentsTake limit pairs room s ≡ refused 1 n
-  sent-wait n e = told-wait sentCounts agentTells (λ n. refl) (λ n c u. refl) (λ n p. refl) (agentRead limit pairs room s) n e
-
-  pub sent-refused : (number place : ℕ) → answered (refused number place) ≡ agentTells (agentRead limit pairs room s) → agentsTake limit pairs room s ≡ refused number place
-  sent-refused number place e = told-refused sentCounts agentTells (λ n. refl) (λ n c u. refl) (λ n p. refl) (agentRead limit pairs room s) number place e
+pub said-taken : (agents : Bool) (messages pairs actions s : List ℕ) (h : Head) (k : Counts) (used : ℕ) → answered (done (h, k) used) ≡ frameTells (readIn agents messages pairs actions s)
+    → Accepts s (taken (readIn agents messages pairs actions s)) used
+said-taken true messages pairs actions s h k used e = side-taken _ _ _ s h k used e
+said-taken false messages pairs actions s h k used e = side-taken _ _ _ s h k used e
 
 -- ---- how it goes on
 

@@ -1,13 +1,17 @@
 -- What only private contracts cite.
 use mathlib.Core.Path.{_≡_}
 use mathlib.Core.Bool.{Bool, cond}
-use mathlib.Core.List.{List}
-use Prim.Native.Nat.{ℕ, _/_, _≤_}
+use mathlib.Core.List.{List, []}
+use Prim.Native.Nat.{ℕ, _≤_}
 use lib.ListN.{length}
 use Rattle.answer.specs.Answer.{Answer, done, refused}
-use Rattle.frame.specs.Records.{pairWidth, actionWidth}
-use Rattle.parser.specs.Promise.{roomsOf}
-use Rattle.spoplist.specs.Listing.{stopOf, haproxysTake, agentsTake}
+use Rattle.frame.specs.declared.Head.{Head}
+use Rattle.frame.specs.declared.Side.the-variants as side
+use Rattle.frame.specs.Read.{Reading}
+use Rattle.payload.specs.Payload.{Contents}
+use Rattle.payload.specs.Promise.{roomsOf}
+use Rattle.parser.specs.Frame.{frameRead}
+use Rattle.spoplist.specs.Listing.{taken, stopOf}
 use Rattle.spoplist.specs.declared.Listed.{Listed}
 use Rattle.spoplist.specs.declared.Listed.the-variants as l
 use Rattle.spoplist.specs.declared.Ended.{Ended}
@@ -17,16 +21,14 @@ use Rattle.spoplist.specs.declared.Ended.the-variants as e
 abbrev pub limit : ℕ
 limit = 65532
 
--- HAProxy's frames with the room of two tables, and agents' with that of two
-abbrev pub framesIn : List ℕ → List ℕ → List ℕ → Answer Unit
-framesIn messages pairs s = haproxysTake limit (roomsOf messages pairs) s
+-- A frame that agents send with the room of two tables, or one that HAProxy sends.
+abbrev pub readIn : Bool → List ℕ → List ℕ → List ℕ → List ℕ → Reading (Head × Contents)
+readIn agents messages pairs actions s =
+    cond agents (frameRead side.Agents limit (roomsOf [] pairs actions) s) (frameRead side.HAProxy limit (roomsOf messages pairs []) s)
 
-abbrev pub sentIn : List ℕ → List ℕ → List ℕ → Answer Unit
-sentIn pairs actions s = agentsTake limit (length pairs / pairWidth) (length actions / actionWidth) s
-
--- those of either side
+-- and what it takes
 abbrev pub sideIn : Bool → List ℕ → List ℕ → List ℕ → List ℕ → Answer Unit
-sideIn agents messages pairs actions s = cond agents (sentIn pairs actions s) (framesIn messages pairs s)
+sideIn agents messages pairs actions s = taken (readIn agents messages pairs actions s)
 
 -- a frame that was accepted takes so many bytes of those that are left
 pub record Accepts (input : List ℕ) (a : Answer Unit) (used : ℕ) : Type 0 where

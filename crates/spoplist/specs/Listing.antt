@@ -6,10 +6,7 @@ use Prim.Native.Nat.{ℕ, zero, suc, _+_}
 use lib.Dec.{ltb}
 use lib.ListN.{length, drop}
 use Rattle.answer.specs.Answer.{Answer, done, refused, next}
-use Rattle.parser.specs.declared.Rooms.{Rooms}
 use Rattle.frame.specs.Read.{Reading, answerOf}
-use Rattle.parser.specs.Frame.{frameRead}
-use Rattle.agent.specs.Frame.{agentRead}
 
 -- The last line's numbers: the bytes used by accepted frames, the answer that stopped it, and the missing count or the place within that frame.
 pub record Stop : Type 0 where
@@ -39,10 +36,3 @@ stopFrom read (suc k) used s =
 -- Each frame takes a byte at least, so there are no more than bytes.
 abbrev pub stopOf : (List ℕ → Answer Unit) → List ℕ → Stop
 stopOf read s = stopFrom read (length s) 0 s
-
--- HAProxy's frames, and agents'
-abbrev pub haproxysTake : ℕ → Rooms → List ℕ → Answer Unit
-haproxysTake limit rooms s = taken (frameRead limit rooms s)
-
-abbrev pub agentsTake : ℕ → ℕ → ℕ → List ℕ → Answer Unit
-agentsTake limit pairs actions s = taken (agentRead limit pairs actions s)

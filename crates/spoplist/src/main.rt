@@ -2,7 +2,6 @@
 // how far it came and why it stopped there. With the word `agent` the frames are those that an agent sends, with a line for each action.
 //
 // What a line has, and which comes next, is the library's to say and proved there. Here frames are read, and their lines written out.
-use agent::AgentRead;
 use answer::Refusal;
 use answer::WAIT;
 use answer::Written;
@@ -15,10 +14,12 @@ use libc::STDOUT_FILENO;
 use listing::Place;
 use listing::Step;
 use parser::FrameRead;
+ghost use mathlib.Core.Path.{_≡_};
 ghost use Prim.Native.Nat.{_≤_};
 ghost use lib.ListN.{length};
 ghost use Rattle.answer.specs.Writes.{counted};
-ghost use Rattle.spoplist.specs.Inner.{framesIn, sentIn, sideIn, Takes, Ends};
+ghost use Rattle.parser.specs.Promise.{frameSaid, frameTells};
+ghost use Rattle.spoplist.specs.Inner.{readIn, sideIn, Takes, Ends};
 
 // The longest frame that is read, its length bytes aside.
 const LIMIT: u32 = 65_532;
@@ -129,7 +130,8 @@ fn list_all(
     }
 }
 
-// Reads the frame at the front of the bytes that are left, and lists it, as one that either side sends.
+// Reads the frame at the front of the bytes that are left, as one that either side sends, and lists it. One of HAProxy's has no actions, and one of an
+// agent's no messages.
 fn list_one(
     agents: bool,
     index: u64,
@@ -141,36 +143,19 @@ fn list_one(
 ) -> Listed
     ensures { λ r. ⌜ Takes (now (rest .entry)) (sideIn agents (now (messages .entry)) (now (pairs .entry)) (now (actions .entry)) (now (rest .entry))) r ⌝ }
 {
-    if agents {
-        return list_sent(index, rest, pairs, actions, out);
-    }
-    list_next(index, rest, messages, pairs, out)
-}
-
-// The same of a frame that HAProxy sends.
-fn list_next(
-    index: u64,
-    rest: &[u8],
-    messages: &mut [u64],
-    pairs: &mut [u64],
-    out: &mut [u8],
-) -> Listed
-    ensures { λ r. ⌜ Takes (now (rest .entry)) (framesIn (now (messages .entry)) (now (pairs .entry)) (now (rest .entry))) r ⌝ }
-{
-    match parser::read_frame(rest, LIMIT, messages, pairs) {
-        FrameRead::Done {
-            head,
-            messages: count,
-            pairs: total,
-            used,
-        } => {
+    match read_one(agents, rest, messages, pairs, actions) {
+        FrameRead::Done { head, counts, used } => {
             if !print(
                 listing::write_frame_line(index, head, used as u64, out),
                 out,
             ) {
                 return Listed::Closed;
             }
-            if !list_records(&rest[0..used], messages, count, pairs, total, out) {
+            let frame = &rest[0..used];
+            if !list_records(frame, messages, counts.messages, pairs, counts.pairs, out) {
+                return Listed::Closed;
+            }
+            if !list_actions(frame, actions, counts.actions, out) {
                 return Listed::Closed;
             }
             Listed::Frame(used)
@@ -183,47 +168,24 @@ fn list_next(
     }
 }
 
-// The same of a frame that an agent sends.
-fn list_sent(
-    index: u64,
+// Reads it, with the two tables that the frames of its side have records for.
+fn read_one(
+    agents: bool,
     rest: &[u8],
+    messages: &mut [u64],
     pairs: &mut [u64],
     actions: &mut [u64],
-    out: &mut [u8],
-) -> Listed
-    ensures { λ r. ⌜ Takes (now (rest .entry)) (sentIn (now (pairs .entry)) (now (actions .entry)) (now (rest .entry))) r ⌝ }
+) -> FrameRead
+    ensures { λ r. ⌜ frameSaid r ≡ frameTells (readIn agents (now (messages .entry)) (now (pairs .entry)) (now (actions .entry)) (now (rest .entry))) ⌝ }
 {
-    match agent::read_agent_frame(rest, LIMIT, pairs, actions) {
-        AgentRead::Done {
-            head,
-            pairs: total,
-            actions: count,
-            used,
-        } => {
-            if !print(
-                listing::write_frame_line(index, head, used as u64, out),
-                out,
-            ) {
-                return Listed::Closed;
-            }
-            if !list_records(&rest[0..used], &[], 0, pairs, total, out) {
-                return Listed::Closed;
-            }
-            if !list_actions(&rest[0..used], actions, count, out) {
-                return Listed::Closed;
-            }
-            Listed::Frame(used)
-        },
-        AgentRead::Wait(missing) => Listed::Stop(Refusal {
-            number: WAIT,
-            place: missing,
-        }),
-        AgentRead::Refused(r) => Listed::Stop(r),
+    if agents {
+        return parser::read_agent_frame(rest, LIMIT, pairs, actions);
     }
+    parser::read_frame(rest, LIMIT, messages, pairs)
 }
 
 // Lists the actions of a frame, line by line. Of a frame that was accepted none is refused where LINE bytes are lent: the library's laws
-// `sent-action-line` and `sent-room`.
+// `action-answered` and `accepted-room`.
 fn list_actions(frame: &[u8], actions: &[u64], count: usize, out: &mut [u8]) -> bool {
     let mut k = 0;
     while k < count {

@@ -2,16 +2,17 @@
 -- was lent keeps its length, and the listing of the input stops where that of what is left does. The measure is what is left of the input.
 -- Assumes nothing.
 use borrow.Author.Needs.{needs}
-use mathlib.Core.Path.{_≡_, refl, ap, ap₂, _∙_}
-use mathlib.Core.Bool.{Bool, cond}
+use mathlib.Core.Path.{_≡_, refl, ap₂, _∙_}
+use mathlib.Core.Bool.{Bool, true, false}
 use mathlib.Core.List.{List}
 use Prim.Native.Nat.{ℕ, _+_, _-_, _/_, _≤_}
 use native.Mathlib.Omega.{arith}
 use lib.ListN.{length, drop, length-drop}
-use Rattle.answer.specs.Answer.{Answer}
 use Rattle.answer.proofs.Output.{lent-tail}
 use Rattle.frame.specs.Records.{messageWidth, pairWidth, actionWidth}
-use Rattle.spoplist.specs.Listing.{haproxysTake, agentsTake}
+use Rattle.frame.specs.declared.Side.the-variants as side
+use Rattle.parser.specs.Frame.{frameRead}
+use Rattle.spoplist.specs.Listing.{taken}
 use Rattle.spoplist.specs.Inner.{limit, sideIn, Accepts, Takes}
 use Rattle.spoplist.proofs.Stopping.{Stopping, stopping-none, stopping-on, stopping-stop, stopping-over}
 use Rattle.spoplist.proofs.list_all.Statement.{statement}
@@ -28,10 +29,10 @@ abbrev μ-loop : tie.MeasureT-loop
 -- rooms go by lengths
 side-same : (agents : Bool) (m n p q x y : List ℕ) → length m ≡ length n → length p ≡ length q → length x ≡ length y → (s : List ℕ)
     → sideIn agents m p x s ≡ sideIn agents n q y s
-side-same agents m n p q x y e f g s =
-    ap₂ (λ (sent frames : Answer Unit). cond agents sent frames)
-    (ap₂ (λ (a b : ℕ). agentsTake limit (a / pairWidth) (b / actionWidth) s) f g)
-    (ap₂ (λ (a b : ℕ). haproxysTake limit (record { messages = a / messageWidth; pairs = b / pairWidth }) s) e f)
+side-same true m n p q x y e f g s =
+    ap₂ (λ (a b : ℕ). taken (frameRead side.Agents limit (record { messages = 0; pairs = a / pairWidth; actions = b / actionWidth }) s)) f g
+side-same false m n p q x y e f g s =
+    ap₂ (λ (a b : ℕ). taken (frameRead side.HAProxy limit (record { messages = a / messageWidth; pairs = b / pairWidth; actions = 0 }) s)) e f
 
 -- what was answered of the bytes that are left, with the rooms that there were at first
 left : (c : tie.After-list-one Inv-loop μ-loop)
