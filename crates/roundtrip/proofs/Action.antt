@@ -18,7 +18,7 @@ use Rattle.payload.specs.Pair.{pair}
 use Rattle.payload.specs.Action.{argumentCount, actionFrom}
 use Rattle.answer.proofs.Row.{Found, row-found}
 use Rattle.payload.proofs.Standing.{Stands, stands, by-verb}
-use Rattle.roundtrip.proofs.Held.{action-whole}
+use Rattle.listing.proofs.Accepted.{action-acts}
 use Rattle.writer.specs.Action.{actionWritable, actionBytes, actionChecks}
 use Rattle.writer.proofs.Actions.{writable-set, writable-unset, action-pair, set-bytes, unset-bytes}
 use Rattle.roundtrip.proofs.Plain.{plainPair, plainAction, wellPair, wellAction}
@@ -65,7 +65,7 @@ module _ (f : List ℕ) (at : ℕ) (x : Action) (next : ℕ) (small : Bytes f) (
 
   -- Law: of an action that was read a writer refuses with 15 a text that is not UTF-8, and nothing else.
   pub action-refuses : inOrder (actionChecks f x) 0 ≡ cond (wellPair f (x .pair)) 0 15
-  action-refuses = action-pair f x action-fits ∙ pair-refuses f (x .pair) (action-whole f at x next e)
+  action-refuses = action-pair f x action-fits ∙ pair-refuses f (x .pair) (action-acts f at x next e .whole)
 
 -- ---- actions in a row
 

@@ -1,6 +1,5 @@
 -- What is read is written back, byte for byte: the conditions, and the laws from a value up to a frame. And what is written is read back.
 pub mod Plain
-pub mod Held
 pub mod Rows
 pub mod Value
 pub mod Pair

@@ -32,7 +32,7 @@ use Rattle.answer.proofs.Row.{Found, row-found}
 use Rattle.payload.proofs.Exact.{bytes-drop}
 use Rattle.payload.proofs.Back.{part-moved}
 use Rattle.answer.proofs.Each.{Each}
-use Rattle.roundtrip.proofs.Held.{Whole}
+use Rattle.listing.proofs.Accepted.{Whole}
 use Rattle.writer.specs.Pair.{pairBytes, pairChecks}
 use Rattle.writer.specs.Message.{nameBytes}
 use Rattle.writer.proofs.Pairs.{pair-bytes}
