@@ -1,14 +1,12 @@
 -- Laws about finding the payload of a frame: that of an accepted frame is where its head ends, and a frame that is not accepted comes with an empty list.
-use mathlib.Core.Path.{_≡_, refl, sym, ap, ap₂, subst, _∙_}
+use mathlib.Core.Path.{_≡_, refl, ap, _∙_}
 use mathlib.Core.Logic.{_⊎_, ⊎-elim}
-use mathlib.Core.List.{List, [], _++_}
+use mathlib.Core.List.{List}
 use Prim.Native.Nat.{ℕ, _≤_}
 use native.Mathlib.Omega.{arith}
-use lib.Dec.{leb}
-use lib.ListN.{length, take, drop}
+use lib.ListN.{length, take}
 use denote.Enum.Declared.{tagOf, declared}
-use Rattle.answer.specs.Answer.{Answer, done, refused, written, leaves}
-use Rattle.answer.specs.Table.{joined}
+use Rattle.answer.specs.Answer.{done, refused, written, leaves}
 use Rattle.answer.specs.Order.{inOrder}
 use Rattle.answer.specs.Row.{toEnd}
 use Rattle.answer.proofs.Records.{joined-none}
@@ -22,21 +20,20 @@ use Rattle.payload.specs.declared.Payload.{Payload}
 use Rattle.payload.specs.declared.Payload.the-variants as k
 use Rattle.payload.specs.Payload.{Contents, empty, payload}
 use Rattle.payload.specs.Promise.{countsOf}
-use Rattle.payload.specs.Inner.{began, Accepted}
+use Rattle.payload.specs.Inner.{began}
 use Rattle.parser.specs.declared.FrameRead.{FrameRead}
 use Rattle.parser.specs.declared.FrameRead.the-variants as r
 use Rattle.parser.specs.Frame.{payloadOf, frameRead}
 use Rattle.parser.specs.Promise.{frameSaid, frameTells, contentsRead}
 use Rattle.parser.proofs.FrameRead.{enum}
 use Rattle.parser.proofs.Entries.{said-done}
-use Rattle.parser.proofs.Frames.{Held, Cut, frame-cut, haproxy-type}
+use Rattle.parser.proofs.Frames.{Cut, frame-cut, haproxy-type}
 use Rattle.walker.specs.declared.Place.{Place}
 use Rattle.walker.specs.Walk.{kvOf}
 use Rattle.walker.proofs.Walking.{kv-start}
 use Rattle.records.specs.declared.Area.{Area}
-use Rattle.records.specs.declared.Found.{Found}
-use Rattle.records.specs.Promise.{roomsFor, FillsRecords}
-use Rattle.records.specs.Inner.{roomsIn, held, Begins, nothingOf, Finds}
+use Rattle.records.specs.Promise.{roomsFor}
+use Rattle.records.specs.Inner.{roomsIn, held, nothingOf, Finds}
 use Rattle.records.proofs.Meeting.{meets-start}
 
 module _ (s : List ℕ) (limit messages pairs : ℕ) where

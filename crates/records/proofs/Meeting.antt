@@ -1,6 +1,6 @@
 -- Laws about filling the tables step by step, of a payload that is accepted: what comes next is a message, for which there is room, or a pair, and at the end all
 -- is filled in.
-use mathlib.Core.Path.{_≡_, refl, sym, ap, subst, _∙_}
+use mathlib.Core.Path.{_≡_, refl, sym, ap, _∙_}
 use mathlib.Core.Bool.{true, false}
 use mathlib.Core.List.{List, [], _∷_, _++_, append-nil}
 use Prim.Native.Nat.{ℕ, _+_, _-_, _*_, _/_, _≤_, _<_}
@@ -9,7 +9,7 @@ use lib.ListN.{length, take, drop, length-append, length-drop, drop-of-length-le
 use lib.Seq.{length-take-le}
 use borrow.Rule.Slice.PartMut.{putMid}
 use Rattle.answer.specs.declared.Refusal.{Refusal}
-use Rattle.answer.specs.Answer.{Answer, done, refused, written, leaves}
+use Rattle.answer.specs.Answer.{done, written, leaves}
 use Rattle.answer.specs.Table.{joined}
 use Rattle.answer.proofs.Cases.{true-false, not-both}
 use Rattle.answer.proofs.Output.{lent-tail, leaves-length}
@@ -21,8 +21,7 @@ use Rattle.payload.specs.declared.Counts.{Counts}
 use Rattle.payload.specs.declared.Cursor.{Cursor}
 use Rattle.payload.specs.declared.Item.{Item}
 use Rattle.payload.specs.declared.Item.the-variants as i
-use Rattle.payload.specs.declared.Payload.{Payload}
-use Rattle.payload.specs.Payload.{Contents, empty, payload}
+use Rattle.payload.specs.Payload.{empty}
 use Rattle.payload.specs.Item.{itemAt}
 use Rattle.payload.specs.Inner.{began, afterItem, follows, tests, Stands, Goes, putAt, Accepted}
 use Rattle.payload.proofs.Accepted.{payload-start}

@@ -1,10 +1,9 @@
 -- No second result meets the promise, and it is the one that the reader of numbers gives.
-use mathlib.Core.Path.{_≡_, refl, sym, ap, ap₂, subst, _∙_}
+use mathlib.Core.Path.{_≡_, refl, sym, ap, ap₂, _∙_}
 use mathlib.Core.List.{List, [], _∷_, _++_}
-use Prim.Native.Nat.{ℕ, zero, suc, _+_, _*_, _/_, _≤_}
+use Prim.Native.Nat.{ℕ, zero, suc, _+_, _*_, _/_}
 use native.Mathlib.Omega.{arith}
 use lib.ListN.{length, drop}
-use lib.Seq.{drop-at}
 use Rattle.answer.specs.Answer.{Answer, done, refused, next, written, leaves}
 use Rattle.answer.specs.Table.{joined}
 use Rattle.answer.proofs.Records.{joined-none, joined-on, joined-both}

@@ -4,7 +4,6 @@ use borrow.Author.Needs.{needs}
 use mathlib.Core.Path.{ap}
 use Prim.Native.Nat.{ℕ, _+_}
 use native.Mathlib.Omega.{arith}
-use Rattle.payload.specs.declared.Cursor.{Cursor}
 use Rattle.records.proofs.fill.behind_pair.Statement.{statement}
 use Rattle.records.proofs.fill.behind_pair.Tie as tie
 

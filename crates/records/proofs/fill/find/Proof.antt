@@ -1,9 +1,8 @@
 -- `records::fill::find` meets its contract: a frame that is not accepted comes with nothing, and the payload of one that is starts where its head ends.
 -- Assumes nothing.
 use borrow.Author.Needs.{needs}
-use mathlib.Core.Path.{_≡_, sym, ap, subst, _∙_}
-use Prim.Native.Nat.{ℕ, _≤_}
-use lib.ListN.{length}
+use mathlib.Core.Path.{_≡_, sym, ap, _∙_}
+use Prim.Native.Nat.{ℕ}
 use lib.Seq.{length-take-le}
 use Rattle.answer.specs.Answer.{done}
 use Rattle.frame.specs.declared.Head.{Head}
@@ -12,8 +11,7 @@ use Rattle.frame.specs.Read.{answered}
 use Rattle.payload.specs.declared.Counts.{Counts}
 use Rattle.parser.specs.Frame.{frameRead}
 use Rattle.parser.specs.Promise.{frameSaid, frameTells}
-use Rattle.records.specs.declared.Found.{Found}
-use Rattle.records.specs.Inner.{roomsIn, Finds}
+use Rattle.records.specs.Inner.{roomsIn}
 use Rattle.records.proofs.Finding.{finds-nothing, used-within, finds-payload}
 use Rattle.records.proofs.fill.find.Statement.{statement}
 use Rattle.records.proofs.fill.find.Tie as tie
