@@ -35,8 +35,8 @@ use Rattle.payload.specs.Payload.{Contents, payload}
 use Rattle.payload.specs.Promise.{countsOf}
 use Rattle.payload.specs.Inner.{Run}
 use Rattle.payload.proofs.Filling.{joined-width}
-use Rattle.answer.proofs.Row.{Row, Found, row-found}
-use Rattle.payload.proofs.Accepted.{Group, KvHeld, kv-run, MessagesHeld, messages-run, ActionsHeld, actions-run, Once, messagesOf, pairsOf}
+use Rattle.payload.proofs.Rowing.{Found, row-found}
+use Rattle.payload.proofs.Accepted.{KvHeld, kv-run, MessagesHeld, messages-run, actions-run, Once, pairsOf}
 use Rattle.parser.specs.declared.FrameRead.{FrameRead}
 use Rattle.parser.specs.declared.FrameRead.the-variants as v
 use Rattle.parser.specs.Frame.{payloadOf, frameRead}
@@ -47,7 +47,7 @@ use Rattle.writer.specs.Pair.{pairBytes, kvChecks}
 use Rattle.writer.specs.Action.{actionBytes}
 use Rattle.writer.specs.Message.{messageBytes, runStart}
 use Rattle.writer.specs.Inner.{pairOrder, messageOrder, actionOrder}
-use Rattle.writer.specs.Frame.{headOf, finAlone, kvAllowed, kvAnswer, messagesBytes, notifyAnswer, actionsAnswer}
+use Rattle.writer.specs.Frame.{finAlone, kvAllowed, kvAnswer, messagesBytes, notifyAnswer, actionsAnswer}
 use Rattle.writer.proofs.Pairs.{kv-own, kv-new}
 use Rattle.writer.proofs.Messages.{message-name}
 use Rattle.writer.proofs.Answers.{kv-haproxy-hello, kv-haproxy-disconnect, kv-agent-hello, kv-agent-disconnect, kv-list, actions-list, notify-held, notify-named, notify-passed}
@@ -59,7 +59,7 @@ use Rattle.roundtrip.proofs.Pair.{Plain, run-form, run-only, pair-refus
 use Rattle.roundtrip.proofs.Action.{RefusesText, actions-form, actions-only, actions-refuse}
 use Rattle.roundtrip.proofs.Groups.{groupBytes, groups-parts, groups-all, groups-form, groups-only, groups-bytes, Runs, runs-stand, no-stray}
 use Rattle.roundtrip.proofs.Keys.{once-at}
-use Rattle.roundtrip.proofs.Head.{Accepted, frame-accepted}
+use Rattle.roundtrip.proofs.Head.{headAgain, Accepted, frame-accepted}
 use Rattle.roundtrip.proofs.Rewritten.{Rewrites, fifteen, Says, says-number, none-ill, first-ill, each-held, held-each, frame-same, frame-only, list-rewrites}
 
 -- ---- what a reader leaves
@@ -127,7 +127,7 @@ module _ {x : Side} {limit : ℕ} {f : List ℕ} {m : Head} {counts : Counts} {m
   start = l .whole .start
 
   abbrev h : Head
-  h = headOf (m .«frame_type») true false (m .stream) (m .frame)
+  h = headAgain m
 
   abbrev rows : ℕ
   rows = counts .messages
@@ -288,24 +288,24 @@ module _ {x : Side} {limit : ℕ} {f : List ℕ} {m : Head} {counts : Counts} {m
 -- ---- which frames are KV lists, and what of their head may be written
 
 module _ {limit : ℕ} {f : List ℕ} {m : Head} {counts : Counts} {messages pairs actions : List ℕ} where
-  pub haproxy-kv : Left side.HAProxy limit f m counts messages pairs actions → (m .«frame_type» ≡ 3 → ⊥) → (payloadOf (m .«frame_type») ≡ k.KvList) × (kvAllowed (headOf (m .«frame_type») true false (m .stream) (m .frame)) ≡ true)
+  pub haproxy-kv : Left side.HAProxy limit f m counts messages pairs actions → (m .«frame_type» ≡ 3 → ⊥) → (payloadOf (m .«frame_type») ≡ k.KvList) × (kvAllowed (headAgain m) ≡ true)
   haproxy-kv l kv =
       let own = three-says 1 (m .«frame_type») (l .whole .own) in (
         rw (ne-eqb (m .«frame_type») 3 kv, ne-eqb (m .«frame_type») 103 (λ e. omega (arith, e, own .1))),
-        bool-cases (eqb (m .«frame_type») 1) (λ t. kv-haproxy-hello (headOf (m .«frame_type») true false (m .stream) (m .frame)) (eqb-true (m .«frame_type») 1 t))
-            (λ t. kv-haproxy-disconnect (headOf (m .«frame_type») true false (m .stream) (m .frame)) (second (eqb-false (m .«frame_type») 1 t) own)),
+        bool-cases (eqb (m .«frame_type») 1) (λ t. kv-haproxy-hello (headAgain m) (eqb-true (m .«frame_type») 1 t))
+            (λ t. kv-haproxy-disconnect (headAgain m) (second (eqb-false (m .«frame_type») 1 t) own)),
       )
     where
       second : (m .«frame_type» ≡ 1 → ⊥) → (1 ≤ m .«frame_type») × (m .«frame_type» ≤ 3) → m .«frame_type» ≡ 2
       second a own = omega (arith, own)
 
   pub agent-kv : Left side.Agents limit f m counts messages pairs actions → (m .«frame_type» ≡ 103 → ⊥)
-      → (payloadOf (m .«frame_type») ≡ k.KvList) × (kvAllowed (headOf (m .«frame_type») true false (m .stream) (m .frame)) ≡ eqb (m .stream) 0 && eqb (m .frame) 0)
+      → (payloadOf (m .«frame_type») ≡ k.KvList) × (kvAllowed (headAgain m) ≡ eqb (m .stream) 0 && eqb (m .frame) 0)
   agent-kv l kv =
       let own = three-says 101 (m .«frame_type») (l .whole .own) in (
         rw (ne-eqb (m .«frame_type») 3 (λ e. omega (arith, e, own .0)), ne-eqb (m .«frame_type») 103 kv),
-        bool-cases (eqb (m .«frame_type») 101) (λ t. kv-agent-hello (headOf (m .«frame_type») true false (m .stream) (m .frame)) (eqb-true (m .«frame_type») 101 t))
-            (λ t. kv-agent-disconnect (headOf (m .«frame_type») true false (m .stream) (m .frame)) (second (eqb-false (m .«frame_type») 101 t) own)),
+        bool-cases (eqb (m .«frame_type») 101) (λ t. kv-agent-hello (headAgain m) (eqb-true (m .«frame_type») 101 t))
+            (λ t. kv-agent-disconnect (headAgain m) (second (eqb-false (m .«frame_type») 101 t) own)),
       )
     where
       second : (m .«frame_type» ≡ 101 → ⊥) → (101 ≤ m .«frame_type») × (m .«frame_type» ≤ 103) → m .«frame_type» ≡ 102

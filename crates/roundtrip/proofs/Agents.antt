@@ -24,6 +24,7 @@ use Rattle.writer.specs.Frame.{headOf, limited, kvAllowed, pairsBytes, kvAnswer
 use Rattle.writer.specs.Promise.{WriteKv, WriteActions}
 use Rattle.writer.proofs.Answers.{kv-list, list-metadata}
 use Rattle.roundtrip.proofs.Plain.{plainPair, wellPair, WellPairs, PlainPairs, plainAction, wellAction, WellActions, PlainActions}
+use Rattle.roundtrip.proofs.Head.{headAgain}
 use Rattle.roundtrip.proofs.Rewritten.{Rewrites, caller-refused, done-refused, wrote-back, wrote-none, wrote-other, wrote-only}
 use Rattle.roundtrip.proofs.Again.{Left, left, long, agent-kv, kv-rewrites, ack-rewrites}
 
@@ -48,7 +49,7 @@ module _ (limit : ℕ) (s : List ℕ) (small : Bytes s) (r : FrameRead) (oldPair
   many = long side.Agents limit (roomsOf [] oldPairs oldActions) s small r [] [] oldPairs newPairs oldActions newActions reads m counts used is
 
   abbrev head : Head
-  head = headOf (m .«frame_type») true false (m .stream) (m .frame)
+  head = headAgain m
 
   -- ---- of type 103
 

@@ -1,7 +1,7 @@
 -- Non-malleable: an accepted frame whose values are plain is told by its type, its ids and what its messages, pairs and actions mean. For the bytes that these
 -- are written as go by their meaning alone, and are the frame's.
 use mathlib.Core.Path.{_≡_, refl, sym, ap, ap₂, _∙_}
-use mathlib.Core.Bool.{true, false, cond}
+use mathlib.Core.Bool.{cond}
 use mathlib.Core.List.{List, [], _∷_, _++_, map, map-append}
 use Prim.Native.Nat.{ℕ}
 use lib.Dec.{eqb}
@@ -37,13 +37,12 @@ use Rattle.parser.specs.Frame.{payloadOf, frameRead}
 use Rattle.parser.proofs.Frames.{frame-cut, haproxy-actions, agent-messages}
 use Rattle.writer.specs.Pair.{pairBytes}
 use Rattle.writer.specs.Action.{actionBytes}
-use Rattle.writer.specs.Frame.{headOf}
 use Rattle.writer.proofs.Pairs.{pair-bytes}
 use Rattle.writer.proofs.Messages.{name-bytes}
 use Rattle.roundtrip.proofs.Pair.{Plain, run-form}
 use Rattle.roundtrip.proofs.Action.{PlainOf, actions-form}
 use Rattle.roundtrip.proofs.Groups.{groupBytes, groups-parts, groups-form}
-use Rattle.roundtrip.proofs.Head.{Accepted, frame-accepted}
+use Rattle.roundtrip.proofs.Head.{headAgain, frame-accepted}
 use Rattle.roundtrip.proofs.Rewritten.{frame-same}
 
 -- ---- written forms go by meanings
@@ -136,7 +135,7 @@ module _ (f : List ℕ) (small : Bytes f) (rooms : Counts) (start : ℕ) (c : Co
 -- ---- a frame goes by them
 
 abbrev frameForm : Head → List (List ℕ × ℕ × ℕ) → List (List ℕ × Meaning) → List (ℕ × ℕ × (List ℕ × Meaning)) → List ℕ
-frameForm m ms ps xs = frameBytes (headOf (m .«frame_type») true false (m .stream) (m .frame)) (payloadForm (payloadOf (m .«frame_type»)) ms ps xs)
+frameForm m ms ps xs = frameBytes (headAgain m) (payloadForm (payloadOf (m .«frame_type»)) ms ps xs)
 
 -- a frame whose values are plain is the bytes that go by its type, its ids and its meanings
 frame-meant : (x : Side) (limit : ℕ) (rooms : Counts) (s : List ℕ) (m : Head) (c : Contents) (used : ℕ) → Bytes (take used s)

@@ -13,13 +13,13 @@ use Rattle.varint.proofs.Reading.{Bytes}
 use Rattle.frame.specs.declared.Pair.{Pair}
 use Rattle.frame.specs.declared.Message.{Message}
 use Rattle.frame.specs.Records.{pairAt, messageAt}
-use Rattle.payload.proofs.Steps.{Named, message-says, string-next}
-use Rattle.answer.proofs.Row.{Row}
+use Rattle.payload.proofs.Steps.{message-says, string-next}
+use Rattle.payload.proofs.Rowing.{Row}
 use Rattle.payload.proofs.Accepted.{Group, messagesOf, pairsOf}
 use Rattle.writer.specs.Pair.{pairBytes}
 use Rattle.writer.specs.Message.{nameBytes, messageBytes, runStart}
 use Rattle.writer.proofs.Messages.{message-bytes}
-use Rattle.roundtrip.proofs.Rows.{cancel, row-each, row-form, row-only}
+use Rattle.roundtrip.proofs.Rows.{cancel, row-form, row-only}
 use Rattle.roundtrip.proofs.Pair.{Plain, run-form, run-only, name-at-form}
 
 -- two lists that are the same in two ways, with fronts of one length

@@ -1,5 +1,5 @@
 -- The one law about a frame around its payload: an accepted frame is its head, as it is written, and behind it its payload.
-use mathlib.Core.Path.{_≡_, refl, sym, ap, ap₂, _∙_}
+use mathlib.Core.Path.{_≡_, sym, ap, ap₂, _∙_}
 use mathlib.Core.Bool.{true, false}
 use mathlib.Core.List.{List, [], _∷_, _++_, append-assoc}
 use Prim.Native.Nat.{ℕ, _+_, _*_, _/_, _%_, _^_, _≤_, _<_}
@@ -49,8 +49,11 @@ four-exact (a ∷ b ∷ c ∷ d ∷ s) small h =
 
 -- ---- what stands before the payload
 
--- a head with FIN alone
-fin-only : (m : Head) → m .flags ≡ 1 → m ≡ headOf (m .«frame_type») true false (m .stream) (m .frame)
+-- the head that a frame that was read is written with again: FIN alone
+abbrev pub headAgain : Head → Head
+headAgain m = headOf (m .«frame_type») true false (m .stream) (m .frame)
+
+fin-only : (m : Head) → m .flags ≡ 1 → m ≡ headAgain m
 fin-only m e = λ i. record { «frame_type» = m .«frame_type»; flags = e i; stream = m .stream; frame = m .frame }
 
 -- behind its length bytes a frame is its head, as it is written, and then its payload
@@ -87,7 +90,7 @@ pub record Accepted (x : Side) (limit : ℕ) (rooms : Counts) (f : List ℕ) (m 
   pub start : ℕ
   pub fits : length f ≤ 4 + limit
   pub own : some (eqb (m .«frame_type»)) (sender x .own) ≡ true
-  pub form : f ≡ frameBytes (headOf (m .«frame_type») true false (m .stream) (m .frame)) (drop start f)
+  pub form : f ≡ frameBytes (headAgain m) (drop start f)
   pub read : payload (payloadOf (m .«frame_type»)) rooms start f ≡ done c (length f)
 
 module _ (x : Side) (limit : ℕ) (rooms : Counts) (s : List ℕ) (m : Head) (c : Contents) (used : ℕ) (small : Bytes (take used s))

@@ -20,6 +20,7 @@ use Rattle.parser.specs.Promise.{ReadFrame}
 use Rattle.writer.specs.Frame.{headOf, kvAnswer, notifyAnswer}
 use Rattle.writer.specs.Promise.{WriteKv, WriteNotify}
 use Rattle.roundtrip.proofs.Plain.{plainPair, wellPair, wellName, WellPairs, WellNames, PlainPairs}
+use Rattle.roundtrip.proofs.Head.{headAgain}
 use Rattle.roundtrip.proofs.Rewritten.{Rewrites, caller-refused, done-refused, first-or-all, wrote-back, wrote-none, wrote-other, wrote-only}
 use Rattle.roundtrip.proofs.Again.{Left, left, long, haproxy-kv, kv-rewrites, notify-refuses-name, notify-rewrites}
 
@@ -44,7 +45,7 @@ module _ (limit : ℕ) (s : List ℕ) (small : Bytes s) (r : FrameRead) (oldMess
   many = long side.HAProxy limit (roomsOf oldMessages oldPairs []) s small r oldMessages newMessages oldPairs newPairs [] [] reads m counts used is
 
   abbrev head : Head
-  head = headOf (m .«frame_type») true false (m .stream) (m .frame)
+  head = headAgain m
 
   -- ---- of type 1 or 2
 

@@ -1,7 +1,7 @@
 -- Laws about keys that are met once: as a reader asks it and as a writer does.
 use mathlib.Core.Path.{_≡_, refl, sym, ap, ap₂, _∙_}
 use mathlib.Core.Bool.{Bool, true, false, cond}
-use mathlib.Core.List.{List, [], _∷_, _++_, map}
+use mathlib.Core.List.{List, [], _∷_, _++_, map, map-append}
 use Prim.Native.Nat.{ℕ, zero, suc, _+_, _<_}
 use native.Mathlib.Omega.{arith}
 use lib.ListN.{length}
@@ -54,12 +54,8 @@ met-as f buffer ps qs p q before here =
     ∙ ap₂ (λ (k : List ℕ) (l : List (List ℕ)). some (λ (x : List ℕ). sameText x k) l) here before
     ∙ sym (some-map (λ (k : List ℕ). sameText k (keyOf buffer q)) (keyOf buffer) qs)
 
-map-more : {A B : Type 0} (f : A → B) (g : A → B) (xs ys : List A) (x y : A) → map f xs ≡ map g ys → f x ≡ g y → map f (xs ++ (x ∷ [])) ≡ map g (ys ++ (y ∷ []))
-map-more f g xs ys x y e h = map-both f xs (x ∷ []) ∙ ap₂ (λ (l : List _) (z : _). l ++ (z ∷ [])) e h ∙ sym (map-both g ys (y ∷ []))
-  where
-    map-both : {A B : Type 0} (f : A → B) (xs ys : List A) → map f (xs ++ ys) ≡ map f xs ++ map f ys
-    map-both f [] ys = refl
-    map-both f (x ∷ xs) ys = ap (λ (l : List _). f x ∷ l) (map-both f xs ys)
+map-more : {A B : Type 0} (f g : A → B) (xs ys : List A) (x y : A) → map f xs ≡ map g ys → f x ≡ g y → map f (xs ++ (x ∷ [])) ≡ map g (ys ++ (y ∷ []))
+map-more f g xs ys x y e h = map-append f xs (x ∷ []) ∙ ap₂ (λ (l : List _) (z : _). l ++ (z ∷ [])) e h ∙ sym (map-append g ys (y ∷ []))
 
 -- Law: pairs with the keys of a table's, of which none has the key of one before it, have keys that are met once.
 pub once-so : (f buffer : List ℕ) (at : ℕ → Pair) (n i : ℕ) (before ps : List Pair) → map (keyOf f) before ≡ map (keyOf buffer) (records at 0 i)

@@ -6,8 +6,8 @@ pub mod Pair
 pub mod Action
 pub mod Groups
 pub mod Head
-pub mod Rewritten
 pub mod Keys
+pub mod Rewritten
 pub mod Again
 pub mod Inverse
 pub mod Agents

@@ -6,8 +6,8 @@ use mathlib.Core.List.{List, [], _∷_, _++_, append-assoc}
 use Prim.Native.Nat.{ℕ, suc, _+_}
 use native.Mathlib.Omega.{arith}
 use lib.Dec.{eqb}
-use lib.ListN.{length, drop, getD}
-use lib.Seq.{drop-cons, drop-drop, drop-at}
+use lib.ListN.{length, drop}
+use lib.Seq.{drop-cons, drop-drop}
 use borrow.Author.Tests.{le-leb}
 use Rattle.answer.specs.Answer.{Answer, done, refused, behind}
 use Rattle.answer.specs.Order.{inOrder}

@@ -14,7 +14,6 @@ use Rattle.answer.specs.Table.{records}
 use Rattle.answer.specs.Inner as inner
 use Rattle.answer.proofs.Cases.{lt-or-le, bool-cases, true-false, both-true}
 use Rattle.answer.proofs.Records.{records-none, records-length, record-at}
-use Rattle.types.proofs.Roundtrip.{Meaning}
 use Rattle.frame.specs.declared.Head.{Head}
 use Rattle.frame.specs.declared.Pair.{Pair}
 use Rattle.frame.specs.declared.Message.{Message}
@@ -25,7 +24,7 @@ use Rattle.frame.specs.Records.{keyOf, pairAt, messageAt, actionAt}
 use Rattle.frame.specs.Read.{answered, sender}
 use Rattle.frame.proofs.Meaning.{pairMeaning, messageMeaning, actionMeaning}
 use Rattle.frame.proofs.Heads.{three-so}
-use Rattle.frame.proofs.Back.{Sendable, FrameBack, sendable}
+use Rattle.frame.proofs.Back.{Sendable, sendable}
 use Rattle.payload.specs.declared.Counts.{Counts}
 use Rattle.payload.specs.declared.Payload.{Payload}
 use Rattle.payload.specs.declared.Payload.the-variants as k
@@ -46,7 +45,7 @@ use Rattle.writer.proofs.Messages.{runs-start, runs-inside, argumentsOf, gather
 use Rattle.writer.proofs.Answers.{kv-other, kv-agent-hello, kv-agent-disconnect}
 use Rattle.writer.proofs.Laws.{Wrote, kv-accepted, kv-wrote, actions-accepted, actions-wrote, notify-accepted, notify-passed-records, notify-wrote}
 use Rattle.roundtrip.proofs.Keys.{once-so}
-use Rattle.roundtrip.proofs.Standing.{both-same, as-many, pairIs, pairWas, groupIs, groupWas, Many, pairs-back, actions-back, messages-back}
+use Rattle.roundtrip.proofs.Standing.{both-same, as-many, pairs-back, actions-back, messages-back}
 
 -- These bytes are accepted as a frame of n bytes with this head that a side sends, and its messages, pairs and actions mean what those of a buffer mean, in the same order.
 pub record ReadBack (x : Side) (h : Head) (n : ℕ) (buffer : List ℕ) (messages : List Message) (pairs : List Pair) (actions : List Action) (limit : ℕ) (rooms : Counts) (input : List ℕ) : Type 0 where

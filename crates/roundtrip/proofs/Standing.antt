@@ -4,7 +4,6 @@ use mathlib.Core.Path.{_≡_, refl, sym, ap, ap₂, subst, _∙_}
 use mathlib.Core.Bool.{true}
 use mathlib.Core.List.{List, [], _∷_, _++_, map, append-assoc, map-map}
 use Prim.Native.Nat.{ℕ, zero, suc, _+_, _^_, _≤_, _<_}
-use native.Mathlib.Numerals.{add-one}
 use native.Mathlib.Omega.{arith}
 use lib.Dec.{eqb}
 use lib.ListN.{length, drop, getD, length-append, length-map}
@@ -27,17 +26,17 @@ use Rattle.frame.specs.Records.{keyOf, pairAt, messageAt, actionAt}
 use Rattle.frame.proofs.Meaning.{pairMeaning, messageMeaning, actionMeaning}
 use Rattle.payload.specs.Pair.{movedPair, pair, pairFrom}
 use Rattle.payload.specs.Action.{action, movedAction, actionFrom}
-use Rattle.payload.specs.Payload.{movedSpan, stringFrom, messageOf, messageFrom}
+use Rattle.payload.specs.Payload.{movedSpan, stringFrom, messageOf}
 use Rattle.payload.proofs.Steps.{count-there}
 use Rattle.answer.proofs.Row.{Row, Found, found-row}
 use Rattle.payload.proofs.Accepted.{Group}
-use Rattle.payload.proofs.Back.{part-moved, pair-moved, PairBack, pair-back, ActionBack, set-back, unset-back}
+use Rattle.payload.proofs.Back.{part-moved, pair-moved, pair-back, ActionBack, set-back, unset-back}
 use Rattle.writer.specs.Pair.{pairBytes}
 use Rattle.writer.specs.Action.{noValue, actionBytes, actionChecks}
 use Rattle.writer.specs.Message.{nameBytes, messageBytes, runStart}
 use Rattle.writer.specs.Inner.{Formed, actionOrder}
 use Rattle.writer.proofs.Pairs.{pair-bytes}
-use Rattle.writer.proofs.Messages.{name-bytes, message-bytes, argumentsOf}
+use Rattle.writer.proofs.Messages.{argumentsOf}
 use Rattle.writer.proofs.Actions.{writable-unset, writable-other, set-bytes, unset-bytes, passed-scope, passed-form}
 
 -- ---- records in a row
