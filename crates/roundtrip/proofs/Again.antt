@@ -35,7 +35,7 @@ use Rattle.payload.specs.Payload.{Contents, payload}
 use Rattle.payload.specs.Promise.{countsOf}
 use Rattle.payload.specs.Inner.{Run}
 use Rattle.payload.proofs.Filling.{joined-width}
-use Rattle.payload.proofs.Rowing.{Found, row-found}
+use Rattle.answer.proofs.Row.{Found, row-found}
 use Rattle.payload.proofs.Accepted.{KvHeld, kv-run, MessagesHeld, messages-run, actions-run, Once, pairsOf}
 use Rattle.parser.specs.declared.FrameRead.{FrameRead}
 use Rattle.parser.specs.declared.FrameRead.the-variants as v

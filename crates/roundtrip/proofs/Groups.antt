@@ -14,7 +14,7 @@ use Rattle.frame.specs.declared.Pair.{Pair}
 use Rattle.frame.specs.declared.Message.{Message}
 use Rattle.frame.specs.Records.{pairAt, messageAt}
 use Rattle.payload.proofs.Steps.{message-says, string-next}
-use Rattle.payload.proofs.Rowing.{Row}
+use Rattle.answer.proofs.Row.{Row}
 use Rattle.payload.proofs.Accepted.{Group, messagesOf, pairsOf}
 use Rattle.writer.specs.Pair.{pairBytes}
 use Rattle.writer.specs.Message.{nameBytes, messageBytes, runStart}
