@@ -96,7 +96,8 @@ module _ (rooms : Counts) (s : List ℕ) where
   oneOf k.Messages c at = oneMessage c at
   oneOf k.Actions c at = oneAction c at
 
--- The payload that starts at a place, to the end of the bytes. Each of its list takes a byte at least, so there are no more than bytes.
+-- The payload that starts at a place, to the end of the bytes. A head never ends behind them; from a place that lies there they end too soon. Each of its
+-- list takes a byte at least, so there are no more than bytes.
 unfoldable pub payload : Payload → Counts → ℕ → List ℕ → Answer Contents
 payload kind rooms start s =
     inOrder ((refused 3 (length s), leb start (length s)) ∷ [])
