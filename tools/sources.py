@@ -154,7 +154,7 @@ def closing(text, at):
 
 
 def functions_of(module):
-    """Each function's name, whether it is public, its parameters, and its `requires` and `ensures`."""
+    """Each function's name, whether it is public, its parameters, and its `requires` and `ensures`, word by word."""
     for head in FUNCTION.finditer(module.code):
         at = module.code.index("(", head.end())
         end = closing(module.code, at)

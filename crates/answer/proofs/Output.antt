@@ -12,7 +12,7 @@ use borrow.Rule.Slice.PartMut.{putMid}
 use borrow.Author.Tests.{le-leb, lt-leb}
 use Rattle.answer.specs.declared.Written.{Written}
 use Rattle.answer.specs.declared.Written.the-variants as w
-use Rattle.answer.specs.Answer.{Answer, done, refused, written, within, leaves}
+use Rattle.answer.specs.Answer.{Answer, done, refused, written, within, leaves, tells}
 use Rattle.answer.specs.Writes.{said, Writes}
 use Rattle.answer.proofs.Cases.{lt-or-le, bool-cases}
 
@@ -110,29 +110,32 @@ module _ (front rest old out tail : List ℕ) (n : ℕ) (count : length front �
       ∙ ap₂ _++_ front-is tail-is
       ∙ leaves-both front rest old
 
--- ---- what a writer promises: the two ways to keep it
+-- ---- what a writer promises: by the answer within the lent bytes, and the two ways to keep it
+
+pub writes-as : {a b : Answer (List ℕ)} {r : Written} {old new : List ℕ} → within (length old) a ≡ b → said r ≡ tells b → new ≡ leaves b old → Writes a r old new
+writes-as {old = old} e says holds = record { says = says ∙ ap tells (sym e); holds = holds ∙ ap (λ (x : Answer (List ℕ)). leaves x old) (sym e) }
 
 pub writes-none : (bytes old : List ℕ) → length old < length bytes
-    → Writes (within (length old) (written bytes)) (w.Refused (record { number = 11; place = 0 })) old old
-writes-none bytes old h = simp (lt-leb (length bytes) (length old) h) (record { says = refl; holds = refl })
+    → Writes (written bytes) (w.Refused (record { number = 11; place = 0 })) old old
+writes-none bytes old h = writes-as {b = refused 11 0} (simp (lt-leb (length bytes) (length old) h)) refl refl
 
 pub writes-all : (bytes old new : List ℕ) (n : ℕ) → length bytes ≤ length old → n ≡ length bytes → new ≡ leaves (written bytes) old
-    → Writes (within (length old) (written bytes)) (w.Done n) old new
-writes-all bytes old new n h count e = simp (le-leb (length bytes) (length old) h) (record { says = ap (done tt) count; holds = e })
+    → Writes (written bytes) (w.Done n) old new
+writes-all bytes old new n h count e = writes-as {b = written bytes} (simp (le-leb (length bytes) (length old) h)) (ap (done tt) count) e
 
 -- the same of an answer that has other refusals before these
-pub writes-refusal : {a : Answer (List ℕ)} (room n place : ℕ) (old : List ℕ) → a ≡ refused n place
-    → Writes (within room a) (w.Refused (record { number = n; place = place })) old old
-writes-refusal room n place old e = rw e (record { says = refl; holds = refl })
+pub writes-refusal : {a : Answer (List ℕ)} (n place : ℕ) (old : List ℕ) → a ≡ refused n place
+    → Writes a (w.Refused (record { number = n; place = place })) old old
+writes-refusal n place old e = rw e (record { says = refl; holds = refl })
 
 module _ {a : Answer (List ℕ)} (bytes old : List ℕ) (is : a ≡ written bytes) where
   pub writes-whole : (new : List ℕ) (n : ℕ) → length bytes ≤ length old → n ≡ length bytes → new ≡ leaves (written bytes) old
-      → Writes (within (length old) a) (w.Done n) old new
+      → Writes a (w.Done n) old new
   writes-whole new n room m e = rw is (writes-all bytes old new n room m e)
 
 -- What a caller learns where it was told that n bytes were written: they are there, at the front.
 pub writes-done : (bytes : List ℕ) {old new : List ℕ} {r : Written} {n : ℕ}
-    → Writes (within (length old) (written bytes)) r old new → r ≡ w.Done n
+    → Writes (written bytes) r old new → r ≡ w.Done n
     → (n ≡ length bytes) × (n ≤ length new) × (take n new ≡ bytes)
 writes-done bytes {old} {new} {r} {n} p is =
     ⊎-elim
@@ -153,20 +156,20 @@ pub record Given (a : Answer (List ℕ)) (n : ℕ) (old new : List ℕ) : Type 0
   pub is : a ≡ done bytes n
   pub left : new ≡ bytes ++ drop n old
 
-pub given : (a : Answer (List ℕ)) (room : ℕ) {n : ℕ} {old new : List ℕ} → Writes (within room a) (w.Done n) old new → Given a n old new
-given (done bytes m) room {n} {old} {new} p =
-    bool-cases (leb m room)
+pub given : (a : Answer (List ℕ)) {n : ℕ} {old new : List ℕ} → Writes a (w.Done n) old new → Given a n old new
+given (done bytes m) {n} {old} {new} p =
+    bool-cases (leb m (length old))
     (λ t.
     let s : done tt n ≡ done tt m = simp t at (p .says) in
     let l : new ≡ bytes ++ drop m old = simp t at (p .holds) in
     let k : m ≡ n = cc in
     record { bytes = bytes; is = ap (done bytes) k; left = l ∙ ap (λ (i : ℕ). bytes ++ drop i old) k })
     (λ t. let s = simp t at (p .says) in let z : _≡_ {A = ℕ} 0 1 = cc s in absurd (omega arith))
-given (refused number place) room p = let s = p .says in let z : _≡_ {A = ℕ} 0 1 = cc s in absurd (omega arith)
+given (refused number place) p = let s = p .says in let z : _≡_ {A = ℕ} 0 1 = cc s in absurd (omega arith)
 
 -- What it leaves where the caller knows that there is room.
 pub writes-room : (bytes : List ℕ) {old new : List ℕ} {r : Written}
-    → Writes (within (length old) (written bytes)) r old new → length bytes ≤ length old → new ≡ leaves (written bytes) old
+    → Writes (written bytes) r old new → length bytes ≤ length old → new ≡ leaves (written bytes) old
 writes-room bytes {old} p h = simp (le-leb (length bytes) (length old) h) at (p .holds)
 
 -- ---- a writer that lends the tail of its output to another writer
@@ -174,7 +177,7 @@ writes-room bytes {old} p h = simp (le-leb (length bytes) (length old) h) at (p 
 module _ (front bytes old out tail : List ℕ) (n : ℕ) {r : Written} (count : length front ≡ n)
     (first : out ≡ leaves (written front) old)
     (fit : length front + length bytes ≤ length old)
-    (then : Writes (within (length (take (length out - n) (drop n out))) (written bytes)) r (take (length out - n) (drop n out)) tail) where
+    (then : Writes (written bytes) r (take (length out - n) (drop n out)) tail) where
   tail-room : length bytes ≤ length (take (length out - n) (drop n out))
   tail-room =
       rw (lent-tail n out)

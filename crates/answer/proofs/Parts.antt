@@ -19,7 +19,7 @@ use Rattle.answer.proofs.Output.{Partly, partly-next, partly-place, par
 -- ---- one writer
 
 -- where there is room, all is written
-module _ (bytes : List ℕ) {old new : List ℕ} {r : Written} (p : Writes (within (length old) (written bytes)) r old new) (room : length bytes ≤ length old) where
+module _ (bytes : List ℕ) {old new : List ℕ} {r : Written} (p : Writes (written bytes) r old new) (room : length bytes ≤ length old) where
   pub room-count : said r ≡ done tt (length bytes)
   room-count = simp (le-leb (length bytes) (length old) room) at (p .says)
 

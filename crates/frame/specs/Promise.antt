@@ -20,7 +20,7 @@ HeadLen h r = r ≡ length (headBytes h)
 
 -- the length bytes, of a frame of which so much follows, and the head, at the front of old, which is new afterwards
 abbrev pub WriteHead : ℕ → Head → Written → List ℕ → List ℕ → Type 0
-WriteHead behind h r old new = Writes (within (length old) (written (fourBytes behind ++ headBytes h))) r old new
+WriteHead behind h r old new = Writes (written (fourBytes behind ++ headBytes h)) r old new
 
 -- `cut` says where the frame at the front of some bytes ends.
 abbrev pub cutSaid : List ℕ → FrameCut → Reading (List ℕ)
@@ -41,4 +41,4 @@ ReadHead frame side r = headSaid r ≡ head (sender side) frame
 
 -- numbers at the front of a table
 abbrev pub Put : List ℕ → Written → List ℕ → List ℕ → Type 0
-Put numbers r old new = Writes (within (length old) (written numbers)) r old new
+Put numbers r old new = Writes (written numbers) r old new

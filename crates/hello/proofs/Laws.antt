@@ -12,7 +12,9 @@ use Rattle.answer.specs.Table.{numberAt, records, some}
 use Rattle.answer.proofs.Cases.{bool-cases}
 use Rattle.answer.proofs.Records.{records-none, records-run, some-none}
 use Rattle.hello.specs.declared.Announced.{Announced}
-use Rattle.hello.specs.Hello.{frameSize, versionWidth, versionAt, covers, announced, choice, version, none}
+use Rattle.hello.specs.declared.Version.{Version}
+use Rattle.hello.specs.declared.Chosen.the-variants as c
+use Rattle.hello.specs.Hello.{frameSize, versionWidth, versionAt, covers, announced, choice}
 
 module _ (theirs ours : ℕ) where
   pub size-theirs : theirs < 256 → frameSize theirs ours ≡ refused 13 0
@@ -81,26 +83,26 @@ module _ (v : Announced) (others : List ℕ) where
       ∙ ap₂ (λ (x : Announced) (l : List Announced). cond (covers x) true (some covers l)) first-is same
       ∙ bool-cases (covers v) (λ t. rw t) (λ t. rw t)
 
-pub choice-some : (s : List ℕ) → announced s ≡ true → choice s ≡ version 2 0 0
+pub choice-some : (s : List ℕ) → announced s ≡ true → choice s ≡ c.Version (record { major = 2; minor = 0; patch = 0 })
 unfolding choice
 choice-some s e = simp e
 
-pub choice-none : (s : List ℕ) → announced s ≡ false → choice s ≡ none
+pub choice-none : (s : List ℕ) → announced s ≡ false → choice s ≡ c.None
 unfolding choice
 choice-none s e = simp e
 
 -- what a choice says of the announced versions
 module _ (s : List ℕ) where
-  go-some : (b : Bool) → announced s ≡ b → {major minor patch : ℕ} → choice s ≡ version major minor patch → announced s ≡ true
+  go-some : (b : Bool) → announced s ≡ b → {v : Version} → choice s ≡ c.Version v → announced s ≡ true
   go-some true e p = e
   go-some false e p = let q = choice-none s e in let z : _≡_ {A = ℕ} 0 1 = cc in absurd (omega arith)
 
-  pub some-announced : {major minor patch : ℕ} → choice s ≡ version major minor patch → announced s ≡ true
+  pub some-announced : {v : Version} → choice s ≡ c.Version v → announced s ≡ true
   some-announced p = go-some (announced s) refl p
 
-  go-none : (b : Bool) → announced s ≡ b → choice s ≡ none → announced s ≡ false
+  go-none : (b : Bool) → announced s ≡ b → choice s ≡ c.None → announced s ≡ false
   go-none true e p = let q = choice-some s e in let z : _≡_ {A = ℕ} 0 1 = cc in absurd (omega arith)
   go-none false e p = e
 
-  pub none-announced : choice s ≡ none → announced s ≡ false
+  pub none-announced : choice s ≡ c.None → announced s ≡ false
   none-announced p = go-none (announced s) refl p

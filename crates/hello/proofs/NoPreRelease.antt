@@ -13,8 +13,9 @@ use Rattle.answer.proofs.Cases.{bool-cases}
 use Rattle.hello.specs.declared.Announced.{Announced}
 use Rattle.hello.specs.declared.Version.{Version}
 use Rattle.hello.specs.declared.Chosen.{Chosen}
-use Rattle.hello.specs.Hello.{versionWidth, versionAt, covers, announced, Choice, version, none, choice}
-use Rattle.hello.specs.Promise.{choiceOf, NegotiateVersion}
+use Rattle.hello.specs.declared.Chosen.the-variants as c
+use Rattle.hello.specs.Hello.{versionWidth, versionAt, covers, announced, choice}
+use Rattle.hello.specs.Promise.{NegotiateVersion}
 use Rattle.hello.proofs.Laws.{covers-other, covers-normal, announced-none, announced-on}
 
 -- the definition that was
@@ -24,8 +25,8 @@ majorTwo (major ∷ []) = false
 majorTwo (major ∷ minor ∷ []) = false
 majorTwo (major ∷ minor ∷ patch ∷ others) = eqb major 2 || majorTwo others
 
-unfoldable pub choiceByMajor : List ℕ → Choice
-choiceByMajor versions = cond (majorTwo versions) (version 2 0 0) none
+unfoldable pub choiceByMajor : List ℕ → Chosen
+choiceByMajor versions = cond (majorTwo versions) (c.Version (record { major = 2; minor = 0; patch = 0 })) c.None
 
 -- the first three numbers of each version of a table
 abbrev pub firstThree : Announced → List ℕ
@@ -62,10 +63,10 @@ module _ (versions : List ℕ) (normal : (i : ℕ) → i < length versions / ver
 
   pub no-pre-release-choice : choice versions ≡ choiceByMajor (inThrees versions)
   unfolding choice choiceByMajor
-  no-pre-release-choice = ap (λ (t : Bool). cond t (version 2 0 0) none) no-pre-release
+  no-pre-release-choice = ap (λ (t : Bool). cond t (c.Version (record { major = 2; minor = 0; patch = 0 })) c.None) no-pre-release
 
   -- what `negotiate_version` answers
-  pub no-pre-release-answer : (r : Chosen) → NegotiateVersion versions r → choiceOf r ≡ choiceByMajor (inThrees versions)
+  pub no-pre-release-answer : (r : Chosen) → NegotiateVersion versions r → r ≡ choiceByMajor (inThrees versions)
   no-pre-release-answer r p = p ∙ no-pre-release-choice
 
 -- The same from three numbers to four: with 0 behind each version of a list it is as it was.

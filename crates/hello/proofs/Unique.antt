@@ -6,10 +6,8 @@ use native.Mathlib.Omega.{arith}
 use Rattle.answer.proofs.Same.{refusal-same, one-only}
 use Rattle.hello.specs.declared.Size.{Size}
 use Rattle.hello.specs.declared.Size.the-variants as z
-use Rattle.hello.specs.declared.Version as v
 use Rattle.hello.specs.declared.Chosen.{Chosen}
-use Rattle.hello.specs.declared.Chosen.the-variants as c
-use Rattle.hello.specs.Promise.{sizeOf, choiceOf, NegotiateMaxFrameSize, NegotiateVersion}
+use Rattle.hello.specs.Promise.{sizeOf, NegotiateMaxFrameSize, NegotiateVersion}
 
 -- answers that say the same are the same
 sizeOf-same : (a b : Size) → sizeOf a ≡ sizeOf b → a ≡ b
@@ -18,17 +16,8 @@ sizeOf-same (z.Agreed m) (z.Refused q) e = let z : _≡_ {A = ℕ} 0 1 = cc in a
 sizeOf-same (z.Refused r) (z.Agreed n) e = let z : _≡_ {A = ℕ} 0 1 = cc in absurd (omega arith)
 sizeOf-same (z.Refused r) (z.Refused q) e = ap z.Refused (refusal-same r q (cc) (cc))
 
-version-same : (a b : v.Version) → a .major ≡ b .major → a .minor ≡ b .minor → a .patch ≡ b .patch → a ≡ b
-version-same a b e f g = λ i. record { major = e i; minor = f i; patch = g i }
-
-choiceOf-same : (a b : Chosen) → choiceOf a ≡ choiceOf b → a ≡ b
-choiceOf-same (c.Version x) (c.Version y) e = ap c.Version (version-same x y (cc) (cc) (cc))
-choiceOf-same (c.Version x) c.None e = let z : _≡_ {A = ℕ} 0 1 = cc in absurd (omega arith)
-choiceOf-same c.None (c.Version y) e = let z : _≡_ {A = ℕ} 0 1 = cc in absurd (omega arith)
-choiceOf-same c.None c.None e = cc
-
 pub negotiate-max-frame-size-unique : (theirs ours : ℕ) (r q : Size) → NegotiateMaxFrameSize theirs ours r → NegotiateMaxFrameSize theirs ours q → r ≡ q
 negotiate-max-frame-size-unique theirs ours r q p s = sizeOf-same r q (one-only p s)
 
 pub negotiate-version-unique : (versions : List ℕ) (r q : Chosen) → NegotiateVersion versions r → NegotiateVersion versions q → r ≡ q
-negotiate-version-unique versions r q p s = choiceOf-same r q (one-only p s)
+negotiate-version-unique versions r q p s = one-only p s

@@ -7,6 +7,8 @@ use lib.ListN.{length}
 use Rattle.answer.specs.Answer.{Answer, done, refused}
 use Rattle.answer.specs.Table.{numberAt, records, some}
 use Rattle.hello.specs.declared.Announced.{Announced}
+use Rattle.hello.specs.declared.Chosen.{Chosen}
+use Rattle.hello.specs.declared.Chosen.the-variants as c
 
 -- "The maximum size supported by peers for a frame must be greater than or equal to 256 bytes", and the agent returns "the lower
 -- value between its maximum size allowed for a frame and the HAProxy one". 13 at place 0 where a size is below (docs/RULES.md).
@@ -34,9 +36,5 @@ unfoldable pub announced : List ℕ → Bool
 announced versions = some covers (records (versionAt versions) 0 (length versions / versionWidth))
 
 -- what the agent chooses: the version that it supports, or none
-pub data Choice : Type 0 where
-  version : ℕ → ℕ → ℕ → Choice
-  none : Choice
-
-unfoldable pub choice : List ℕ → Choice
-choice versions = cond (announced versions) (version 2 0 0) none
+unfoldable pub choice : List ℕ → Chosen
+choice versions = cond (announced versions) (c.Version (record { major = 2; minor = 0; patch = 0 })) c.None

@@ -5,18 +5,13 @@ use Prim.Native.Nat.{ℕ}
 use Rattle.hello.specs.declared.Size.{Size}
 use Rattle.hello.specs.declared.Size.the-variants as z
 use Rattle.hello.specs.declared.Chosen.{Chosen}
-use Rattle.hello.specs.declared.Chosen.the-variants as c
 use Rattle.answer.specs.Answer.{Answer, done, refused}
-use Rattle.hello.specs.Hello.{frameSize, Choice, version, none, choice}
+use Rattle.hello.specs.Hello.{frameSize, choice}
 
--- what the answers say
+-- what the answer says
 abbrev pub sizeOf : Size → Answer Unit
 sizeOf (z.Agreed n) = done tt n
 sizeOf (z.Refused r) = refused (r .number) (r .place)
-
-abbrev pub choiceOf : Chosen → Choice
-choiceOf (c.Version v) = version (v .major) (v .minor) (v .patch)
-choiceOf c.None = none
 
 -- `negotiate_max_frame_size` settles on the frame size.
 abbrev pub NegotiateMaxFrameSize : ℕ → ℕ → Size → Type 0
@@ -24,4 +19,4 @@ NegotiateMaxFrameSize theirs ours r = sizeOf r ≡ frameSize theirs ours
 
 -- `negotiate_version` makes the agent's choice of the announced versions.
 abbrev pub NegotiateVersion : List ℕ → Chosen → Type 0
-NegotiateVersion versions r = choiceOf r ≡ choice versions
+NegotiateVersion versions r = r ≡ choice versions

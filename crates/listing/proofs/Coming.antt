@@ -33,7 +33,7 @@ step-same (w.Refused r) (refused number place) p e = ap s.Refused (refusal-same 
 
 -- what a writer wrote is the next line
 pub comes-line : {a : Answer (List ℕ)} {answer : Written} {r : Step} {old new : List ℕ} (p : Place)
-    → Writes (within (length old) a) answer old new → r ≡ stepFrom answer p → Comes (line a p) r old new
+    → Writes a answer old new → r ≡ stepFrom answer p → Comes (line a p) r old new
 comes-line {a} {answer} {r} {old} p q e = record { says = e ∙ step-same answer (within (length old) a) p (q .says); holds = q .holds }
 
 pub comes-refused : {a : Answer (List ℕ)} (n : ℕ) (p : Place) (old : List ℕ) → a ≡ refused n 0

@@ -41,22 +41,22 @@ pub record Comes (c : Coming) (r : Step) (old new : List ℕ) : Type 0 where
 -- ---- the promises: a line at the front of old, which is new afterwards
 
 abbrev pub WriteFrameLine : ℕ → Head → ℕ → Written → List ℕ → List ℕ → Type 0
-WriteFrameLine index m bytes r old new = Writes (within (length old) (written (frameLine index m bytes))) r old new
+WriteFrameLine index m bytes r old new = Writes (written (frameLine index m bytes)) r old new
 
 abbrev pub WriteMessageLine : ℕ → List ℕ → Message → Written → List ℕ → List ℕ → Type 0
 WriteMessageLine index f m r old new =
-    Writes (within (length old) (inOrder (linesAt 0 (messageLineChecks f m)) (written (messageLine index f m)))) r old new
+    Writes (inOrder (linesAt 0 (messageLineChecks f m)) (written (messageLine index f m))) r old new
 
 abbrev pub WritePairLine : ℕ → List ℕ → Pair → Written → List ℕ → List ℕ → Type 0
 WritePairLine index f p r old new =
-    Writes (within (length old) (inOrder (linesAt 0 (pairLineChecks f p)) (written (pairLine index f p)))) r old new
+    Writes (inOrder (linesAt 0 (pairLineChecks f p)) (written (pairLine index f p))) r old new
 
 abbrev pub WriteActionLine : ℕ → List ℕ → Action → Written → List ℕ → List ℕ → Type 0
 WriteActionLine index f x r old new =
-    Writes (within (length old) (inOrder (linesAt 0 (actionLineChecks f x)) (written (actionLine index f x)))) r old new
+    Writes (inOrder (linesAt 0 (actionLineChecks f x)) (written (actionLine index f x))) r old new
 
 abbrev pub WriteEndLine : ℕ → ℕ → ℕ → Written → List ℕ → List ℕ → Type 0
-WriteEndLine used number at r old new = Writes (within (length old) (written (endLine used number at))) r old new
+WriteEndLine used number at r old new = Writes (written (endLine used number at)) r old new
 
 -- what comes at a place
 abbrev pub WriteNextLine : List ℕ → List ℕ → ℕ → List ℕ → ℕ → Place → Step → List ℕ → List ℕ → Type 0
@@ -64,4 +64,4 @@ WriteNextLine f messages count pairs total p r old new = Comes (coming f message
 
 -- action k of a table
 abbrev pub WriteActionAt : List ℕ → List ℕ → ℕ → Written → List ℕ → List ℕ → Type 0
-WriteActionAt f actions k r old new = Writes (within (length old) (actionAnswer f actions k)) r old new
+WriteActionAt f actions k r old new = Writes (actionAnswer f actions k) r old new

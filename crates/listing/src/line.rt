@@ -113,7 +113,7 @@ fn write_named(
 ) -> Written
     requires { ⌜ length (now front) ≤ 64 ⌝ }
     requires { ⌜ length (now back) ≤ 64 ⌝ }
-    ensures { λ r. ⌜ Writes (within (length (now (out .entry))) (written (namedText (now (front .entry)) (now (numbers .entry)) (now (name .entry)) (now (back .entry)) (now (others .entry))))) r (now (out .entry)) (now (out .exit)) ⌝ }
+    ensures { λ r. ⌜ Writes (written (namedText (now (front .entry)) (now (numbers .entry)) (now (name .entry)) (now (back .entry)) (now (others .entry)))) r (now (out .entry)) (now (out .exit)) ⌝ }
 {
     if !named_fits(front, numbers, name, back, others, out.len()) {
         return refused(NO_ROOM);
@@ -269,7 +269,7 @@ fn write_valued(
 ) -> Written
     requires { ⌜ length (now front) ≤ 64 ⌝ }
     requires { ⌜ Listed (now frame) value ⌝ }
-    ensures { λ r. ⌜ Writes (within (length (now (out .entry))) (written (valuedText (now (front .entry)) (now (numbers .entry)) (now (key .entry)) (now (frame .entry)) value))) r (now (out .entry)) (now (out .exit)) ⌝ }
+    ensures { λ r. ⌜ Writes (written (valuedText (now (front .entry)) (now (numbers .entry)) (now (key .entry)) (now (frame .entry)) value)) r (now (out .entry)) (now (out .exit)) ⌝ }
 {
     if !valued_fits(front, numbers, key, value, frame, out.len()) {
         return refused(NO_ROOM);

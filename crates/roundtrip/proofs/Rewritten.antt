@@ -125,7 +125,7 @@ module _ {A : Type 0} (limit : ℕ) (f : List ℕ) (h : Head) (start : ℕ) (for
 -- ---- what its caller learns
 
 -- A call that is to write f, with room for it; one that is refused; and one that is to write another frame.
-module _ {a : Answer (List ℕ)} {out : Written} {old new : List ℕ} (p : Writes (within (length old) a) out old new) where
+module _ {a : Answer (List ℕ)} {out : Written} {old new : List ℕ} (p : Writes a out old new) where
   caller-written : (f : List ℕ) (n : ℕ) → length f ≡ n → a ≡ written f → n ≤ length old → (out ≡ w.Done n) × (new ≡ f ++ drop n old)
   caller-written f n long is room =
       let fits = le-leb (length f) (length old) (omega arith) in
@@ -163,7 +163,7 @@ first-or-all test (suc n) =
     (first-or-all test n)
 
 module _ {limit : ℕ} {f : List ℕ} {h : Head} {a : Answer (List ℕ)} {n : ℕ} {well plain : ℕ → Bool} {out : Written} {old new : List ℕ}
-    (r : Rewrites limit f h a n well plain) (p : Writes (within (length old) a) out old new) where
+    (r : Rewrites limit f h a n well plain) (p : Writes a out old new) where
   -- Law: with room for the frame, where all are well and plain, exactly the frame's bytes are written.
   pub wrote-back : (used : ℕ) → length f ≡ used → All well n → All plain n → used ≤ length old → (out ≡ w.Done used) × (new ≡ f ++ drop used old)
   wrote-back used long ws ps room = caller-written p f used long (r .taken ws ∙ limited-whole limit h (r .payload) f (r .same ps) (r .fits)) room

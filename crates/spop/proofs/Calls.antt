@@ -8,7 +8,7 @@ use native.Mathlib.Omega.{arith}
 use lib.Dec.{eqb, leb}
 use lib.ListN.{length}
 use Rattle.answer.specs.declared.Written.the-variants as w
-use Rattle.answer.specs.Answer.{Answer, done, refused, written, within, leaves}
+use Rattle.answer.specs.Answer.{Answer, done, refused, tells, written, within}
 use Rattle.answer.specs.Order.{Check, inOrder, linesAt, eachInOrder}
 use Rattle.answer.specs.Table.{holds}
 use Rattle.answer.specs.Writes.{Writes}
@@ -21,7 +21,7 @@ use Rattle.writer.specs.Pair.{kvChecks}
 use Rattle.writer.specs.Inner.{pairOrder, actionOrder, messageOrder}
 use Rattle.writer.specs.Frame.{headOf, limited, finAlone, kvAllowed, pairsBytes, kvAnswer, actionsBytes, actionsAnswer, messagesBytes, notifyAnswer}
 use Rattle.writer.specs.Promise.{WriteKv, WriteActions, WriteNotify}
-use Rattle.spop.specs.Told.{Told}
+use Rattle.spop.specs.Told.{Told, Left}
 use Rattle.spop.specs.Promise.{SpopWriteKv, SpopWriteActions, SpopWriteNotify}
 
 -- ---- no refusal has the number 0
@@ -72,29 +72,28 @@ module _ (h : Head) (limit : ℕ) (buffer : List ℕ) where
 
 -- ---- so 0 is done
 
-zero-writes : (a : Answer (List ℕ)) (room : ℕ) {at : ℕ} {old new : List ℕ} → NotZero a → Told (within room a) 0 at × (new ≡ leaves (within room a) old)
-    → Writes (within room a) (w.Done at) old new
-zero-writes a room h t = by-answer (within room a) (within-numbered room a h) t
+zero-writes : (a : Answer (List ℕ)) {at : ℕ} {old new : List ℕ} → NotZero a → Left a 0 at old new → Writes a (w.Done at) old new
+zero-writes a {at} {old} h t = record { says = by-answer (within (length old) a) (within-numbered (length old) a h) (t .0); holds = t .1 }
   where
-    by-answer : (b : Answer (List ℕ)) {at : ℕ} {old new : List ℕ} → NotZero b → Told b 0 at × (new ≡ leaves b old) → Writes b (w.Done at) old new
-    by-answer (done bytes n) h t = record { says = ap (done tt) (t .0 .where-at); holds = t .1 }
-    by-answer (refused number place) h t = absurd (h (sym (t .0 .says)))
+    by-answer : (b : Answer (List ℕ)) → NotZero b → Told b 0 at → done tt at ≡ tells b
+    by-answer (done bytes n) h t = ap (done tt) (t .where-at)
+    by-answer (refused number place) h t = absurd (h (sym (t .says)))
 
 module _ (fin abort : Bool) (stream frame limit : ℕ) (buffer : List ℕ) (at : ℕ) (old new : List ℕ) where
   pub actions-call : (actions : List ℕ) (count : ℕ) → SpopWriteActions fin abort stream frame limit buffer actions count 0 at old new
       → WriteActions fin abort stream frame limit buffer actions count (w.Done at) old new
   actions-call actions count p =
       let h = headOf 103 fin abort stream frame in
-      zero-writes (actionsAnswer h limit buffer actions count) (length old) (actions-numbered h limit buffer actions count) p
+      zero-writes (actionsAnswer h limit buffer actions count) (actions-numbered h limit buffer actions count) p
 
   pub kv-call : (type : ℕ) (pairs : List ℕ) (count : ℕ) → SpopWriteKv fin abort stream frame limit buffer type pairs count 0 at old new
       → WriteKv fin abort stream frame limit buffer type pairs count (w.Done at) old new
   kv-call type pairs count p =
       let h = headOf type fin abort stream frame in
-      zero-writes (kvAnswer h limit buffer pairs count) (length old) (kv-numbered h limit buffer pairs count) p
+      zero-writes (kvAnswer h limit buffer pairs count) (kv-numbered h limit buffer pairs count) p
 
   pub notify-call : (messages : List ℕ) (count : ℕ) (pairs : List ℕ) (total : ℕ) → SpopWriteNotify fin abort stream frame limit buffer messages count pairs total 0 at old new
       → WriteNotify fin abort stream frame limit buffer messages count pairs total (w.Done at) old new
   notify-call messages count pairs total p =
       let h = headOf 3 fin abort stream frame in
-      zero-writes (notifyAnswer h limit buffer messages count pairs total) (length old) (notify-numbered h limit buffer messages count pairs total) p
+      zero-writes (notifyAnswer h limit buffer messages count pairs total) (notify-numbered h limit buffer messages count pairs total) p

@@ -5,7 +5,8 @@ use mathlib.Core.List.{List, [], _∷_}
 use Prim.Native.Nat.{ℕ}
 use lib.ListN.{length}
 use Rattle.answer.specs.Answer.{Answer, done, refused, within, leaves}
-use Rattle.hello.specs.Hello.{Choice, version, none}
+use Rattle.hello.specs.declared.Chosen.{Chosen}
+use Rattle.hello.specs.declared.Chosen.the-variants as c
 
 module _ {A : Type 0} where
   abbrev pub numberOf : Answer A → ℕ
@@ -26,9 +27,9 @@ module _ {A : Type 0} where
     pub where-at : at ≡ atOf a
 
 -- the three numbers of a version, in the place of what was there before
-abbrev pub chosenOf : Choice → List ℕ → List ℕ
-chosenOf (version major minor patch) before = major ∷ minor ∷ patch ∷ []
-chosenOf none before = before
+abbrev pub chosenOf : Chosen → List ℕ → List ℕ
+chosenOf (c.Version v) before = v .major ∷ v .minor ∷ v .patch ∷ []
+chosenOf c.None before = before
 
 -- A writer that is to give the answer a, where the lent bytes are old before and new afterwards.
 abbrev pub Left : Answer (List ℕ) → ℕ → ℕ → List ℕ → List ℕ → Type 0

@@ -31,7 +31,7 @@ module _ {a : Answer (List ℕ)} (bytes old : List ℕ) (is : a ≡ written byte
 
 -- what another writer wrote, where there is room
 pub puts-wrote : (bytes : List ℕ) {old new : List ℕ} {r : Written} {n : ℕ}
-    → Writes (within (length old) (written bytes)) r old new → length bytes ≤ length old → n ≡ counted r → Puts (written bytes) n old new
+    → Writes (written bytes) r old new → length bytes ≤ length old → n ≡ counted r → Puts (written bytes) n old new
 puts-wrote bytes p room e = record { counts = e ∙ room-counted bytes p room; holds = room-leaves bytes p room }
 
 -- a count that is not 0 is told as it is

@@ -65,7 +65,7 @@ MeasureValue v buffer r =
 
 -- what is written at the front of old, which is new afterwards
 abbrev pub WriteString : List ℕ → Written → List ℕ → List ℕ → Type 0
-WriteString text r old new = Writes (within (length old) (written (stringBytes text))) r old new
+WriteString text r old new = Writes (written (stringBytes text)) r old new
 
 abbrev pub WriteValue : Value → List ℕ → Written → List ℕ → List ℕ → Type 0
-WriteValue v buffer r old new = Writes (within (length old) (valueAnswer buffer (recordOf v))) r old new
+WriteValue v buffer r old new = Writes (valueAnswer buffer (recordOf v)) r old new

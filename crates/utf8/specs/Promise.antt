@@ -20,7 +20,7 @@ HasRoom bytes room r = r ≡ leb (length (lossy bytes)) room
 
 -- `lossy_text` writes the lossy text, where there is room.
 abbrev pub LossyText : List ℕ → Written → List ℕ → List ℕ → Type 0
-LossyText bytes r old new = Writes (within (length old) (written (lossy bytes))) r old new
+LossyText bytes r old new = Writes (written (lossy bytes)) r old new
 
 -- `same_text` says whether both have the same lossy text.
 abbrev pub SameText : List ℕ → List ℕ → Bool → Type 0

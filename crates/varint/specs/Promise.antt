@@ -21,7 +21,7 @@ VarintLen i r = r ≡ length (numberBytes i)
 
 -- `encode_varint` writes that form, where there is room.
 abbrev pub EncodeVarint : ℕ → Written → List ℕ → List ℕ → Type 0
-EncodeVarint i r old new = Writes (within (length old) (written (numberBytes i))) r old new
+EncodeVarint i r old new = Writes (written (numberBytes i)) r old new
 
 -- `decode_varint` reads the number at the front of the bytes.
 abbrev pub DecodeVarint : List ℕ → NumberRead → Type 0

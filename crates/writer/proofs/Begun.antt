@@ -20,7 +20,7 @@ use Rattle.frame.specs.declared.Head.{Head}
 use Rattle.frame.specs.Head.{fourBytes, headBytes, frameBytes}
 use Rattle.frame.proofs.Laws.{four-long}
 use Rattle.writer.specs.Frame.{limited}
-use Rattle.writer.specs.Inner.{capped, begun}
+use Rattle.writer.specs.Inner.{capped, begun, Begins}
 use Rattle.writer.proofs.Capped.{capped-in, capped-below}
 
 -- ---- the limit
@@ -74,8 +74,8 @@ module _ (room limit : ℕ) (h : Head) (len : ℕ) where
   begun-in l g = rw (le-leb (length (headBytes h) + len) limit l, le-leb (4 + (length (headBytes h) + len)) room g)
 
 -- a refusal, as such an answer is kept
-pub writes-refused : {a : Answer (List ℕ)} (n : ℕ) (old : List ℕ) → a ≡ refused n 0 → Writes a (w.Refused (record { number = n; place = 0 })) old old
-writes-refused n old e = rw e (record { says = refl; holds = refl })
+pub begins-refused : {a : Answer (List ℕ)} (n : ℕ) (old : List ℕ) → a ≡ refused n 0 → Begins a (w.Refused (record { number = n; place = 0 })) old old
+begins-refused n old e = rw e (record { says = refl; holds = refl })
 
 -- A frame that is begun: its payload's length is the measured one, its front is written, and there is room for all.
 pub record Begun (limit : ℕ) (h : Head) (payload old : List ℕ) (len start : ℕ) (out : List ℕ) : Type 0 where
@@ -88,7 +88,7 @@ pub record Begun (limit : ℕ) (h : Head) (payload old : List ℕ) (len start : 
 
 -- What whoever begins a frame learns, where the payload was measured as far as the limit.
 module _ (limit : ℕ) (h : Head) (payload : List ℕ) {old out : List ℕ} (len : ℕ) (is : len ≡ capped limit (length payload)) {r : Written}
-    (p : Writes (begun (length old) limit h len) r old out) where
+    (p : Begins (begun (length old) limit h len) r old out) where
   within-limit : length (headBytes h) + len ≤ limit → len ≡ length payload
   within-limit l = is ∙ capped-below limit (length payload) (omega arith)
 
@@ -117,7 +117,7 @@ module _ (limit : ℕ) (h : Head) (payload : List ℕ) {old out : List ℕ} (len
   said-done bytes a = p .says ∙ ap tells a
 
   -- a refusal is the frame's
-  pub begun-refused : (x : Refusal) → r ≡ w.Refused x → Writes (within (length old) (limited limit h payload)) (w.Refused x) old out
+  pub begun-refused : (x : Refusal) → r ≡ w.Refused x → Writes (limited limit h payload) (w.Refused x) old out
   begun-refused x e =
       begun-cases
       (λ a l. refused-as 12 a (rw (limited-over limit h payload l)))
@@ -125,7 +125,7 @@ module _ (limit : ℕ) (h : Head) (payload : List ℕ) {old out : List ℕ} (len
       (λ a m l g. not-both (said-done (front h len) a) (ap said e))
     where
       refused-as : (n : ℕ) → begun (length old) limit h len ≡ refused n 0 → within (length old) (limited limit h payload) ≡ refused n 0
-          → Writes (within (length old) (limited limit h payload)) (w.Refused x) old out
+          → Writes (limited limit h payload) (w.Refused x) old out
       refused-as n a b =
           let says : said (w.Refused x) ≡ refused n 0 = sym (ap said e) ∙ said-refused n a in
           let holds : out ≡ old = p .holds ∙ ap (λ (y : Answer (List ℕ)). leaves y old) a in
@@ -161,7 +161,7 @@ module _ {limit : ℕ} {h : Head} {payload old : List ℕ} {len start : ℕ} {ou
   begun-most = omega (arith, b .measured, b .count, b .room, length-append (front h len) payload)
 
   pub begun-whole : (tail : List ℕ) → tail ≡ leaves (written payload) (take (length out - start) (drop start out))
-      → Writes (within (length old) (limited limit h payload)) (w.Done (start + len)) old (putMid start (length out - start) out tail)
+      → Writes (limited limit h payload) (w.Done (start + len)) old (putMid start (length out - start) out tail)
   begun-whole tail e =
       writes-whole (frameBytes h payload) old (limited-in limit h payload (b .fits)) _ _
       (rw (b .whole) (b .room))

@@ -61,7 +61,7 @@ actsOf a = records (actAt a) 0 (a .count)
 -- the call passed every check of its own, and its frame has these actions
 module _ (a : AckCall) where
   ack-given : Given (actionsAnswer (ackHead a) (a .limit) (a .buffer) (a .actions) (a .count)) (a .n) (a .old) (a .new)
-  ack-given = given (actionsAnswer (ackHead a) (a .limit) (a .buffer) (a .actions) (a .count)) (length (a .old)) (a .kept)
+  ack-given = given (actionsAnswer (ackHead a) (a .limit) (a .buffer) (a .actions) (a .count)) (a .kept)
 
   actions-held : a .count * actionWidth ≤ length (a .actions)
   actions-held = actions-accepted (ackHead a) (a .limit) (a .buffer) (a .actions) (a .count) (ack-given .bytes) (a .n) (ack-given .is) .1
@@ -132,7 +132,7 @@ itemsOf a = records (itemAt (a .buffer) (a .pairs)) 0 (a .count)
 
 module _ (a : KvCall) where
   kv-given : Given (kvAnswer (kvHead a) (a .limit) (a .buffer) (a .pairs) (a .count)) (a .n) (a .old) (a .new)
-  kv-given = given (kvAnswer (kvHead a) (a .limit) (a .buffer) (a .pairs) (a .count)) (length (a .old)) (a .kept)
+  kv-given = given (kvAnswer (kvHead a) (a .limit) (a .buffer) (a .pairs) (a .count)) (a .kept)
 
   pairs-held : a .count * pairWidth ≤ length (a .pairs)
   pairs-held = kv-accepted (kvHead a) (a .limit) (a .buffer) (a .pairs) (a .count) (kv-given .bytes) (a .n) (kv-given .is) .1
@@ -204,7 +204,7 @@ saysOf a = records (sayAt a) 0 (a .count)
 
 module _ (a : NotifyCall) where
   notify-given : Given (notifyAnswer (notifyHead a) (a .limit) (a .buffer) (a .messages) (a .count) (a .pairs) (a .total)) (a .n) (a .old) (a .new)
-  notify-given = given (notifyAnswer (notifyHead a) (a .limit) (a .buffer) (a .messages) (a .count) (a .pairs) (a .total)) (length (a .old)) (a .kept)
+  notify-given = given (notifyAnswer (notifyHead a) (a .limit) (a .buffer) (a .messages) (a .count) (a .pairs) (a .total)) (a .kept)
 
   notify-spelled : Spelled sayBytes SayOk (notifyHead a) (a .n) (a .new) (saysOf a)
   notify-spelled =

@@ -119,7 +119,7 @@ module _ (buffer : List ℕ) (start len : ℕ) {r : Written} {n : ℕ} {old new 
 module _ (buffer : List ℕ) (v : Value) {r : Written} {n : ℕ} {old new : List ℕ} (p : WriteValue v buffer r old new) (w : Wrote r n)
     (h : writableRecord (recordOf v) ≡ true) (g : ranged buffer (recordOf v) ≡ true)
     (room : length (valueBytes buffer (recordOf v)) ≤ length old) where
-  whole : Writes (within (length old) (written (valueBytes buffer (recordOf v)))) r old new
+  whole : Writes (written (valueBytes buffer (recordOf v))) r old new
   whole = rw (form-whole buffer (recordOf v) h g) at p
 
   pub value-count : n ≡ length (valueBytes buffer (recordOf v))

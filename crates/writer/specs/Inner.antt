@@ -5,7 +5,9 @@ use mathlib.Core.List.{List, [], _∷_, _++_}
 use Prim.Native.Nat.{ℕ, _+_, _*_, _≤_, _<_}
 use lib.Dec.{eqb, leb}
 use lib.ListN.{length}
-use Rattle.answer.specs.Answer.{Answer, refused, written}
+use Rattle.answer.specs.declared.Written.{Written}
+use Rattle.answer.specs.Answer.{Answer, refused, written, leaves, tells}
+use Rattle.answer.specs.Writes.{said}
 use Rattle.answer.specs.Order.{Check, inOrder, eachInOrder}
 use Rattle.answer.specs.Inner.{Sound}
 use Rattle.types.specs.Form.{writableRecord, ranged}
@@ -75,3 +77,8 @@ begun room limit h len =
     (refused 12 0, leb behind limit)
     ∷ (refused 11 0, leb (4 + behind) room) ∷ [])
     (written (fourBytes behind ++ headBytes h))
+
+-- It says so, and leaves it: its room is the whole frame's.
+pub record Begins (a : Answer (List ℕ)) (r : Written) (old new : List ℕ) : Type 0 where
+  pub says : said r ≡ tells a
+  pub holds : new ≡ leaves a old

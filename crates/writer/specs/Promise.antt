@@ -11,14 +11,14 @@ use Rattle.writer.specs.Frame.{headOf, kvAnswer, actionsAnswer, notifyAn
 module _ (fin abort : Bool) (stream frame limit : ℕ) (buffer : List ℕ) where
   abbrev pub WriteKv : ℕ → List ℕ → ℕ → Written → List ℕ → List ℕ → Type 0
   WriteKv type pairs count r old new =
-      Writes (within (length old) (kvAnswer (headOf type fin abort stream frame) limit buffer pairs count)) r old new
+      Writes (kvAnswer (headOf type fin abort stream frame) limit buffer pairs count) r old new
 
   -- an ACK frame, of type 103
   abbrev pub WriteActions : List ℕ → ℕ → Written → List ℕ → List ℕ → Type 0
   WriteActions actions count r old new =
-      Writes (within (length old) (actionsAnswer (headOf 103 fin abort stream frame) limit buffer actions count)) r old new
+      Writes (actionsAnswer (headOf 103 fin abort stream frame) limit buffer actions count) r old new
 
   -- a NOTIFY frame, of type 3
   abbrev pub WriteNotify : List ℕ → ℕ → List ℕ → ℕ → Written → List ℕ → List ℕ → Type 0
   WriteNotify messages count pairs total r old new =
-      Writes (within (length old) (notifyAnswer (headOf 3 fin abort stream frame) limit buffer messages count pairs total)) r old new
+      Writes (notifyAnswer (headOf 3 fin abort stream frame) limit buffer messages count pairs total) r old new

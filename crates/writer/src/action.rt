@@ -238,7 +238,7 @@ fn action_frame(
     requires { ⌜ count * actionWidth ≤ length (now actions) ⌝ }
     requires { ⌜ Sound (actionOrder (now buffer) (now actions)) count ⌝ }
     requires { ⌜ len ≡ capped limit (length (actionsBytes (now buffer) (now actions) count)) ⌝ }
-    ensures { λ r. ⌜ Writes (within (length (now (out .entry))) (limited limit head (actionsBytes (now (buffer .entry)) (now (actions .entry)) count))) r (now (out .entry)) (now (out .exit)) ⌝ }
+    ensures { λ r. ⌜ Writes (limited limit head (actionsBytes (now (buffer .entry)) (now (actions .entry)) count)) r (now (out .entry)) (now (out .exit)) ⌝ }
 {
     let begun = begin_frame(head, len, limit, out);
     match begun {

@@ -177,7 +177,7 @@ fn kv_frame(
 ) -> Written
     requires { ⌜ FormedRun (now buffer) (now pairs) 0 count ⌝ }
     requires { ⌜ len ≡ capped limit (length (pairsBytes (now buffer) (now pairs) count)) ⌝ }
-    ensures { λ r. ⌜ Writes (within (length (now (out .entry))) (limited limit head (pairsBytes (now (buffer .entry)) (now (pairs .entry)) count))) r (now (out .entry)) (now (out .exit)) ⌝ }
+    ensures { λ r. ⌜ Writes (limited limit head (pairsBytes (now (buffer .entry)) (now (pairs .entry)) count)) r (now (out .entry)) (now (out .exit)) ⌝ }
 {
     let begun = begin_frame(head, len, limit, out);
     match begun {

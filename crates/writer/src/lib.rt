@@ -20,7 +20,7 @@ ghost use lib.Dec.{eqb};
 ghost use lib.ListN.{length};
 ghost use Rattle.answer.specs.Writes.{Writes};
 ghost use Rattle.writer.specs.Frame.{flagsOf, headOf};
-ghost use Rattle.writer.specs.Inner.{capped, begun};
+ghost use Rattle.writer.specs.Inner.{capped, begun, Begins};
 
 // What a loop that checks and measures some records found: the first that is refused, with number 0 where none is, and then how many
 // bytes they have as far as it matters.
@@ -71,7 +71,7 @@ pub(crate) fn head_of(frame_type: u8, fin: bool, abort: bool, stream: u64, frame
 // Writes the length bytes and the head of a frame whose payload is to have `len` bytes, where the whole frame is within the limit
 // and finds room: else 12, or 11.
 pub(crate) fn begin_frame(head: Head, len: u64, limit: u32, out: &mut [u8]) -> Written
-    ensures { λ r. ⌜ Writes (begun (length (now (out .entry))) limit head len) r (now (out .entry)) (now (out .exit)) ⌝ }
+    ensures { λ r. ⌜ Begins (begun (length (now (out .entry))) limit head len) r (now (out .entry)) (now (out .exit)) ⌝ }
 {
     if (limit as u64) < len {
         return Written::Refused(Refusal {

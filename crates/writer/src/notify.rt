@@ -271,7 +271,7 @@ fn notify_frame(
     requires { ⌜ count * messageWidth ≤ length (now messages) ⌝ }
     requires { ⌜ AllReady (now buffer) (now pairs) (now messages) count ⌝ }
     requires { ⌜ len ≡ capped limit (length (messagesBytes (now buffer) (now messages) count (now pairs))) ⌝ }
-    ensures { λ r. ⌜ Writes (within (length (now (out .entry))) (limited limit head (messagesBytes (now (buffer .entry)) (now (messages .entry)) count (now (pairs .entry))))) r (now (out .entry)) (now (out .exit)) ⌝ }
+    ensures { λ r. ⌜ Writes (limited limit head (messagesBytes (now (buffer .entry)) (now (messages .entry)) count (now (pairs .entry)))) r (now (out .entry)) (now (out .exit)) ⌝ }
 {
     let begun = begin_frame(head, len, limit, out);
     match begun {

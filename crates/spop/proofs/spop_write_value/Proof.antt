@@ -19,7 +19,7 @@ returns c =
     let a = k .before .before .before .before .before .args in
     let w =
     subst
-    (λ (x : Answer (List ℕ)). Writes (within (length (a .out .now)) x) (k .write-value .result) (a .out .now) (k .write-value .last .1 .1 .0))
+    (λ (x : Answer (List ℕ)). Writes x (k .write-value .result) (a .out .now) (k .write-value .last .1 .1 .0))
     (ap (valueAnswer (a .buffer .now)) (k .before .before .value-of .ensures)) (k .write-value .ensures) in
     (told-writes w (c .tell .ensures), w .holds)
 

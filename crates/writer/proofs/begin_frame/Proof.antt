@@ -9,14 +9,14 @@ use borrow.Author.Tests.{le-leb}
 use Rattle.varint.proofs.Writing.{length-most}
 use Rattle.frame.specs.Head.{fourBytes, headBytes}
 use Rattle.frame.proofs.Laws.{head-length}
-use Rattle.writer.proofs.Begun.{begun-over, begun-short, begun-in, front-length, writes-refused}
+use Rattle.writer.proofs.Begun.{begun-over, begun-short, begun-in, front-length, begins-refused}
 use Rattle.writer.proofs.begin_frame.Statement.{statement}
 use Rattle.writer.proofs.begin_frame.Tie as tie
 
 returns : tie.Need-returns
 returns c =
     let a = c .before .before .args in
-    writes-refused 12 (a .out .now) (begun-over (length (a .out .now)) (a .limit) (a .head) (a .len) (omega (arith, c .if1 .taken)))
+    begins-refused 12 (a .out .now) (begun-over (length (a .out .now)) (a .limit) (a .head) (a .len) (omega (arith, c .if1 .taken)))
 
 head-len-requires : tie.Need-head-len-requires
 head-len-requires c κs = search needs
@@ -37,13 +37,13 @@ add-whole c = omega (arith, small c)
 returns-2 : tie.Need-returns-2
 returns-2 c =
     let a = c .before .before .before .before .args in
-    writes-refused 12 (a .out .now) (begun-over (length (a .out .now)) (a .limit) (a .head) (a .len) (omega (arith, c .if2 .taken, c .before .head-len .ensures)))
+    begins-refused 12 (a .out .now) (begun-over (length (a .out .now)) (a .limit) (a .head) (a .len) (omega (arith, c .if2 .taken, c .before .head-len .ensures)))
 
 returns-3 : tie.Need-returns-3
 returns-3 c =
     let a = c .before .before .before .before .before .args in
     let n = c .before .before .head-len .ensures in
-    writes-refused 11 (a .out .now) (begun-short (length (a .out .now)) (a .limit) (a .head) (a .len) (omega (arith, c .before .if2 .left, n)) (omega (arith, c .if3 .taken, n)))
+    begins-refused 11 (a .out .now) (begun-short (length (a .out .now)) (a .limit) (a .head) (a .len) (omega (arith, c .before .if2 .left, n)) (omega (arith, c .if3 .taken, n)))
 
 cast-write-head : tie.Need-cast-write-head
 cast-write-head c = search needs
@@ -62,7 +62,7 @@ returns-4 c =
     let behind = length (headBytes (a .head)) + a .len in
     let fits : 4 + behind ≤ length (a .out .now) = omega (arith, e .if3 .left, n) in
     rw (begun-in (length (a .out .now)) (a .limit) (a .head) (a .len) (omega (arith, e .before .if2 .left, n)) fits)
-    (simp (le-leb (length (fourBytes behind ++ headBytes (a .head))) (length (a .out .now)) (omega (arith, front-length (a .head) (a .len)))) at (rw n at (c .before .before .write-head .ensures)))
+    (let w = simp (le-leb (length (fourBytes behind ++ headBytes (a .head))) (length (a .out .now)) (omega (arith, front-length (a .head) (a .len)))) at (rw n at (c .before .before .write-head .ensures)) in record { says = w .says; holds = w .holds })
 
 pub begin-frame-spec : {M : Type 1} → statement M
 begin-frame-spec =

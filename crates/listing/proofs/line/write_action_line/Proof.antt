@@ -29,7 +29,7 @@ returns : tie.Need-returns
 returns c = let a = c .before .before .before .before .before .args in
     let f = a .frame .now in
     rw (c .refused .ensures)
-    (writes-refusal (length (a .out .now)) (c .before .before .check-action .result) 0 (a .out .now)
+    (writes-refusal (c .before .before .check-action .result) 0 (a .out .now)
     (lines-refuse (actionLineChecks f (a .action)) _ (c .before .before .check-action .ensures) (c .before .if1 .taken) 0 (written (actionLine (a .index) f (a .action)))))
 
 add-to : tie.Need-add-to

@@ -30,7 +30,7 @@ returns : tie.Need-returns
 returns c = let a = c .before .before .before .before .before .args in
     let f = a .frame .now in
     rw (c .refused .ensures)
-    (writes-refusal (length (a .out .now)) 16 0 (a .out .now)
+    (writes-refusal 16 0 (a .out .now)
     (order-fails (refused 16 0) _ [] (written (messageLine (a .index) f (a .message))) (sym (c .before .before .is-inside .ensures) ∙ not-true _ (c .before .if1 .taken))))
 
 add-to : tie.Need-add-to

@@ -30,7 +30,7 @@ returns : tie.Need-returns
 returns c = let a = c .before .before .before .before .before .args in
     let f = a .frame .now in
     rw (c .refused .ensures)
-    (writes-refusal (length (a .out .now)) (c .before .before .check-pair .result) 0 (a .out .now)
+    (writes-refusal (c .before .before .check-pair .result) 0 (a .out .now)
     (lines-refuse (pairLineChecks f (a .pair)) _ (c .before .before .check-pair .ensures) (c .before .if1 .taken) 0 (written (pairLine (a .index) f (a .pair)))))
 
 add-to : tie.Need-add-to

@@ -18,7 +18,7 @@ use Rattle.listing.proofs.order.write_action_at.Tie as tie
 returns : tie.Need-returns
 returns c = let a = c .before .before .before .before .args in
     let x = actionAt (a .actions .now) (a .k) in
-    writes-refusal (length (a .out .now)) 16 0 (a .out .now)
+    writes-refusal 16 0 (a .out .now)
     (order-fails (refused 16 0) _ (linesAt 0 (actionLineChecks (a .frame .now) x)) (written (actionLine (a .k) (a .frame .now) x))
     (lt-leb ((a .k + 1) * actionWidth) (length (a .actions .now)) (omega (arith, c .if1 .taken))))
 

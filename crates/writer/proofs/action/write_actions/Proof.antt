@@ -46,7 +46,7 @@ returns : tie.Need-returns
 returns c =
     let s = start (c .before) in
     let a = s .args in
-    writes-refusal (length (a .out .now)) 14 0 (a .out .now)
+    writes-refusal 14 0 (a .out .now)
     (is-list s
     ∙ list-metadata (finAlone (head s)) actionWidth (a .actions .now) (a .action-count) (checks s) (frame s) (sym (c .before .fin-alone .ensures) ∙ not-true (c .before .fin-alone .result) (c .if1 .taken)))
 
@@ -57,7 +57,7 @@ returns-2 : tie.Need-returns-2
 returns-2 c =
     let s = start (c .before .before) in
     let a = s .args in
-    writes-refusal (length (a .out .now)) 16 0 (a .out .now)
+    writes-refusal 16 0 (a .out .now)
     (is-list s ∙ list-count (finAlone (head s)) actionWidth (a .actions .now) (a .action-count) (checks s) (frame s) (allowed (c .before)) (omega (arith, c .if2 .taken)))
 
 -- past the second test the records lie in the table
@@ -82,7 +82,7 @@ returns-3 c =
     let s = start (e .before .before) in
     let a = s .args in
     let r = k .check-actions .result .refusal in
-    writes-refusal (length (a .out .now)) (r .number) (r .place) (a .out .now)
+    writes-refusal (r .number) (r .place) (a .out .now)
     (is-held e ∙ k .check-actions .ensures .refuses (c .if3 .taken) (frame s))
 
 -- none is refused

@@ -47,7 +47,7 @@ returns : tie.Need-returns
 returns c =
     let s = start (c .before) in
     let a = s .args in
-    writes-refusal (length (a .out .now)) 14 0 (a .out .now)
+    writes-refusal 14 0 (a .out .now)
     (is-list s
     ∙ list-metadata (kvAllowed (head s)) pairWidth (a .pairs .now) (a .pair-count) (checks s) (frame s) (sym (c .before .kv-allowed .ensures) ∙ not-true (c .before .kv-allowed .result) (c .if1 .taken)))
 
@@ -58,7 +58,7 @@ returns-2 : tie.Need-returns-2
 returns-2 c =
     let s = start (c .before .before) in
     let a = s .args in
-    writes-refusal (length (a .out .now)) 16 0 (a .out .now)
+    writes-refusal 16 0 (a .out .now)
     (is-list s ∙ list-count (kvAllowed (head s)) pairWidth (a .pairs .now) (a .pair-count) (checks s) (frame s) (allowed (c .before)) (omega (arith, c .if2 .taken)))
 
 -- past the second test the records lie in the table
@@ -83,7 +83,7 @@ returns-3 c =
     let s = start (e .before .before) in
     let a = s .args in
     let r = k .check-pairs .result .refusal in
-    writes-refusal (length (a .out .now)) (r .number) (r .place) (a .out .now)
+    writes-refusal (r .number) (r .place) (a .out .now)
     (is-held e ∙ k .check-pairs .ensures .refuses (c .if3 .taken) (frame s))
 
 -- none is refused

@@ -37,7 +37,7 @@ returns : tie.Need-returns
 returns c =
     let s = start (c .before) in
     let a = s .args in
-    writes-refusal (length (a .out .now)) 14 0 (a .out .now)
+    writes-refusal 14 0 (a .out .now)
     (notify-metadata (head s) (a .limit) (a .buffer .now) (a .messages .now) (a .message-count) (a .pairs .now) (a .pair-count)
     (sym (c .before .fin-alone .ensures) ∙ not-true (c .before .fin-alone .result) (c .if1 .taken)))
 
@@ -48,7 +48,7 @@ returns-2 : tie.Need-returns-2
 returns-2 c =
     let s = start (c .before .before) in
     let a = s .args in
-    writes-refusal (length (a .out .now)) 16 0 (a .out .now)
+    writes-refusal 16 0 (a .out .now)
     (notify-messages (head s) (a .limit) (a .buffer .now) (a .messages .now) (a .message-count) (a .pairs .now) (a .pair-count) (allowed (c .before)) (omega (arith, c .if2 .taken)))
 
 -- past the second test the messages lie in their table, and past the third the pairs in theirs
@@ -59,7 +59,7 @@ returns-3 : tie.Need-returns-3
 returns-3 c =
     let s = start (c .before .before .before) in
     let a = s .args in
-    writes-refusal (length (a .out .now)) 16 0 (a .out .now)
+    writes-refusal 16 0 (a .out .now)
     (notify-pairs (head s) (a .limit) (a .buffer .now) (a .messages .now) (a .message-count) (a .pairs .now) (a .pair-count) (allowed (c .before .before)) (messages-held (c .before)) (omega (arith, c .if3 .taken)))
 
 pairs-held : (c : tie.Else3) → let a = start (c .before .before .before) .args in a .pair-count * pairWidth ≤ length (a .pairs .now)
@@ -76,7 +76,7 @@ returns-4 c =
     let e = c .before in
     let s = start (e .before .before .before) in
     let a = s .args in
-    writes-refusal (length (a .out .now)) 14 0 (a .out .now)
+    writes-refusal 14 0 (a .out .now)
     (notify-stray (head s) (a .limit) (a .buffer .now) (a .messages .now) (a .message-count) (a .pairs .now) (a .pair-count)
     (allowed (e .before .before)) (messages-held (e .before)) (pairs-held e) (stray (eqb (a .message-count) 0) (eqb (a .pair-count) 0) ∙ ap not (c .if4 .taken)))
 
@@ -106,7 +106,7 @@ returns-5 c =
     let f = k .before in
     let a = start (f .before .before .before .before) .args in
     let r = k .check-messages .result .refusal in
-    writes-refusal (length (a .out .now)) (r .number) (r .place) (a .out .now) (is-held f ∙ k .check-messages .ensures .refuses (c .if5 .taken) _)
+    writes-refusal (r .number) (r .place) (a .out .now) (is-held f ∙ k .check-messages .ensures .refuses (c .if5 .taken) _)
 
 -- past the fifth test no message is refused
 sound-messages : (c : tie.Else5)
@@ -124,7 +124,7 @@ returns-6 c =
     let f = g .before .before .before .before in
     let a = start (f .before .before .before .before) .args in
     let r = k .check-arguments .result .refusal in
-    writes-refusal (length (a .out .now)) (r .number) (r .place) (a .out .now)
+    writes-refusal (r .number) (r .place) (a .out .now)
     (is-held f ∙ each-pass _ _ _ (sound-messages g) ∙ k .check-arguments .ensures .refuses (c .if6 .taken) _)
 
 -- and past the sixth no pair
