@@ -154,12 +154,14 @@ def closing(text, at):
 
 
 def functions_of(module):
-    """Each function's name, whether it is public, its parameters, and its `requires` and `ensures`, word by word."""
+    """Each function's name, whether it is public, its parameters, and its `requires` and `ensures`, word by word, with what it
+    is lent to change."""
     for head in FUNCTION.finditer(module.code):
         at = module.code.index("(", head.end())
         end = closing(module.code, at)
         parameters = set(re.findall(r"(\w+)\s*:(?!:)", module.code[at:end])) | {"self"}
         clauses, place = {"requires": [], "ensures": []}, end + 1
+        clauses["lent"] = re.findall(r"(\w+)\s*:\s*&mut\b", module.code[at:end])
         while found := CLAUSE.match(module.code, place):
             place = closing(module.code, found.end()) + 1
             # A parameter is quoted, as «pair_count», where antt would read its name as an operator's.

@@ -12,4 +12,3 @@ pub mod Rows
 pub mod Row
 pub mod Loops
 pub mod Same
-pub mod Unique

@@ -21,7 +21,3 @@ pub record Writes (a : Answer (List ℕ)) (r : Written) (old new : List ℕ) : T
 abbrev pub counted : Written → ℕ
 counted (w.Done n) = n
 counted (w.Refused r) = 0
-
--- `wrote` promises that.
-abbrev pub Wrote : Written → ℕ → Type 0
-Wrote answer r = r ≡ counted answer

@@ -1,7 +1,8 @@
 // What every layer's answers share: a refusal's number and place, and what a writer answers.
 //
 // docs/RULES.md says of each number when it is given and what its place counts.
-ghost use Rattle.answer.specs.Writes.{Wrote};
+ghost use Rattle.answer.specs.Writes.{counted};
+ghost use mathlib.Core.Path.{_≡_};
 
 // The frame is not whole yet, with the bytes that are missing.
 pub const WAIT: u64 = 1;
@@ -56,7 +57,7 @@ pub enum Written {
 
 // How many bytes a writer wrote: none after a refusal.
 pub fn wrote(answer: Written) -> usize
-    ensures { λ r. ⌜ Wrote answer r ⌝ }
+    ensures { λ r. ⌜ r ≡ counted answer ⌝ }
 {
     match answer {
         Written::Done(n) => n,

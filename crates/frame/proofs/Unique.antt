@@ -3,22 +3,13 @@ use mathlib.Core.Path.{_≡_, refl, sym, ap, ap₂, _∙_}
 use mathlib.Core.List.{List}
 use Prim.Native.Nat.{ℕ}
 use native.Mathlib.Omega.{arith}
-use Rattle.answer.specs.declared.Written.{Written}
-use Rattle.answer.proofs.Same.{refusal-same, writes-unique, one-only}
-use Rattle.frame.specs.declared.Head.{Head}
+use Rattle.answer.proofs.Same.{refusal-same}
 use Rattle.frame.specs.declared.Side.{Side}
 use Rattle.frame.specs.declared.FrameCut.{FrameCut}
 use Rattle.frame.specs.declared.FrameCut.the-variants as c
 use Rattle.frame.specs.declared.HeadRead.{HeadRead}
 use Rattle.frame.specs.declared.HeadRead.the-variants as h
-use Rattle.frame.specs.Promise.{HeadLen, WriteHead, cutSaid, Cut, headSaid, ReadHead, Put}
-
-pub head-len-unique : (h : Head) (r q : ℕ) → HeadLen h r → HeadLen h q → r ≡ q
-head-len-unique h r q p s = one-only p s
-
-pub write-head-unique : (behind : ℕ) (h : Head) (r q : Written) (old new other : List ℕ)
-    → WriteHead behind h r old new → WriteHead behind h q old other → (r ≡ q) × (new ≡ other)
-write-head-unique behind h r q old new other p s = writes-unique p s
+use Rattle.frame.specs.Promise.{cutSaid, Cut, headSaid, ReadHead}
 
 -- answers that say the same are the same
 cut-same : (s : List ℕ) (r q : FrameCut) → cutSaid s r ≡ cutSaid s q → r ≡ q
@@ -43,6 +34,3 @@ head-same (h.Refused r) (h.Refused q) e = ap h.Refused (refusal-same r q (cc) (c
 
 pub read-head-unique : (frame : List ℕ) (side : Side) (r q : HeadRead) → ReadHead frame side r → ReadHead frame side q → r ≡ q
 read-head-unique frame side r q p s = head-same r q (p ∙ sym s)
-
-pub put-unique : (numbers : List ℕ) (r q : Written) (old new other : List ℕ) → Put numbers r old new → Put numbers q old other → (r ≡ q) × (new ≡ other)
-put-unique numbers r q old new other p s = writes-unique p s

@@ -1,26 +1,16 @@
 -- What the calls' own types mean, and what each call promises.
 use mathlib.Core.Path.{_≡_}
-use mathlib.Core.List.{List, _++_}
+use mathlib.Core.List.{List}
 use Prim.Native.Nat.{ℕ}
-use lib.ListN.{length, take}
-use Rattle.answer.specs.declared.Written.{Written}
-use Rattle.answer.specs.Answer.{Answer, done, refused, written, within}
-use Rattle.answer.specs.Writes.{Writes}
+use lib.ListN.{take}
+use Rattle.answer.specs.Answer.{Answer, done, refused}
 use Rattle.frame.specs.declared.Head.{Head}
 use Rattle.frame.specs.declared.Side.{Side}
 use Rattle.frame.specs.declared.FrameCut.{FrameCut}
 use Rattle.frame.specs.declared.FrameCut.the-variants as c
 use Rattle.frame.specs.declared.HeadRead.{HeadRead}
 use Rattle.frame.specs.declared.HeadRead.the-variants as h
-use Rattle.frame.specs.Head.{fourBytes, headBytes}
 use Rattle.frame.specs.Read.{Reading, wait, answered, cut, sender, head}
-
-abbrev pub HeadLen : Head → ℕ → Type 0
-HeadLen h r = r ≡ length (headBytes h)
-
--- the length bytes, of a frame of which so much follows, and the head, at the front of old, which is new afterwards
-abbrev pub WriteHead : ℕ → Head → Written → List ℕ → List ℕ → Type 0
-WriteHead behind h r old new = Writes (written (fourBytes behind ++ headBytes h)) r old new
 
 -- `cut` says where the frame at the front of some bytes ends.
 abbrev pub cutSaid : List ℕ → FrameCut → Reading (List ℕ)
@@ -38,7 +28,3 @@ headSaid (h.Refused r) = refused (r .number) (r .place)
 
 abbrev pub ReadHead : List ℕ → Side → HeadRead → Type 0
 ReadHead frame side r = headSaid r ≡ head (sender side) frame
-
--- numbers at the front of a table
-abbrev pub Put : List ℕ → Written → List ℕ → List ℕ → Type 0
-Put numbers r old new = Writes (written numbers) r old new

@@ -6,7 +6,7 @@ ghost use mathlib.Core.Path.{_≡_};
 ghost use Prim.Native.Nat.{_≤_};
 ghost use lib.ListN.{length};
 ghost use Rattle.answer.specs.Answer.{written, leaves};
-ghost use Rattle.frame.specs.Promise.{Put};
+ghost use Rattle.answer.specs.Writes.{Writes};
 
 // Copies all numbers to the front of a table that has room for them.
 fn copy(numbers: &[u64], table: &mut [u64])
@@ -22,7 +22,7 @@ fn copy(numbers: &[u64], table: &mut [u64])
 
 // Puts numbers to the front of a table, where they fit: those of a record, or of several.
 pub fn put(numbers: &[u64], table: &mut [u64]) -> Written
-    ensures { λ r. ⌜ Put (now (numbers .entry)) r (now (table .entry)) (now (table .exit)) ⌝ }
+    ensures { λ r. ⌜ Writes (written (now (numbers .entry))) r (now (table .entry)) (now (table .exit)) ⌝ }
 {
     let n = numbers.len();
     if table.len() < n {

@@ -8,19 +8,19 @@ ghost use mathlib.Core.List.{_++_, _∷_};
 ghost use Prim.Native.Nat.{_≤_};
 ghost use lib.ListN.{length};
 ghost use Rattle.answer.specs.Answer.{written, leaves};
-ghost use Rattle.frame.specs.Head.{fourBytes};
-ghost use Rattle.frame.specs.Promise.{HeadLen, WriteHead};
+ghost use Rattle.frame.specs.Head.{fourBytes, headBytes};
+ghost use Rattle.answer.specs.Writes.{Writes};
 
 // How many bytes the head has, from its type to its second number.
 pub fn head_len(head: Head) -> usize
-    ensures { λ r. ⌜ HeadLen head r ⌝ }
+    ensures { λ r. ⌜ r ≡ length (headBytes head) ⌝ }
 {
     5 + varint::varint_len(head.stream) + varint::varint_len(head.frame)
 }
 
 // Writes the four length bytes and the head. `behind` is the length of the frame behind the length bytes.
 pub fn write_head(behind: u32, head: Head, out: &mut [u8]) -> Written
-    ensures { λ r. ⌜ WriteHead behind head r (now (out .entry)) (now (out .exit)) ⌝ }
+    ensures { λ r. ⌜ Writes (written (fourBytes behind ++ headBytes head)) r (now (out .entry)) (now (out .exit)) ⌝ }
 {
     if out.len() < 4 + head_len(head) {
         return Written::Refused(Refusal {

@@ -1,21 +1,20 @@
 -- The wording that was: an announced version is three numbers, and the major number 2 is enough. It stays true of versions without a
 -- pre-release part.
 use mathlib.Core.Path.{_≡_, refl, sym, ap, ap₂, _∙_}
-use mathlib.Core.Bool.{Bool, true, false, cond, _||_}
+use mathlib.Core.Bool.{Bool, false, cond, _||_}
 use mathlib.Core.List.{List, [], _∷_}
-use Prim.Native.Nat.{ℕ, zero, suc, _+_, _*_, _/_, _<_}
+use Prim.Native.Nat.{ℕ, zero, suc, _+_, _/_, _<_}
 use native.Mathlib.Omega.{arith}
 use lib.Dec.{eqb}
-use lib.ListN.{length, getD}
+use lib.ListN.{length}
 use borrow.Author.Tests.{eqb-true, eqb-false}
-use Rattle.answer.specs.Table.{numberAt, records, joined, some}
+use Rattle.answer.specs.Table.{records, joined, some}
 use Rattle.answer.proofs.Cases.{bool-cases}
 use Rattle.hello.specs.declared.Announced.{Announced}
 use Rattle.hello.specs.declared.Version.{Version}
 use Rattle.hello.specs.declared.Chosen.{Chosen}
 use Rattle.hello.specs.declared.Chosen.the-variants as c
 use Rattle.hello.specs.Hello.{versionWidth, versionAt, covers, announced, choice}
-use Rattle.hello.specs.Promise.{NegotiateVersion}
 use Rattle.hello.proofs.Laws.{covers-other, covers-normal, announced-none, announced-on}
 
 -- the definition that was
@@ -66,7 +65,7 @@ module _ (versions : List ℕ) (normal : (i : ℕ) → i < length versions / ver
   no-pre-release-choice = ap (λ (t : Bool). cond t (c.Version (record { major = 2; minor = 0; patch = 0 })) c.None) no-pre-release
 
   -- what `negotiate_version` answers
-  pub no-pre-release-answer : (r : Chosen) → NegotiateVersion versions r → r ≡ choiceByMajor (inThrees versions)
+  pub no-pre-release-answer : (r : Chosen) → r ≡ choice versions → r ≡ choiceByMajor (inThrees versions)
   no-pre-release-answer r p = p ∙ no-pre-release-choice
 
 -- The same from three numbers to four: with 0 behind each version of a list it is as it was.

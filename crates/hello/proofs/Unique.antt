@@ -1,13 +1,11 @@
 -- No second result meets a call's promise: it fixes the answer.
 use mathlib.Core.Path.{_≡_, ap}
-use mathlib.Core.List.{List}
 use Prim.Native.Nat.{ℕ}
 use native.Mathlib.Omega.{arith}
 use Rattle.answer.proofs.Same.{refusal-same, one-only}
 use Rattle.hello.specs.declared.Size.{Size}
 use Rattle.hello.specs.declared.Size.the-variants as z
-use Rattle.hello.specs.declared.Chosen.{Chosen}
-use Rattle.hello.specs.Promise.{sizeOf, NegotiateMaxFrameSize, NegotiateVersion}
+use Rattle.hello.specs.Promise.{sizeOf, NegotiateMaxFrameSize}
 
 -- answers that say the same are the same
 sizeOf-same : (a b : Size) → sizeOf a ≡ sizeOf b → a ≡ b
@@ -18,6 +16,3 @@ sizeOf-same (z.Refused r) (z.Refused q) e = ap z.Refused (refusal-same r q (cc) 
 
 pub negotiate-max-frame-size-unique : (theirs ours : ℕ) (r q : Size) → NegotiateMaxFrameSize theirs ours r → NegotiateMaxFrameSize theirs ours q → r ≡ q
 negotiate-max-frame-size-unique theirs ours r q p s = sizeOf-same r q (one-only p s)
-
-pub negotiate-version-unique : (versions : List ℕ) (r q : Chosen) → NegotiateVersion versions r → NegotiateVersion versions q → r ≡ q
-negotiate-version-unique versions r q p s = one-only p s

@@ -1,12 +1,10 @@
 -- What each call promises.
 use mathlib.Core.Path.{_≡_}
-use mathlib.Core.List.{List}
 use Prim.Native.Nat.{ℕ}
 use Rattle.hello.specs.declared.Size.{Size}
 use Rattle.hello.specs.declared.Size.the-variants as z
-use Rattle.hello.specs.declared.Chosen.{Chosen}
 use Rattle.answer.specs.Answer.{Answer, done, refused}
-use Rattle.hello.specs.Hello.{frameSize, choice}
+use Rattle.hello.specs.Hello.{frameSize}
 
 -- what the answer says
 abbrev pub sizeOf : Size → Answer Unit
@@ -16,7 +14,3 @@ sizeOf (z.Refused r) = refused (r .number) (r .place)
 -- `negotiate_max_frame_size` settles on the frame size.
 abbrev pub NegotiateMaxFrameSize : ℕ → ℕ → Size → Type 0
 NegotiateMaxFrameSize theirs ours r = sizeOf r ≡ frameSize theirs ours
-
--- `negotiate_version` makes the agent's choice of the announced versions.
-abbrev pub NegotiateVersion : List ℕ → Chosen → Type 0
-NegotiateVersion versions r = r ≡ choice versions

@@ -4,8 +4,8 @@ use answer::SIZE_TOO_SMALL;
 ghost use mathlib.Core.Path.{_≡_};
 ghost use Prim.Native.Nat.{_+_, _*_, _≤_};
 ghost use lib.ListN.{length};
-ghost use Rattle.hello.specs.Hello.{versionWidth, versionAt, covers};
-ghost use Rattle.hello.specs.Promise.{NegotiateMaxFrameSize, NegotiateVersion};
+ghost use Rattle.hello.specs.Hello.{versionWidth, versionAt, covers, choice};
+ghost use Rattle.hello.specs.Promise.{NegotiateMaxFrameSize};
 
 // The least size that a peer may announce.
 pub const MIN_FRAME_SIZE: u32 = 256;
@@ -99,7 +99,7 @@ fn covers_supported(v: Announced) -> bool
 
 // The supported version, where one of the announced ones covers it.
 pub fn negotiate_version(versions: &[u64]) -> Chosen
-    ensures { λ r. ⌜ NegotiateVersion (now (versions .entry)) r ⌝ }
+    ensures { λ r. ⌜ r ≡ choice (now (versions .entry)) ⌝ }
 {
     let count = versions.len() / VERSION_WIDTH;
     let mut i = 0;

@@ -5,14 +5,12 @@ use Prim.Native.Nat.{ℕ}
 use native.Mathlib.Omega.{arith}
 use Rattle.answer.proofs.Same.{refusal-same}
 use Rattle.payload.specs.declared.Counts.{Counts}
-use Rattle.payload.specs.declared.Cursor.{Cursor}
-use Rattle.payload.specs.declared.Item.{Item}
 use Rattle.payload.specs.declared.PairRead.{PairRead}
 use Rattle.payload.specs.declared.PairRead.the-variants as p
 use Rattle.payload.specs.declared.Payload.{Payload}
 use Rattle.payload.specs.declared.PayloadRead.{PayloadRead}
 use Rattle.payload.specs.declared.PayloadRead.the-variants as l
-use Rattle.payload.specs.Promise.{pairSaid, payloadSaid, ReadPair, PairFrom, NextItem, LookPayload, ReadPayload}
+use Rattle.payload.specs.Promise.{pairSaid, payloadSaid, ReadPair, PairFrom, LookPayload, ReadPayload}
 
 -- answers that say the same are the same
 pair-same : (a b : PairRead) → pairSaid a ≡ pairSaid b → a ≡ b
@@ -32,9 +30,6 @@ read-pair-unique input r q p s = pair-same r q (p ∙ sym s)
 
 pub pair-from-unique : (input : List ℕ) (at : ℕ) (r q : PairRead) → PairFrom input at r → PairFrom input at q → r ≡ q
 pair-from-unique input at r q p s = pair-same r q (p ∙ sym s)
-
-pub next-item-unique : (kind : Payload) (input : List ℕ) (x : Cursor) (r q : Item) → NextItem kind input x r → NextItem kind input x q → r ≡ q
-next-item-unique kind input x r q p s = p ∙ sym s
 
 pub look-payload-unique : (kind : Payload) (start : ℕ) (input : List ℕ) (rooms : Counts) (r q : PayloadRead)
     → LookPayload kind start input rooms r → LookPayload kind start input rooms q → r ≡ q

@@ -8,8 +8,6 @@ use Rattle.answer.specs.Table.{joined}
 use Rattle.frame.specs.declared.Pair.{Pair}
 use Rattle.frame.specs.Records.{messageWidth, messageNumbers, pairWidth, pairNumbers, actionWidth, actionNumbers}
 use Rattle.payload.specs.declared.Counts.{Counts}
-use Rattle.payload.specs.declared.Cursor.{Cursor}
-use Rattle.payload.specs.declared.Item.{Item}
 use Rattle.payload.specs.declared.PairRead.{PairRead}
 use Rattle.payload.specs.declared.PairRead.the-variants as p
 use Rattle.payload.specs.declared.Payload.{Payload}
@@ -17,7 +15,6 @@ use Rattle.payload.specs.declared.PayloadRead.{PayloadRead}
 use Rattle.payload.specs.declared.PayloadRead.the-variants as l
 use Rattle.payload.specs.Pair.{pair, pairFrom}
 use Rattle.payload.specs.Payload.{Contents, payload}
-use Rattle.payload.specs.Item.{itemAt}
 
 -- ---- what the answers say
 
@@ -69,10 +66,6 @@ ReadPair input r = pairSaid r ≡ pair input
 
 abbrev pub PairFrom : List ℕ → ℕ → PairRead → Type 0
 PairFrom input at r = pairSaid r ≡ pairFrom at input
-
--- `next_item` gives what comes next.
-abbrev pub NextItem : Payload → List ℕ → Cursor → Item → Type 0
-NextItem kind input x r = r ≡ itemAt kind input x
 
 -- `look_payload` says what the reader says with tables of such rooms.
 abbrev pub LookPayload : Payload → ℕ → List ℕ → Counts → PayloadRead → Type 0

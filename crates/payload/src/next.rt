@@ -18,7 +18,6 @@ ghost use Rattle.payload.specs.Pair.{pairFrom};
 ghost use Rattle.payload.specs.Action.{actionFrom};
 ghost use Rattle.payload.specs.Payload.{messageFrom};
 ghost use Rattle.payload.specs.Item.{itemOf, itemAt};
-ghost use Rattle.payload.specs.Promise.{NextItem};
 
 fn refused_at(number: u64, place: usize) -> Item
     ensures { λ r. ⌜ r ≡ Item.Refused (record { number = number; place = place }) ⌝ }
@@ -95,7 +94,7 @@ pub(crate) fn item(input: &[u8], kind: Payload, x: Cursor) -> Item
 
 // The same for every cursor: behind the bytes they have ended too soon where a pair is to come, and else it is the end.
 pub fn next_item(input: &[u8], kind: Payload, x: Cursor) -> Item
-    ensures { λ r. ⌜ NextItem kind (now (input .entry)) x r ⌝ }
+    ensures { λ r. ⌜ r ≡ itemAt kind (now (input .entry)) x ⌝ }
 {
     if x.at <= input.len() {
         return item(input, kind, x);

@@ -1,5 +1,5 @@
 -- How the call comes to its answer: a text that has no room ends it, and else both stand in their buffers and are compared byte by byte.
-use mathlib.Core.Path.{_≡_, refl, sym, ap, _∙_}
+use mathlib.Core.Path.{_≡_, sym, ap, _∙_}
 use mathlib.Core.Bool.{Bool, true, false, and-false}
 use mathlib.Core.List.{List, []}
 use mathlib.Core.Logic.{_⊎_, ⊎-elim}
@@ -15,10 +15,10 @@ use Rattle.answer.proofs.Cases.{lt-or-le}
 use Rattle.answer.proofs.Output.{leaves-length, writes-done}
 use Rattle.answer.proofs.Parts.{room-refused, room-leaves}
 use Rattle.utf8.specs.Text.{lossy, sameBytes}
-use Rattle.utf8.specs.Promise.{LossyText}
 use Rattle.utf8.proofs.Same.{same-refl, same-next, same-stop, same-length}
 use Rattle.plain.specs.declared.Compared.the-variants as c
 use Rattle.plain.specs.Promise.{fitting, SameTextPlain}
+use Rattle.answer.specs.Writes.{Writes}
 
 -- ---- one text
 
@@ -28,7 +28,7 @@ pub record Stands (s old new : List ℕ) (n : ℕ) : Type 0 where
   pub count : n ≡ length (lossy s)
   pub holds : new ≡ leaves (written (lossy s)) old
 
-module _ (s : List ℕ) {old new : List ℕ} {r : Written} (p : LossyText s r old new) where
+module _ (s : List ℕ) {old new : List ℕ} {r : Written} (p : Writes (written (lossy s)) r old new) where
   -- Where n bytes were written it does: without room the buffer would be what it was, and shorter than they are.
   pub stands : {n : ℕ} → r ≡ w.Done n → Stands s old new n
   stands {n} is =

@@ -9,7 +9,6 @@ use lib.ListN.{length}
 use Rattle.answer.specs.Answer.{done}
 use Rattle.answer.proofs.Same.{refusal-same, one-only}
 use Rattle.utf8.specs.Text.{lossy, sameText}
-use Rattle.utf8.specs.Promise.{SameText}
 use Rattle.plain.specs.declared.Compared.{Compared}
 use Rattle.plain.specs.declared.Compared.the-variants as c
 use Rattle.plain.specs.Promise.{compared, TextsLeft, SameTextPlain}
@@ -35,7 +34,7 @@ same-text-plain-unique a b r q aOld aNew aOther bOld bNew bOther p s =
 -- The two engines agree: of any two strings whose texts fit, what the plain one answers is what `same_text` answers.
 pub same-text-plain : (a b : List ℕ) (r : Bool) (q : Compared) (aOld aNew bOld bNew : List ℕ)
     → length (lossy a) ≤ length aOld → length (lossy b) ≤ length bOld
-    → SameText a b r → SameTextPlain a b q aOld aNew bOld bNew → q ≡ c.Done r
+    → r ≡ sameText a b → SameTextPlain a b q aOld aNew bOld bNew → q ≡ c.Done r
 unfolding sameText
 same-text-plain a b r q aOld aNew bOld bNew h g p s =
     compared-same q (c.Done r)

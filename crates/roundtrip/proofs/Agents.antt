@@ -21,12 +21,12 @@ use Rattle.parser.specs.declared.FrameRead.the-variants as v
 use Rattle.parser.specs.Promise.{ReadAgentFrame}
 use Rattle.writer.specs.Pair.{kvChecks}
 use Rattle.writer.specs.Frame.{headOf, limited, kvAllowed, pairsBytes, kvAnswer, actionsAnswer}
-use Rattle.writer.specs.Promise.{WriteKv, WriteActions}
 use Rattle.writer.proofs.Answers.{kv-list, list-metadata}
 use Rattle.roundtrip.proofs.Plain.{plainPair, wellPair, WellPairs, PlainPairs, plainAction, wellAction, WellActions, PlainActions}
 use Rattle.roundtrip.proofs.Head.{headAgain}
 use Rattle.roundtrip.proofs.Rewritten.{Rewrites, caller-refused, done-refused, wrote-back, wrote-none, wrote-other, wrote-only}
 use Rattle.roundtrip.proofs.Again.{Left, left, long, agent-kv, kv-rewrites, ack-rewrites}
+use Rattle.answer.specs.Writes.{Writes}
 
 -- ---- a frame that `read_agent_frame` accepted
 
@@ -55,7 +55,7 @@ module _ (limit : ℕ) (s : List ℕ) (small : Bytes s) (r : FrameRead) (oldPair
 
   -- and is written by `write_actions`
   module _ (ack : m .«frame_type» ≡ 103) (out : Written) (old new : List ℕ)
-      (writes : WriteActions true false (m .stream) (m .frame) limit f newActions rows out old new) where
+      (writes : Writes (actionsAnswer (headOf 103 true false (m .stream) (m .frame)) limit f newActions rows) out old new) where
     r-ack : Rewrites limit f (headOf 103 true false (m .stream) (m .frame)) (actionsAnswer (headOf 103 true false (m .stream) (m .frame)) limit f newActions rows) rows
         (λ i. wellAction f (actionAt newActions i)) (λ i. plainAction f (actionAt newActions i))
     r-ack = rw ack at (ack-rewrites l ack)
@@ -82,7 +82,7 @@ module _ (limit : ℕ) (s : List ℕ) (small : Bytes s) (r : FrameRead) (oldPair
 
   -- and is written by `write_kv`
   module _ (kv : m .«frame_type» ≡ 103 → ⊥) (out : Written) (old new : List ℕ)
-      (writes : WriteKv true false (m .stream) (m .frame) limit f (m .«frame_type») newPairs total out old new) where
+      (writes : Writes (kvAnswer (headOf (m .«frame_type») true false (m .stream) (m .frame)) limit f newPairs total) out old new) where
     may : kvAllowed head ≡ eqb (m .stream) 0 && eqb (m .frame) 0
     may = agent-kv l kv .1
 

@@ -18,11 +18,11 @@ use Rattle.parser.specs.declared.FrameRead.{FrameRead}
 use Rattle.parser.specs.declared.FrameRead.the-variants as v
 use Rattle.parser.specs.Promise.{ReadFrame}
 use Rattle.writer.specs.Frame.{headOf, kvAnswer, notifyAnswer}
-use Rattle.writer.specs.Promise.{WriteKv, WriteNotify}
 use Rattle.roundtrip.proofs.Plain.{plainPair, wellPair, wellName, WellPairs, WellNames, PlainPairs}
 use Rattle.roundtrip.proofs.Head.{headAgain}
 use Rattle.roundtrip.proofs.Rewritten.{Rewrites, caller-refused, done-refused, first-or-all, wrote-back, wrote-none, wrote-other, wrote-only}
 use Rattle.roundtrip.proofs.Again.{Left, left, long, haproxy-kv, kv-rewrites, notify-refuses-name, notify-rewrites}
+use Rattle.answer.specs.Writes.{Writes}
 
 -- ---- a frame that `read_frame` accepted
 
@@ -51,7 +51,7 @@ module _ (limit : ℕ) (s : List ℕ) (small : Bytes s) (r : FrameRead) (oldMess
 
   -- and is written by `write_kv`
   module _ (kv : m .«frame_type» ≡ 3 → ⊥) (out : Written) (old new : List ℕ)
-      (writes : WriteKv true false (m .stream) (m .frame) limit f (m .«frame_type») newPairs total out old new) where
+      (writes : Writes (kvAnswer (headOf (m .«frame_type») true false (m .stream) (m .frame)) limit f newPairs total) out old new) where
     r-kv : Rewrites limit f head (kvAnswer head limit f newPairs total) total (λ i. wellPair f (pairAt newPairs i)) (λ i. plainPair f (pairAt newPairs i))
     r-kv = let k = haproxy-kv l kv in kv-rewrites l (k .0) (k .1)
 
@@ -76,7 +76,7 @@ module _ (limit : ℕ) (s : List ℕ) (small : Bytes s) (r : FrameRead) (oldMess
 
   -- and is written by `write_notify`
   module _ (notify : m .«frame_type» ≡ 3) (out : Written) (old new : List ℕ)
-      (writes : WriteNotify true false (m .stream) (m .frame) limit f newMessages rows newPairs total out old new) where
+      (writes : Writes (notifyAnswer (headOf 3 true false (m .stream) (m .frame)) limit f newMessages rows newPairs total) out old new) where
     module _ (ns : WellNames f newMessages rows) where
       r-notify : Rewrites limit f (headOf 3 true false (m .stream) (m .frame)) (notifyAnswer (headOf 3 true false (m .stream) (m .frame)) limit f newMessages rows newPairs total) total
           (λ i. wellPair f (pairAt newPairs i)) (λ i. plainPair f (pairAt newPairs i))

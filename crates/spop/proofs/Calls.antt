@@ -20,9 +20,7 @@ use Rattle.frame.specs.Records.{messageWidth, pairWidth, actionWidth}
 use Rattle.writer.specs.Pair.{kvChecks}
 use Rattle.writer.specs.Inner.{pairOrder, actionOrder, messageOrder}
 use Rattle.writer.specs.Frame.{headOf, limited, finAlone, kvAllowed, pairsBytes, kvAnswer, actionsBytes, actionsAnswer, messagesBytes, notifyAnswer}
-use Rattle.writer.specs.Promise.{WriteKv, WriteActions, WriteNotify}
 use Rattle.spop.specs.Told.{Told, Left}
-use Rattle.spop.specs.Promise.{SpopWriteKv, SpopWriteActions, SpopWriteNotify}
 
 -- ---- no refusal has the number 0
 
@@ -80,20 +78,20 @@ zero-writes a {at} {old} h t = record { says = by-answer (within (length old) a)
     by-answer (refused number place) h t = absurd (h (sym (t .says)))
 
 module _ (fin abort : Bool) (stream frame limit : ℕ) (buffer : List ℕ) (at : ℕ) (old new : List ℕ) where
-  pub actions-call : (actions : List ℕ) (count : ℕ) → SpopWriteActions fin abort stream frame limit buffer actions count 0 at old new
-      → WriteActions fin abort stream frame limit buffer actions count (w.Done at) old new
+  pub actions-call : (actions : List ℕ) (count : ℕ) → Left (actionsAnswer (headOf 103 fin abort stream frame) limit buffer actions count) 0 at old new
+      → Writes (actionsAnswer (headOf 103 fin abort stream frame) limit buffer actions count) (w.Done at) old new
   actions-call actions count p =
       let h = headOf 103 fin abort stream frame in
       zero-writes (actionsAnswer h limit buffer actions count) (actions-numbered h limit buffer actions count) p
 
-  pub kv-call : (type : ℕ) (pairs : List ℕ) (count : ℕ) → SpopWriteKv fin abort stream frame limit buffer type pairs count 0 at old new
-      → WriteKv fin abort stream frame limit buffer type pairs count (w.Done at) old new
+  pub kv-call : (type : ℕ) (pairs : List ℕ) (count : ℕ) → Left (kvAnswer (headOf type fin abort stream frame) limit buffer pairs count) 0 at old new
+      → Writes (kvAnswer (headOf type fin abort stream frame) limit buffer pairs count) (w.Done at) old new
   kv-call type pairs count p =
       let h = headOf type fin abort stream frame in
       zero-writes (kvAnswer h limit buffer pairs count) (kv-numbered h limit buffer pairs count) p
 
-  pub notify-call : (messages : List ℕ) (count : ℕ) (pairs : List ℕ) (total : ℕ) → SpopWriteNotify fin abort stream frame limit buffer messages count pairs total 0 at old new
-      → WriteNotify fin abort stream frame limit buffer messages count pairs total (w.Done at) old new
+  pub notify-call : (messages : List ℕ) (count : ℕ) (pairs : List ℕ) (total : ℕ) → Left (notifyAnswer (headOf 3 fin abort stream frame) limit buffer messages count pairs total) 0 at old new
+      → Writes (notifyAnswer (headOf 3 fin abort stream frame) limit buffer messages count pairs total) (w.Done at) old new
   notify-call messages count pairs total p =
       let h = headOf 3 fin abort stream frame in
       zero-writes (notifyAnswer h limit buffer messages count pairs total) (notify-numbered h limit buffer messages count pairs total) p

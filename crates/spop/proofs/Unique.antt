@@ -14,16 +14,21 @@ use Rattle.frame.specs.declared.Pair.{Pair}
 use Rattle.frame.specs.declared.Side.{Side}
 use Rattle.frame.specs.Read.{Reading}
 use Rattle.payload.specs.Payload.{Contents}
-use Rattle.spop.specs.Told.{numberOf, atOf, valueOr, Told}
-use Rattle.spop.specs.Promise.{FrameTold, SpopVarintLen, SpopEncodeVarint, SpopDecodeVarint, SpopIsUtf8, SpopSameText, SpopSameTextPlain, SpopLossyText, SpopTypedData, SpopValueLen, SpopCheckValue, SpopWriteValue, SpopReadPair, SpopReadFrame, SpopReadFrameRecords, SpopReadAgentFrame, SpopWriteKv, SpopWriteActions, SpopWriteNotify, SpopNegotiateMaxFrameSize, SpopNegotiateVersion}
+use Rattle.spop.specs.Told.{numberOf, atOf, valueOr, Told, Left}
+use Rattle.spop.specs.Promise.{FrameTold, SpopDecodeVarint, SpopSameTextPlain, SpopTypedData, SpopReadPair, SpopReadFrame, SpopReadFrameRecords, SpopReadAgentFrame, SpopNegotiateVersion}
 
-told-unique : {A : Type 0} {a : Answer A} {r q at also : ℕ} → Told a r at → Told a q also → (r ≡ q) × (at ≡ also)
+-- of a call that tells an answer
+pub told-unique : {A : Type 0} {a : Answer A} {r q at also : ℕ} → Told a r at → Told a q also → (r ≡ q) × (at ≡ also)
 told-unique p q = (one-only (p .says) (q .says), one-only (p .where-at) (q .where-at))
 
 -- of any call that tells an answer and leaves something in what else was lent to it
 call-unique : {A B : Type 0} {a : Answer A} {x y left : B} {r q at also : ℕ}
     → Told a r at × (x ≡ left) → Told a q also × (y ≡ left) → (r ≡ q) × (at ≡ also) × (x ≡ y)
 call-unique p q = let t = told-unique (p .0) (q .0) in (t .0, t .1, one-only (p .1) (q .1))
+
+-- of any writer
+pub left-unique : {a : Answer (List ℕ)} {r q at also : ℕ} {old new other : List ℕ} → Left a r at old new → Left a q also old other → (r ≡ q) × (at ≡ also) × (new ≡ other)
+left-unique p q = call-unique p q
 
 -- of both frame readers: the head's numbers, and the numbers in each table
 frame-unique : {side : Side} {x : Reading (Head × Contents)} {r q at also : ℕ} {before head other om nm om′ op np op′ oa na oa′ : List ℕ}
@@ -36,33 +41,14 @@ frame-unique p s = (
   one-only (p .fills .actions) (s .fills .actions),
 )
 
-pub spop-varint-len-unique : (n r q : ℕ) → SpopVarintLen n r → SpopVarintLen n q → r ≡ q
-spop-varint-len-unique n r q p s = one-only p s
-
-pub spop-is-utf8-unique : (bytes : List ℕ) (r q : Bool) → SpopIsUtf8 bytes r → SpopIsUtf8 bytes q → r ≡ q
-spop-is-utf8-unique bytes r q p s = one-only p s
-
-pub spop-same-text-unique : (a b : List ℕ) (r q : Bool) → SpopSameText a b r → SpopSameText a b q → r ≡ q
-spop-same-text-unique a b r q p s = one-only p s
-
 -- both calls that compare keys agree, of any two strings whose texts fit
 pub spop-same-text-plain : (a b : List ℕ) (one two before : Bool) (r at : ℕ) (aOld aNew bOld bNew : List ℕ)
     → length (lossy a) ≤ length aOld → length (lossy b) ≤ length bOld
-    → SpopSameText a b one → SpopSameTextPlain a b r at before two aOld aNew bOld bNew → (r ≡ 0) × (at ≡ 0) × (two ≡ one)
+    → one ≡ sameText a b → SpopSameTextPlain a b r at before two aOld aNew bOld bNew → (r ≡ 0) × (at ≡ 0) × (two ≡ one)
 unfolding sameText
 spop-same-text-plain a b one two before r at aOld aNew bOld bNew h g p s =
     let e = both-fit a b aOld bOld _ h g in
     (s .told .says ∙ ap numberOf e, s .told .where-at ∙ ap atOf e, s .value ∙ ap (λ (x : Answer Bool). valueOr (λ b. b) x before) e ∙ sym p)
-
-pub spop-value-len-unique : (value buffer : List ℕ) (r q : ℕ) → SpopValueLen value buffer r → SpopValueLen value buffer q → r ≡ q
-spop-value-len-unique value buffer r q p s = one-only p s
-
-pub spop-check-value-unique : (value buffer : List ℕ) (r q : ℕ) → SpopCheckValue value buffer r → SpopCheckValue value buffer q → r ≡ q
-spop-check-value-unique value buffer r q p s = one-only p s
-
-pub spop-negotiate-max-frame-size-unique : (theirs ours r q at also : ℕ)
-    → SpopNegotiateMaxFrameSize theirs ours r at → SpopNegotiateMaxFrameSize theirs ours q also → (r ≡ q) × (at ≡ also)
-spop-negotiate-max-frame-size-unique theirs ours r q at also p s = told-unique p s
 
 pub spop-negotiate-version-unique : (versions : List ℕ) (r q : Bool) (before version other : List ℕ)
     → SpopNegotiateVersion versions r before version → SpopNegotiateVersion versions q before other → (r ≡ q) × (version ≡ other)
@@ -112,34 +98,3 @@ module _ (r q at also : ℕ) where
   spop-read-agent-frame-unique input limit before head other oldPairs newPairs otherPairs oldActions newActions otherActions p s =
       let u = frame-unique p s in
       (u .0 .0, u .0 .1, u .0 .2, u .2, u .3)
-
--- the writers
-module _ (r q at also : ℕ) (old new other : List ℕ) where
-  pub spop-encode-varint-unique : (n : ℕ) → SpopEncodeVarint n r at old new → SpopEncodeVarint n q also old other → (r ≡ q) × (at ≡ also) × (new ≡ other)
-  spop-encode-varint-unique n p s = call-unique p s
-
-  pub spop-lossy-text-unique : (bytes : List ℕ) → SpopLossyText bytes r at old new → SpopLossyText bytes q also old other → (r ≡ q) × (at ≡ also) × (new ≡ other)
-  spop-lossy-text-unique bytes p s = call-unique p s
-
-  pub spop-write-value-unique : (value buffer : List ℕ)
-      → SpopWriteValue value buffer r at old new → SpopWriteValue value buffer q also old other → (r ≡ q) × (at ≡ also) × (new ≡ other)
-  spop-write-value-unique value buffer p s = call-unique p s
-
-  module _ (fin abort : Bool) (stream frame limit : ℕ) (buffer : List ℕ) where
-    pub spop-write-kv-unique : (type : ℕ) (pairs : List ℕ) (count : ℕ)
-        → SpopWriteKv fin abort stream frame limit buffer type pairs count r at old new
-        → SpopWriteKv fin abort stream frame limit buffer type pairs count q also old other
-        → (r ≡ q) × (at ≡ also) × (new ≡ other)
-    spop-write-kv-unique type pairs count p s = call-unique p s
-
-    pub spop-write-actions-unique : (actions : List ℕ) (count : ℕ)
-        → SpopWriteActions fin abort stream frame limit buffer actions count r at old new
-        → SpopWriteActions fin abort stream frame limit buffer actions count q also old other
-        → (r ≡ q) × (at ≡ also) × (new ≡ other)
-    spop-write-actions-unique actions count p s = call-unique p s
-
-    pub spop-write-notify-unique : (messages : List ℕ) (count : ℕ) (pairs : List ℕ) (total : ℕ)
-        → SpopWriteNotify fin abort stream frame limit buffer messages count pairs total r at old new
-        → SpopWriteNotify fin abort stream frame limit buffer messages count pairs total q also old other
-        → (r ≡ q) × (at ≡ also) × (new ≡ other)
-    spop-write-notify-unique messages count pairs total p s = call-unique p s

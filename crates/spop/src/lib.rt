@@ -26,22 +26,31 @@ ghost use Rattle.types.specs.Promise.{recordOf};
 ghost use Rattle.frame.specs.Read.{Reading};
 ghost use Rattle.payload.specs.Payload.{Contents};
 ghost use Rattle.parser.specs.Promise.{frameSaid, frameTells};
-ghost use Rattle.spop.specs.Told.{Told};
+ghost use Rattle.spop.specs.Told.{Told, Left};
 ghost use Rattle.spop.specs.Values.{recordIn, headNumbers};
-ghost use Rattle.spop.specs.Promise.{HeadTold, SpopVarintLen, SpopEncodeVarint, SpopDecodeVarint, SpopIsUtf8, SpopSameText, SpopSameTextPlain, SpopLossyText, SpopTypedData, SpopValueLen, SpopCheckValue, SpopWriteValue, SpopReadPair, SpopReadFrame, SpopReadFrameRecords, SpopReadAgentFrame, SpopWriteKv, SpopWriteActions, SpopWriteNotify, SpopNegotiateMaxFrameSize, SpopNegotiateVersion};
+ghost use Rattle.spop.specs.Promise.{HeadTold, SpopDecodeVarint, SpopSameTextPlain, SpopTypedData, SpopReadPair, SpopReadFrame, SpopReadFrameRecords, SpopReadAgentFrame, SpopNegotiateVersion};
+ghost use Rattle.types.specs.Form.{valueAnswer, lengthOf};
+ghost use Rattle.utf8.specs.Text.{isUtf8, sameText, lossy};
+ghost use Rattle.hello.specs.Hello.{frameSize};
+ghost use Rattle.answer.specs.Answer.{written};
+ghost use Rattle.answer.specs.Order.{inOrder};
+ghost use Rattle.types.specs.Check.{valueChecks};
+ghost use Rattle.varint.specs.Number.{numberBytes};
+ghost use lib.ListN.{length};
+ghost use Rattle.writer.specs.Frame.{headOf, actionsAnswer, notifyAnswer, kvAnswer};
 
 const DONE: u64 = 0;
 
 #[no_mangle]
 pub extern "C" fn spop_varint_len(n: u64) -> u64
-    ensures { λ r. ⌜ SpopVarintLen n r ⌝ }
+    ensures { λ r. ⌜ r ≡ length (numberBytes n) ⌝ }
 {
     varint::varint_len(n) as u64
 }
 
 #[no_mangle]
 pub extern "C" fn spop_encode_varint(n: u64, out: &mut [u8], at: &mut u64) -> u64
-    ensures { λ r. ⌜ SpopEncodeVarint n r (now (at .exit)) (now (out .entry)) (now (out .exit)) ⌝ }
+    ensures { λ r. ⌜ Left (written (numberBytes n)) r (now (at .exit)) (now (out .entry)) (now (out .exit)) ⌝ }
 {
     let answer = varint::encode_varint(n, out);
     tell(answer, at)
@@ -63,14 +72,14 @@ pub extern "C" fn spop_decode_varint(input: &[u8], value: &mut u64, at: &mut u64
 
 #[no_mangle]
 pub extern "C" fn spop_is_utf8(bytes: &[u8]) -> bool
-    ensures { λ r. ⌜ SpopIsUtf8 (now (bytes .entry)) r ⌝ }
+    ensures { λ r. ⌜ r ≡ isUtf8 (now (bytes .entry)) ⌝ }
 {
     utf8::is_utf8(bytes)
 }
 
 #[no_mangle]
 pub extern "C" fn spop_same_text(a: &[u8], b: &[u8]) -> bool
-    ensures { λ r. ⌜ SpopSameText (now (a .entry)) (now (b .entry)) r ⌝ }
+    ensures { λ r. ⌜ r ≡ sameText (now (a .entry)) (now (b .entry)) ⌝ }
 {
     utf8::same_text(a, b)
 }
@@ -98,7 +107,7 @@ pub extern "C" fn spop_same_text_plain(
 
 #[no_mangle]
 pub extern "C" fn spop_lossy_text(bytes: &[u8], out: &mut [u8], at: &mut u64) -> u64
-    ensures { λ r. ⌜ SpopLossyText (now (bytes .entry)) r (now (at .exit)) (now (out .entry)) (now (out .exit)) ⌝ }
+    ensures { λ r. ⌜ Left (written (lossy (now (bytes .entry)))) r (now (at .exit)) (now (out .entry)) (now (out .exit)) ⌝ }
 {
     let answer = utf8::lossy_text(bytes, out);
     tell(answer, at)
@@ -120,14 +129,14 @@ pub extern "C" fn spop_typed_data(input: &[u8], value: &mut [u64; VALUE_WIDTH], 
 
 #[no_mangle]
 pub extern "C" fn spop_value_len(value: &[u64; VALUE_WIDTH], buffer: &[u8]) -> u64
-    ensures { λ r. ⌜ SpopValueLen (now (value .entry)) (now (buffer .entry)) r ⌝ }
+    ensures { λ r. ⌜ r ≡ lengthOf (valueAnswer (now (buffer .entry)) (recordIn (now (value .entry)))) ⌝ }
 {
     types::value_len(value_of(value), buffer) as u64
 }
 
 #[no_mangle]
 pub extern "C" fn spop_check_value(value: &[u64; VALUE_WIDTH], buffer: &[u8]) -> u64
-    ensures { λ r. ⌜ SpopCheckValue (now (value .entry)) (now (buffer .entry)) r ⌝ }
+    ensures { λ r. ⌜ r ≡ inOrder (valueChecks (now (buffer .entry)) (recordIn (now (value .entry)))) 0 ⌝ }
 {
     types::check_value(value_of(value), buffer)
 }
@@ -139,7 +148,7 @@ pub extern "C" fn spop_write_value(
     out: &mut [u8],
     at: &mut u64,
 ) -> u64
-    ensures { λ r. ⌜ SpopWriteValue (now (value .entry)) (now (buffer .entry)) r (now (at .exit)) (now (out .entry)) (now (out .exit)) ⌝ }
+    ensures { λ r. ⌜ Left (valueAnswer (now (buffer .entry)) (recordIn (now (value .entry)))) r (now (at .exit)) (now (out .entry)) (now (out .exit)) ⌝ }
 {
     let answer = types::write_value(value_of(value), buffer, out);
     tell(answer, at)
@@ -239,7 +248,7 @@ pub extern "C" fn spop_write_kv(
     out: &mut [u8],
     at: &mut u64,
 ) -> u64
-    ensures { λ r. ⌜ SpopWriteKv fin abort «stream_id» «frame_id» limit (now (buffer .entry)) kind (now (pairs .entry)) «pair_count» r (now (at .exit)) (now (out .entry)) (now (out .exit)) ⌝ }
+    ensures { λ r. ⌜ Left (kvAnswer (headOf kind fin abort «stream_id» «frame_id») limit (now (buffer .entry)) (now (pairs .entry)) «pair_count») r (now (at .exit)) (now (out .entry)) (now (out .exit)) ⌝ }
 {
     let answer = writer::write_kv(
         kind,
@@ -269,7 +278,7 @@ pub extern "C" fn spop_write_actions(
     out: &mut [u8],
     at: &mut u64,
 ) -> u64
-    ensures { λ r. ⌜ SpopWriteActions fin abort «stream_id» «frame_id» limit (now (buffer .entry)) (now (actions .entry)) «action_count» r (now (at .exit)) (now (out .entry)) (now (out .exit)) ⌝ }
+    ensures { λ r. ⌜ Left (actionsAnswer (headOf 103 fin abort «stream_id» «frame_id») limit (now (buffer .entry)) (now (actions .entry)) «action_count») r (now (at .exit)) (now (out .entry)) (now (out .exit)) ⌝ }
 {
     let answer = writer::write_actions(
         fin,
@@ -300,7 +309,7 @@ pub extern "C" fn spop_write_notify(
     out: &mut [u8],
     at: &mut u64,
 ) -> u64
-    ensures { λ r. ⌜ SpopWriteNotify fin abort «stream_id» «frame_id» limit (now (buffer .entry)) (now (messages .entry)) «message_count» (now (pairs .entry)) «pair_count» r (now (at .exit)) (now (out .entry)) (now (out .exit)) ⌝ }
+    ensures { λ r. ⌜ Left (notifyAnswer (headOf 3 fin abort «stream_id» «frame_id») limit (now (buffer .entry)) (now (messages .entry)) «message_count» (now (pairs .entry)) «pair_count») r (now (at .exit)) (now (out .entry)) (now (out .exit)) ⌝ }
 {
     let answer = writer::write_notify(
         fin,
@@ -320,7 +329,7 @@ pub extern "C" fn spop_write_notify(
 
 #[no_mangle]
 pub extern "C" fn spop_negotiate_max_frame_size(theirs: u32, ours: u32, at: &mut u64) -> u64
-    ensures { λ r. ⌜ SpopNegotiateMaxFrameSize theirs ours r (now (at .exit)) ⌝ }
+    ensures { λ r. ⌜ Told (frameSize theirs ours) r (now (at .exit)) ⌝ }
 {
     match hello::negotiate_max_frame_size(theirs, ours) {
         Size::Agreed(n) => {

@@ -6,17 +6,13 @@ use Rattle.types.specs.declared.ValueRead.{ValueRead}
 use Rattle.types.specs.declared.ValueRead.the-variants as v
 use Rattle.types.specs.declared.Measured.{Measured}
 use mathlib.Core.Path.{_≡_}
-use mathlib.Core.Bool.{Bool}
 use mathlib.Core.List.{List}
 use Prim.Native.Nat.{ℕ}
-use lib.ListN.{length}
-use Rattle.answer.specs.declared.Written.{Written}
-use Rattle.answer.specs.Answer.{Answer, done, refused, written, within}
-use Rattle.answer.specs.Writes.{Writes}
+use Rattle.answer.specs.Answer.{Answer, done, refused, written}
 use Rattle.answer.specs.Order.{inOrder, linesAt}
 use Rattle.types.specs.Value.{Span, span, string, Record, value, typed}
-use Rattle.types.specs.Form.{stringBytes, valueBytes, writableRecord, valueAnswer, lengthOf}
-use Rattle.types.specs.Check.{stringChecks, partChecks, valueChecks}
+use Rattle.types.specs.Form.{valueBytes, lengthOf}
+use Rattle.types.specs.Check.{valueChecks}
 
 -- what the string reader's answer says
 abbrev pub stringSaid : StringRead → Answer Span
@@ -40,32 +36,8 @@ ReadString input r = stringSaid r ≡ string input
 abbrev pub TypedData : List ℕ → ValueRead → Type 0
 TypedData input r = valueSaid r ≡ typed input
 
--- whether it is not 14
-abbrev pub Writable : Value → Bool → Type 0
-Writable v r = r ≡ writableRecord (recordOf v)
-
--- the number that a string is refused with, or a value past 14, or a value; 0 for none
-abbrev pub CheckString : ℕ → ℕ → List ℕ → ℕ → Type 0
-CheckString start len buffer r = r ≡ inOrder (stringChecks buffer start len) 0
-
-abbrev pub CheckPart : Value → List ℕ → ℕ → Type 0
-CheckPart v buffer r = r ≡ inOrder (partChecks buffer (recordOf v)) 0
-
-abbrev pub CheckValue : Value → List ℕ → ℕ → Type 0
-CheckValue v buffer r = r ≡ inOrder (valueChecks buffer (recordOf v)) 0
-
-abbrev pub ValueLen : Value → List ℕ → ℕ → Type 0
-ValueLen v buffer r = r ≡ lengthOf (valueAnswer buffer (recordOf v))
-
 -- both the number and the length, 0 where there is a number
 abbrev pub MeasureValue : Value → List ℕ → Measured → Type 0
 MeasureValue v buffer r =
     (r .number ≡ inOrder (valueChecks buffer (recordOf v)) 0)
     × (r .len ≡ lengthOf (inOrder (linesAt 0 (valueChecks buffer (recordOf v))) (written (valueBytes buffer (recordOf v)))))
-
--- what is written at the front of old, which is new afterwards
-abbrev pub WriteString : List ℕ → Written → List ℕ → List ℕ → Type 0
-WriteString text r old new = Writes (written (stringBytes text)) r old new
-
-abbrev pub WriteValue : Value → List ℕ → Written → List ℕ → List ℕ → Type 0
-WriteValue v buffer r old new = Writes (valueAnswer buffer (recordOf v)) r old new

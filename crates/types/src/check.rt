@@ -7,12 +7,14 @@ ghost use mathlib.Core.Path.{_≡_};
 ghost use mathlib.Core.Bool.{_&&_};
 ghost use Prim.Native.Nat.{_<_};
 ghost use Rattle.types.specs.Value.{shape, inFields, inFlags};
-ghost use Rattle.types.specs.Form.{inside, ranged};
-ghost use Rattle.types.specs.Promise.{recordOf, Writable, CheckString, CheckPart, CheckValue};
+ghost use Rattle.types.specs.Form.{inside, ranged, writableRecord};
+ghost use Rattle.types.specs.Promise.{recordOf};
+ghost use Rattle.answer.specs.Order.{inOrder};
+ghost use Rattle.types.specs.Check.{valueChecks, partChecks, stringChecks};
 
 // Whether a value's numbers lie in their fields: where not, it is 14.
 pub fn writable(value: Value) -> bool
-    ensures { λ r. ⌜ Writable value r ⌝ }
+    ensures { λ r. ⌜ r ≡ writableRecord (recordOf value) ⌝ }
 {
     let kind = value.kind;
     if 16 <= value.flags {
@@ -83,7 +85,7 @@ pub(crate) fn part_inside(start: u64, len: u64, buffer: &[u8]) -> bool
 
 // What a string that a record points at is refused with: 16 outside the buffer, 15 where it is not UTF-8; else 0.
 pub fn check_string(start: u64, len: u64, buffer: &[u8]) -> u64
-    ensures { λ r. ⌜ CheckString start len (now (buffer .entry)) r ⌝ }
+    ensures { λ r. ⌜ r ≡ inOrder (stringChecks (now (buffer .entry)) start len) 0 ⌝ }
 {
     if !part_inside(start, len, buffer) {
         return OUTSIDE;
@@ -98,7 +100,7 @@ pub fn check_string(start: u64, len: u64, buffer: &[u8]) -> u64
 
 // What a value is refused with past 14: its range, and the text of a string.
 pub fn check_part(value: Value, buffer: &[u8]) -> u64
-    ensures { λ r. ⌜ CheckPart value (now (buffer .entry)) r ⌝ }
+    ensures { λ r. ⌜ r ≡ inOrder (partChecks (now (buffer .entry)) (recordOf value)) 0 ⌝ }
 {
     if value.kind == 8 {
         return check_string(value.a, value.b, buffer);
@@ -111,7 +113,7 @@ pub fn check_part(value: Value, buffer: &[u8]) -> u64
 
 // What a value is refused with: 14, 16 or 15, the first of these that holds; else 0.
 pub fn check_value(value: Value, buffer: &[u8]) -> u64
-    ensures { λ r. ⌜ CheckValue value (now (buffer .entry)) r ⌝ }
+    ensures { λ r. ⌜ r ≡ inOrder (valueChecks (now (buffer .entry)) (recordOf value)) 0 ⌝ }
 {
     if !writable(value) {
         return NOT_WRITABLE;

@@ -19,13 +19,14 @@ ghost use lib.ListN.{length};
 ghost use Rattle.answer.specs.Answer.{written, leaves};
 ghost use Rattle.varint.specs.Number.{numberBytes};
 ghost use Rattle.types.specs.Value.{address, shape};
-ghost use Rattle.types.specs.Form.{stringBytes, dataBytes, typeOf, writableRecord};
-ghost use Rattle.types.specs.Promise.{recordOf, ValueLen, MeasureValue, WriteString, WriteValue};
+ghost use Rattle.types.specs.Form.{stringBytes, dataBytes, typeOf, writableRecord, valueAnswer, lengthOf};
+ghost use Rattle.types.specs.Promise.{recordOf, MeasureValue};
 ghost use Rattle.types.specs.Inner.{Puts, PutsValue, WhyNot, block};
+ghost use Rattle.answer.specs.Writes.{Writes};
 
 // How many bytes the written form of a value has; 0 where it has none.
 pub fn value_len(value: Value, buffer: &[u8]) -> usize
-    ensures { λ r. ⌜ ValueLen value (now (buffer .entry)) r ⌝ }
+    ensures { λ r. ⌜ r ≡ lengthOf (valueAnswer (now (buffer .entry)) (recordOf value)) ⌝ }
 {
     if !writable(value) {
         return 0;
@@ -72,7 +73,7 @@ fn form_len(value: Value) -> usize
 
 // Writes a string at the front of `out`: its length number and its bytes.
 pub fn write_string(text: &[u8], out: &mut [u8]) -> Written
-    ensures { λ r. ⌜ WriteString (now (text .entry)) r (now (out .entry)) (now (out .exit)) ⌝ }
+    ensures { λ r. ⌜ Writes (written (stringBytes (now (text .entry)))) r (now (out .entry)) (now (out .exit)) ⌝ }
 {
     if !string_fits(text, out.len()) {
         return Written::Refused(Refusal {
@@ -99,7 +100,7 @@ fn string_fits(text: &[u8], room: usize) -> bool
 
 // Writes a value at the front of `out`. It refuses what has no written form; whether a string is UTF-8 is not its to ask.
 pub fn write_value(value: Value, buffer: &[u8], out: &mut [u8]) -> Written
-    ensures { λ r. ⌜ WriteValue value (now (buffer .entry)) r (now (out .entry)) (now (out .exit)) ⌝ }
+    ensures { λ r. ⌜ Writes (valueAnswer (now (buffer .entry)) (recordOf value)) r (now (out .entry)) (now (out .exit)) ⌝ }
 {
     let n = put_value(value, buffer, out);
     if n == 0 {

@@ -1,5 +1,4 @@
--- Laws about text: the table, its steps, lossy text, ASCII, texts that are the same, what each walk over a text needs, and that no
--- second result meets a promise.
+-- Laws about text: the table, its steps, lossy text, ASCII, texts that are the same, and what each walk over a text needs.
 pub mod Table
 pub mod Stepping
 pub mod Lossy
@@ -8,4 +7,3 @@ pub mod Fitting
 pub mod Same
 pub mod Advance
 pub mod Walk
-pub mod Unique

@@ -9,12 +9,11 @@ ghost use mathlib.Core.Bool.{true, _&&_};
 ghost use Prim.Native.Nat.{_+_, _≤_};
 ghost use lib.ListN.{length, take};
 ghost use Rattle.utf8.specs.Text.{stepSize, becomes, sameBytes, sameText};
-ghost use Rattle.utf8.specs.Promise.{SameText};
 ghost use Rattle.utf8.specs.Inner.{seen, ascii, Walks};
 
 // Whether the lossy texts are the same.
 pub fn same_text(a: &[u8], b: &[u8]) -> bool
-    ensures { λ r. ⌜ SameText (now (a .entry)) (now (b .entry)) r ⌝ }
+    ensures { λ r. ⌜ r ≡ sameText (now (a .entry)) (now (b .entry)) ⌝ }
 {
     // The same bytes have the same lossy text, and a comparison of blocks tells them.
     if surely_same(a, b) {

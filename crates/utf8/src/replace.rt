@@ -11,12 +11,12 @@ ghost use lib.ListN.{length};
 ghost use lib.Dec.{leb};
 ghost use Rattle.answer.specs.Answer.{written, leaves};
 ghost use Rattle.utf8.specs.Text.{stepSize, becomes, lossy};
-ghost use Rattle.utf8.specs.Promise.{HasRoom, LossyText};
 ghost use Rattle.utf8.specs.Inner.{seen, textSize};
+ghost use Rattle.answer.specs.Writes.{Writes};
 
 // Writes the lossy text of the bytes at the front of `out`.
 pub fn lossy_text(bytes: &[u8], out: &mut [u8]) -> Written
-    ensures { λ r. ⌜ LossyText (now (bytes .entry)) r (now (out .entry)) (now (out .exit)) ⌝ }
+    ensures { λ r. ⌜ Writes (written (lossy (now (bytes .entry)))) r (now (out .entry)) (now (out .exit)) ⌝ }
 {
     if bytes.len() <= out.len() {
         if surely_utf8(bytes) {
@@ -29,7 +29,7 @@ pub fn lossy_text(bytes: &[u8], out: &mut [u8]) -> Written
 
 // The same, step by step.
 fn lossy_steps(bytes: &[u8], out: &mut [u8]) -> Written
-    ensures { λ r. ⌜ LossyText (now (bytes .entry)) r (now (out .entry)) (now (out .exit)) ⌝ }
+    ensures { λ r. ⌜ Writes (written (lossy (now (bytes .entry)))) r (now (out .entry)) (now (out .exit)) ⌝ }
 {
     if !has_room(bytes, out.len()) {
         return Written::Refused(Refusal {
@@ -43,7 +43,7 @@ fn lossy_steps(bytes: &[u8], out: &mut [u8]) -> Written
 
 // Whether so many bytes are enough for the lossy text.
 pub fn has_room(bytes: &[u8], room: usize) -> bool
-    ensures { λ r. ⌜ HasRoom (now (bytes .entry)) room r ⌝ }
+    ensures { λ r. ⌜ r ≡ leb (length (lossy (now (bytes .entry)))) room ⌝ }
 {
     // A byte becomes at most three.
     if bytes.len() <= room / 3 {

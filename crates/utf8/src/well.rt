@@ -7,12 +7,11 @@ ghost use mathlib.Core.Bool.{true};
 ghost use Prim.Native.Nat.{_+_, _≤_};
 ghost use lib.ListN.{length};
 ghost use Rattle.utf8.specs.Text.{isUtf8};
-ghost use Rattle.utf8.specs.Promise.{IsUtf8};
 ghost use Rattle.utf8.specs.Inner.{Fits, FitTo, FirstFit, EndsWhole};
 
 // Whether the bytes are well-formed UTF-8.
 pub fn is_utf8(bytes: &[u8]) -> bool
-    ensures { λ r. ⌜ IsUtf8 (now (bytes .entry)) r ⌝ }
+    ensures { λ r. ⌜ r ≡ isUtf8 (now (bytes .entry)) ⌝ }
 {
     if surely_utf8(bytes) {
         return true;

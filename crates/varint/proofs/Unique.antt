@@ -3,11 +3,10 @@ use mathlib.Core.Path.{_≡_, ap}
 use mathlib.Core.List.{List}
 use Prim.Native.Nat.{ℕ}
 use native.Mathlib.Omega.{arith}
-use Rattle.answer.specs.declared.Written.{Written}
-use Rattle.answer.proofs.Same.{refusal-same, writes-unique, one-only}
+use Rattle.answer.proofs.Same.{refusal-same, one-only}
 use Rattle.varint.specs.declared.NumberRead.{NumberRead}
 use Rattle.varint.specs.declared.NumberRead.the-variants as n
-use Rattle.varint.specs.Promise.{numberSaid, VarintLen, EncodeVarint, DecodeVarint}
+use Rattle.varint.specs.Promise.{numberSaid, DecodeVarint}
 
 -- answers that say the same are the same
 pub numberSaid-same : (a b : NumberRead) → numberSaid a ≡ numberSaid b → a ≡ b
@@ -15,12 +14,6 @@ numberSaid-same (n.Done v u) (n.Done v′ u′) e = let p : v ≡ v′ = cc in l
 numberSaid-same (n.Done v u) (n.Refused q) e = let z : _≡_ {A = ℕ} 0 1 = cc in absurd (omega arith)
 numberSaid-same (n.Refused r) (n.Done v u) e = let z : _≡_ {A = ℕ} 0 1 = cc in absurd (omega arith)
 numberSaid-same (n.Refused r) (n.Refused q) e = ap n.Refused (refusal-same r q (cc) (cc))
-
-pub varint-len-unique : (i r q : ℕ) → VarintLen i r → VarintLen i q → r ≡ q
-varint-len-unique i r q p s = one-only p s
-
-pub encode-varint-unique : (i : ℕ) (r q : Written) (old new other : List ℕ) → EncodeVarint i r old new → EncodeVarint i q old other → (r ≡ q) × (new ≡ other)
-encode-varint-unique i r q old new other p s = writes-unique p s
 
 pub decode-varint-unique : (s : List ℕ) (r q : NumberRead) → DecodeVarint s r → DecodeVarint s q → r ≡ q
 decode-varint-unique s r q p o = numberSaid-same r q (one-only p o)

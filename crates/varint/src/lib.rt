@@ -11,8 +11,9 @@ ghost use mathlib.Core.Path.{_≡_};
 ghost use Prim.Native.Nat.{_≤_, _<_, _^_};
 ghost use lib.ListN.{length, drop};
 ghost use Rattle.answer.specs.Answer.{written, leaves};
-ghost use Rattle.varint.specs.Number.{more, groups};
-ghost use Rattle.varint.specs.Promise.{numberSaid, VarintLen, EncodeVarint, DecodeVarint};
+ghost use Rattle.varint.specs.Number.{more, groups, numberBytes};
+ghost use Rattle.varint.specs.Promise.{numberSaid, DecodeVarint};
+ghost use Rattle.answer.specs.Writes.{Writes};
 
 // What the number reader answers.
 pub enum NumberRead {
@@ -23,7 +24,7 @@ pub enum NumberRead {
 // How many bytes the written form of i has. From 240 on it is counted in steps of 16, whose bits, seven to a byte, leave two lengths: k and k + 1 bytes
 // behind the first. The longer one starts at 2^7 + 2^14 + ... + 2^7k steps, of which 127 128ths are 2^7k - 1.
 pub fn varint_len(i: u64) -> usize
-    ensures { λ r. ⌜ VarintLen i r ⌝ }
+    ensures { λ r. ⌜ r ≡ length (numberBytes i) ⌝ }
 {
     if i < 240 {
         return 1;
@@ -40,7 +41,7 @@ pub fn varint_len(i: u64) -> usize
 
 // Writes i at the front of `out`.
 pub fn encode_varint(i: u64, out: &mut [u8]) -> Written
-    ensures { λ r. ⌜ EncodeVarint i r (now (out .entry)) (now (out .exit)) ⌝ }
+    ensures { λ r. ⌜ Writes (written (numberBytes i)) r (now (out .entry)) (now (out .exit)) ⌝ }
 {
     // Ten bytes are always enough, and spare the measuring.
     if out.len() < 10 && out.len() < varint_len(i) {

@@ -3,20 +3,10 @@ use mathlib.Core.Path.{_≡_, sym, _∙_}
 use mathlib.Core.List.{List}
 use Prim.Native.Nat.{ℕ}
 use denote.Ref.{RefT}
-use Rattle.frame.specs.declared.Message.{Message}
 use Rattle.walker.specs.declared.Place.{Place}
 use Rattle.walker.specs.declared.Step.{Step}
 use Rattle.walker.specs.declared.Walker.{Walker}
-use Rattle.walker.specs.Promise.{KvOf, ArgumentsOf, StepFrom, New, Moved, Next}
-
-pub kv-of-unique : (frame : List ℕ) (r q : Place) → KvOf frame r → KvOf frame q → r ≡ q
-kv-of-unique frame r q p s = p ∙ sym s
-
-pub arguments-of-unique : (m : Message) (r q : Place) → ArgumentsOf m r → ArgumentsOf m q → r ≡ q
-arguments-of-unique m r q p s = p ∙ sym s
-
-pub step-from-unique : (frame : List ℕ) (place : Place) (r q : Step) → StepFrom frame place r → StepFrom frame place q → r ≡ q
-step-from-unique frame place r q p s = p ∙ sym s
+use Rattle.walker.specs.Promise.{New, Moved, Next}
 
 pub new-unique : (frame : RefT (List ℕ)) (place : Place) (r q : Walker) → New frame place r → New frame place q → r ≡ q
 new-unique frame place r q p s = p ∙ sym s

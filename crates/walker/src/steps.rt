@@ -6,8 +6,8 @@ use frame::Message;
 use payload::PairRead;
 use varint::NumberRead;
 ghost use mathlib.Core.Path.{_≡_};
-ghost use Rattle.walker.specs.Walk.{comes, afterPlace, walkStep, behindNumber};
-ghost use Rattle.walker.specs.Promise.{KvOf, ArgumentsOf, New, Moved, Next, StepFrom};
+ghost use Rattle.walker.specs.Walk.{comes, afterPlace, walkStep, behindNumber, argumentsPlace, kvOf};
+ghost use Rattle.walker.specs.Promise.{New, Moved, Next};
 
 // Where the number that stands at `at` ends; the end of the bytes where none does.
 fn behind_number(frame: &[u8], at: usize) -> usize
@@ -29,7 +29,7 @@ fn behind_number(frame: &[u8], at: usize) -> usize
 
 // The place of the KV list of a frame, which stands behind the numbers of its stream and of the frame in it.
 pub fn kv_of(frame: &[u8]) -> Place
-    ensures { λ r. ⌜ KvOf (now (frame .entry)) r ⌝ }
+    ensures { λ r. ⌜ r ≡ kvOf (now (frame .entry)) ⌝ }
 {
     Place {
         at: behind_number(frame, behind_number(frame, 9)),
@@ -40,7 +40,7 @@ pub fn kv_of(frame: &[u8]) -> Place
 
 // The place of a message's arguments, which stand behind its name and its count byte.
 pub fn arguments_of(message: Message) -> Place
-    ensures { λ r. ⌜ ArgumentsOf message r ⌝ }
+    ensures { λ r. ⌜ r ≡ argumentsPlace message ⌝ }
 {
     let start = message.start;
     let len = message.len;
@@ -129,7 +129,7 @@ pub fn next<'a>(w: Walker<'a>) -> Step
 
 // The step of a walker that is made for it: for callers that hold plain slices.
 pub fn step_from(frame: &[u8], place: Place) -> Step
-    ensures { λ r. ⌜ StepFrom (now (frame .entry)) place r ⌝ }
+    ensures { λ r. ⌜ r ≡ walkStep (now (frame .entry)) place ⌝ }
 {
     next(new(frame, place))
 }

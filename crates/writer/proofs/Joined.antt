@@ -19,12 +19,12 @@ use Rattle.writer.specs.Pair.{pairBytes}
 use Rattle.writer.specs.Action.{actionBytes}
 use Rattle.writer.specs.Message.{messageBytes}
 use Rattle.writer.specs.Frame.{headOf, kvAnswer, actionsAnswer, notifyAnswer}
-use Rattle.writer.specs.Promise.{WriteKv, WriteActions, WriteNotify}
 use Rattle.writer.proofs.Pairs.{formed-passed, kv-passed}
 use Rattle.writer.proofs.Messages.{all-ready}
 use Rattle.writer.proofs.Laws.{kv-accepted, kv-wrote, actions-accepted, actions-wrote, notify-accepted, notify-passed-records, notify-wrote}
 use Rattle.writer.proofs.Spelled.{Item, itemOf, itemAt, itemBytes, item-bytes, ItemOk, item-ok, item-some, item-front, Act, actOf, actBytes, act-bytes, ActOk, act-ok, act-some, act-front, Say, sayOf, sayBytes, say-bytes, SayOk, say-ok, say-some, say-front}
 use Rattle.writer.proofs.Payload.{Spelled, spelled, spelled-joined, spelled-apart, spelled-none}
+use Rattle.answer.specs.Writes.{Writes}
 
 -- ---- ACK frames
 
@@ -43,7 +43,7 @@ pub record AckCall : Type 0 where
   pub old : List ℕ
   pub new : List ℕ
   pub small : limit < 2 ^ 32
-  pub kept : WriteActions fin abort stream frame limit buffer actions count (w.Done n) old new
+  pub kept : Writes (actionsAnswer (headOf 103 fin abort stream frame) limit buffer actions count) (w.Done n) old new
 
 abbrev pub ackHead : AckCall → Head
 ackHead a = headOf 103 (a .fin) (a .abort) (a .stream) (a .frame)
@@ -119,7 +119,7 @@ pub record KvCall : Type 0 where
   pub old : List ℕ
   pub new : List ℕ
   pub small : limit < 2 ^ 32
-  pub kept : WriteKv fin abort stream frame limit buffer type pairs count (w.Done n) old new
+  pub kept : Writes (kvAnswer (headOf type fin abort stream frame) limit buffer pairs count) (w.Done n) old new
 
 abbrev pub kvHead : KvCall → Head
 kvHead a = headOf (a .type) (a .fin) (a .abort) (a .stream) (a .frame)
@@ -188,7 +188,7 @@ pub record NotifyCall : Type 0 where
   pub old : List ℕ
   pub new : List ℕ
   pub small : limit < 2 ^ 32
-  pub kept : WriteNotify fin abort stream frame limit buffer messages count pairs total (w.Done n) old new
+  pub kept : Writes (notifyAnswer (headOf 3 fin abort stream frame) limit buffer messages count pairs total) (w.Done n) old new
 
 abbrev pub notifyHead : NotifyCall → Head
 notifyHead a = headOf 3 (a .fin) (a .abort) (a .stream) (a .frame)

@@ -7,18 +7,18 @@ use native.Mathlib.Omega.{arith}
 use lib.ListN.{length, take, drop, length-append}
 use borrow.Author.Tests.{not-true, leb-true}
 use Rattle.answer.specs.declared.Written.{Written}
-use Rattle.answer.specs.Answer.{written, within, leaves}
-use Rattle.answer.specs.Writes.{Wrote, Writes}
+use Rattle.answer.specs.Answer.{written, leaves}
+use Rattle.answer.specs.Writes.{Writes, counted}
 use Rattle.answer.specs.Order.{Check, inOrder}
 use Rattle.answer.specs.Table.{records, some}
 use Rattle.answer.specs.Inner.{Passes, Sound}
 use Rattle.answer.proofs.Order.{order-fails, order-holds, passes-both, passes-parts, order-front, order-past, Refuses, lines-refuse}
 use Rattle.answer.proofs.Parts.{room-counted, room-leaves}
 use Rattle.varint.specs.Number.{numberBytes}
-use Rattle.types.specs.Form.{part, stringBytes, valueBytes, writableRecord, ranged}
+use Rattle.types.specs.Form.{part, stringBytes, valueBytes, writableRecord, ranged, valueAnswer}
 use Rattle.types.specs.Check.{stringChecks, partChecks}
 use Rattle.types.specs.declared.Value.{Value}
-use Rattle.types.specs.Promise.{recordOf, WriteString, WriteValue}
+use Rattle.types.specs.Promise.{recordOf}
 use Rattle.types.proofs.Writing.{part-lent, string-long, form-whole}
 use Rattle.frame.specs.declared.Pair.{Pair}
 use Rattle.frame.specs.Records.{pairWidth, pairAt, keyOf, sameKey}
@@ -104,9 +104,9 @@ run-sound buffer pairs count h s =
 
 -- a string that is lent as a part of the buffer, `&buffer[from..to]`
 module _ (buffer : List ℕ) (start len : ℕ) {r : Written} {n : ℕ} {old new : List ℕ}
-    (p : WriteString (take (start + len - start) (drop start buffer)) r old new) (w : Wrote r n)
+    (p : Writes (written (stringBytes (take (start + len - start) (drop start buffer)))) r old new) (w : n ≡ counted r)
     (room : length (stringBytes (part buffer start len)) ≤ length old) where
-  lent : WriteString (part buffer start len) r old new
+  lent : Writes (written (stringBytes (part buffer start len))) r old new
   lent = rw (part-lent buffer start len) at p
 
   pub string-count : n ≡ length (stringBytes (part buffer start len))
@@ -116,7 +116,7 @@ module _ (buffer : List ℕ) (start len : ℕ) {r : Written} {n : ℕ} {old new 
   string-leaves = room-leaves (stringBytes (part buffer start len)) lent room
 
 -- a value
-module _ (buffer : List ℕ) (v : Value) {r : Written} {n : ℕ} {old new : List ℕ} (p : WriteValue v buffer r old new) (w : Wrote r n)
+module _ (buffer : List ℕ) (v : Value) {r : Written} {n : ℕ} {old new : List ℕ} (p : Writes (valueAnswer buffer (recordOf v)) r old new) (w : n ≡ counted r)
     (h : writableRecord (recordOf v) ≡ true) (g : ranged buffer (recordOf v) ≡ true)
     (room : length (valueBytes buffer (recordOf v)) ≤ length old) where
   whole : Writes (written (valueBytes buffer (recordOf v))) r old new

@@ -1,8 +1,7 @@
--- What pairs, actions and messages are written as and refused with; the whole answer of each writer; what the calls promise; and what only
--- private contracts cite.
+-- What pairs, actions and messages are written as and refused with; the whole answer of each writer; and what only private contracts
+-- cite.
 pub mod Pair
 pub mod Action
 pub mod Message
 pub mod Frame
-pub mod Promise
 pub mod Inner

@@ -22,14 +22,13 @@ ghost use mathlib.Core.Path.{_≡_};
 ghost use mathlib.Core.List.{[], _∷_};
 ghost use Prim.Native.Nat.{_+_, _*_, _≤_};
 ghost use lib.ListN.{length};
-ghost use Rattle.answer.specs.Answer.{written, within, leaves};
+ghost use Rattle.answer.specs.Answer.{written, leaves};
 ghost use Rattle.answer.specs.Writes.{Writes};
 ghost use Rattle.answer.specs.Inner.{Passes, Sound};
 ghost use Rattle.types.specs.Promise.{recordOf};
 ghost use Rattle.frame.specs.Records.{actionWidth, actionAt};
 ghost use Rattle.writer.specs.Action.{noValue, actionWritable, actionBytes, actionChecks};
-ghost use Rattle.writer.specs.Frame.{limited, actionsBytes};
-ghost use Rattle.writer.specs.Promise.{WriteActions};
+ghost use Rattle.writer.specs.Frame.{limited, actionsBytes, headOf, actionsAnswer};
 ghost use Rattle.writer.specs.Inner.{capped, actionOrder, Measures, Checks};
 
 // Record i of a table of actions.
@@ -201,7 +200,7 @@ pub fn write_actions(
     action_count: u64,
     out: &mut [u8],
 ) -> Written
-    ensures { λ r. ⌜ WriteActions fin abort «stream_id» «frame_id» limit (now (buffer .entry)) (now (actions .entry)) «action_count» r (now (out .entry)) (now (out .exit)) ⌝ }
+    ensures { λ r. ⌜ Writes (actionsAnswer (headOf 103 fin abort «stream_id» «frame_id») limit (now (buffer .entry)) (now (actions .entry)) «action_count») r (now (out .entry)) (now (out .exit)) ⌝ }
 {
     if !fin_alone(fin, abort) {
         return Written::Refused(Refusal {

@@ -18,14 +18,12 @@ use frame::Pair;
 ghost use mathlib.Core.Path.{_≡_};
 ghost use Prim.Native.Nat.{_+_, _*_, _≤_};
 ghost use lib.ListN.{length};
-ghost use Rattle.answer.specs.Answer.{within};
 ghost use Rattle.answer.specs.Writes.{Writes};
 ghost use Rattle.answer.specs.Table.{records, some};
 ghost use Rattle.answer.specs.Inner.{Sound};
 ghost use Rattle.frame.specs.Records.{pairWidth, pairAt, sameKey};
 ghost use Rattle.writer.specs.Pair.{kvChecks};
-ghost use Rattle.writer.specs.Frame.{headOf, limited, agentAllowed, kvAllowed, pairsBytes};
-ghost use Rattle.writer.specs.Promise.{WriteKv};
+ghost use Rattle.writer.specs.Frame.{headOf, limited, agentAllowed, kvAllowed, pairsBytes, kvAnswer};
 ghost use Rattle.writer.specs.Inner.{capped, pairOrder, Checks, FormedRun};
 
 // Whether two keys are the same text.
@@ -141,7 +139,7 @@ pub fn write_kv(
     pair_count: u64,
     out: &mut [u8],
 ) -> Written
-    ensures { λ r. ⌜ WriteKv fin abort «stream_id» «frame_id» limit (now (buffer .entry)) «frame_type» (now (pairs .entry)) «pair_count» r (now (out .entry)) (now (out .exit)) ⌝ }
+    ensures { λ r. ⌜ Writes (kvAnswer (headOf «frame_type» fin abort «stream_id» «frame_id») limit (now (buffer .entry)) (now (pairs .entry)) «pair_count») r (now (out .entry)) (now (out .exit)) ⌝ }
 {
     if !kv_allowed(frame_type, fin, abort, stream_id, frame_id) {
         return Written::Refused(Refusal {

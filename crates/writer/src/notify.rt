@@ -22,14 +22,13 @@ ghost use mathlib.Core.Path.{_≡_};
 ghost use Prim.Native.Nat.{_+_, _*_, _≤_, _<_};
 ghost use lib.Dec.{eqb};
 ghost use lib.ListN.{length};
-ghost use Rattle.answer.specs.Answer.{written, within, leaves};
+ghost use Rattle.answer.specs.Answer.{written, leaves};
 ghost use Rattle.answer.specs.Writes.{Writes};
 ghost use Rattle.answer.specs.Order.{inOrder};
 ghost use Rattle.answer.specs.Table.{records, joined};
 ghost use Rattle.frame.specs.Records.{messageWidth, messageAt, pairWidth};
 ghost use Rattle.writer.specs.Message.{nameBytes, messageBytes, messageChecks};
-ghost use Rattle.writer.specs.Frame.{limited, pairsBytes, messagesBytes};
-ghost use Rattle.writer.specs.Promise.{WriteNotify};
+ghost use Rattle.writer.specs.Frame.{limited, pairsBytes, messagesBytes, notifyAnswer, headOf};
 ghost use Rattle.writer.specs.Inner.{capped, pairOrder, messageOrder, Checks, Ready, AllReady};
 
 // The most arguments that a count byte can say.
@@ -215,7 +214,7 @@ pub fn write_notify(
     pair_count: u64,
     out: &mut [u8],
 ) -> Written
-    ensures { λ r. ⌜ WriteNotify fin abort «stream_id» «frame_id» limit (now (buffer .entry)) (now (messages .entry)) «message_count» (now (pairs .entry)) «pair_count» r (now (out .entry)) (now (out .exit)) ⌝ }
+    ensures { λ r. ⌜ Writes (notifyAnswer (headOf 3 fin abort «stream_id» «frame_id») limit (now (buffer .entry)) (now (messages .entry)) «message_count» (now (pairs .entry)) «pair_count») r (now (out .entry)) (now (out .exit)) ⌝ }
 {
     if !fin_alone(fin, abort) {
         return Written::Refused(Refusal {
