@@ -1,24 +1,38 @@
 -- Laws about a table whose numbers start with those of whole records: these are its first records, and the others follow.
 use mathlib.Core.Path.{_≡_, sym, ap, ap₂, _∙_}
+use mathlib.Core.Bool.{Bool, cond}
 use mathlib.Core.List.{List, _++_}
+use mathlib.Core.Logic.{⊎-elim}
 use Prim.Native.Nat.{ℕ, _+_, _*_, _≤_, _<_}
 use native.Mathlib.Nat.{add-mul, one-mul, add-assoc, mul-le-mul-right}
 use native.Mathlib.Omega.{arith}
-use lib.ListN.{length, take, getD, List·getD-append}
+use lib.ListN.{length, take, getD, length-append, List·getD-append}
 use lib.Seq.{length-take-le, getD-append-add, getD-take}
-use Rattle.answer.specs.Table.{numberAt, records}
+use borrow.Author.Tests.{le-leb, lt-leb}
+use Rattle.answer.specs.Table.{holds, numberAt, records}
+use Rattle.answer.proofs.Cases.{lt-or-le}
 use Rattle.answer.proofs.Records.{records-both, records-run, records-same}
 
 -- number k of record i stands among those of so many records
 in-records : (width count i k : ℕ) → i < count → k < width → i * width + k < count * width
 in-records width count i k h l = omega (arith, mul-le-mul-right {m = i + 1} {n = count} width (omega arith), add-mul i 1 width, one-mul width)
 
--- Law: behind so many records the numbers are those of the rest.
-pub number-later : (width count : ℕ) (front rest : List ℕ) → length front ≡ count * width → (i k : ℕ) → numberAt width (front ++ rest) (count + i) k ≡ numberAt width rest i k
-number-later width count front rest long i k =
-    ap (λ (n : ℕ). getD (front ++ rest) (n + k) 0) (add-mul count i width ∙ ap (λ (n : ℕ). n + i * width) (sym long))
-    ∙ ap (λ (n : ℕ). getD (front ++ rest) n 0) (add-assoc (length front) (i * width) k)
-    ∙ getD-append-add front rest (i * width + k) 0
+-- Law: behind so many records the numbers are those of the rest, which has a record where both together have it.
+module _ (width count : ℕ) (front rest : List ℕ) (long : length front ≡ count * width) (i : ℕ) where
+  held-later : holds width (front ++ rest) (count + i + 1) ≡ holds width rest (i + 1)
+  held-later =
+      let whole : (count + i + 1) * width ≡ count * width + (i + 1) * width = ap (λ (n : ℕ). n * width) (add-assoc count i 1) ∙ add-mul count (i + 1) width in
+      ⊎-elim
+      (λ h. lt-leb ((count + i + 1) * width) (length (front ++ rest)) (omega (arith, whole, long, length-append front rest)) ∙ sym (lt-leb ((i + 1) * width) (length rest) h))
+      (λ h. le-leb ((count + i + 1) * width) (length (front ++ rest)) (omega (arith, whole, long, length-append front rest)) ∙ sym (le-leb ((i + 1) * width) (length rest) h))
+      (lt-or-le (length rest) ((i + 1) * width))
+
+  pub number-later : (k : ℕ) → numberAt width (front ++ rest) (count + i) k ≡ numberAt width rest i k
+  number-later k =
+      ap₂ (λ (b : Bool) (n : ℕ). cond b n 0) held-later
+      (ap (λ (n : ℕ). getD (front ++ rest) (n + k) 0) (add-mul count i width ∙ ap (λ (n : ℕ). n + i * width) (sym long))
+      ∙ ap (λ (n : ℕ). getD (front ++ rest) n 0) (add-assoc (length front) (i * width) k)
+      ∙ getD-append-add front rest (i * width + k) 0)
 
 -- Law: of a table that starts with so many records of another, the numbers are that one's, and behind them those of the rest.
 module _ (width count : ℕ) (table rest : List ℕ) (held : count * width ≤ length table) where
@@ -28,7 +42,9 @@ module _ (width count : ℕ) (table rest : List ℕ) (held : count * width ≤ l
   pub number-front : (i k : ℕ) → i < count → k < width → numberAt width (take (count * width) table ++ rest) i k ≡ numberAt width table i k
   number-front i k h l =
       let inside = in-records width count i k h l in
-      List·getD-append (take (count * width) table) rest 0 (i * width + k) (omega (arith, long)) ∙ getD-take (count * width) table (i * width + k) 0 inside
+      let whole = mul-le-mul-right {m = i + 1} {n = count} width (omega arith) in
+      rw (le-leb ((i + 1) * width) (length (take (count * width) table ++ rest)) (omega (arith, long, length-append (take (count * width) table) rest)), le-leb ((i + 1) * width) (length table) (omega arith))
+      (List·getD-append (take (count * width) table) rest 0 (i * width + k) (omega (arith, long)) ∙ getD-take (count * width) table (i * width + k) 0 inside)
 
   pub number-behind : (i k : ℕ) → numberAt width (take (count * width) table ++ rest) (count + i) k ≡ numberAt width rest i k
   number-behind = number-later width count (take (count * width) table) rest long

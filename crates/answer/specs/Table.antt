@@ -5,13 +5,13 @@ use Prim.Native.Nat.{ℕ, zero, suc, _+_, _*_}
 use lib.Dec.{leb}
 use lib.ListN.{length, getD}
 
--- number k of record i, where a record has `width` numbers
-abbrev pub numberAt : ℕ → List ℕ → ℕ → ℕ → ℕ
-numberAt width table i k = getD table (i * width + k) 0
-
--- whether the table has so many records
+-- whether the table has so many records, of `width` numbers each
 abbrev pub holds : ℕ → List ℕ → ℕ → Bool
 holds width table count = leb (count * width) (length table)
+
+-- number k of record i: 0 where the table does not have the record
+abbrev pub numberAt : ℕ → List ℕ → ℕ → ℕ → ℕ
+numberAt width table i k = cond (holds width table (i + 1)) (getD table (i * width + k) 0) 0
 
 -- so many records from the first on, each by its index
 unfoldable pub records : {A : Type 0} → (ℕ → A) → ℕ → ℕ → List A

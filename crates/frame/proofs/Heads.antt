@@ -6,9 +6,9 @@ use mathlib.Core.List.{List, [], _∷_, _++_}
 use Prim.Native.Nat.{ℕ, _+_, _/_, _%_, _≤_, _<_}
 use native.Mathlib.Omega.{arith}
 use lib.Dec.{ltb, leb, eqb}
-use lib.ListN.{length, take, drop, getD, length-append, length-drop, List·getD-append}
+use lib.ListN.{length, drop, getD, length-append, length-drop, List·getD-append}
 use lib.Seq.{drop-append-le}
-use borrow.Author.Tests.{lt-ltb, le-ltb, le-leb, lt-leb, leb-true, eq-eqb, ne-eqb, eqb-true, eqb-false}
+use borrow.Author.Tests.{lt-ltb, le-ltb, le-leb, lt-leb, leb-true, ne-eqb, eqb-true, eqb-false}
 use Rattle.answer.specs.Answer.{Answer, done, refused, behind}
 use Rattle.answer.specs.Order.{inOrder}
 use Rattle.answer.specs.Table.{some}
@@ -58,22 +58,22 @@ module _ (sent : Sender) (f : List ℕ) where
         head-abort a z = rw (lt-ltb 4 (length f) h, t, le-leb 9 (length f) l, a, ne-eqb (fourNumber (drop 5 f) / 2 % 2) 0 z)
 
   module _ (p : Passed sent f) where
-    pub head-first : (n place : ℕ) → numberFrom 9 f ≡ refused n place → head sent f ≡ refused n place
+    pub head-first : (n place : ℕ) → number (drop 9 f) ≡ refused n place → head sent f ≡ refused n (9 + place)
     unfolding head inOrder
     head-first n place e = rw (lt-ltb 4 (length f) (omega (arith, p .long)), p .known, le-leb 9 (length f) (p .long), p .allowed, p .whole, e)
 
-    module _ (stream at : ℕ) (e : numberFrom 9 f ≡ done stream at) where
-      pub head-second : (n place : ℕ) → numberFrom at f ≡ refused n place → head sent f ≡ refused n place
+    module _ (stream used : ℕ) (e : number (drop 9 f) ≡ done stream used) where
+      pub head-second : (n place : ℕ) → number (drop (9 + used) f) ≡ refused n place → head sent f ≡ refused n (9 + used + place)
       unfolding head inOrder
       head-second n place g = rw (lt-ltb 4 (length f) (omega (arith, p .long)), p .known, le-leb 9 (length f) (p .long), p .allowed, p .whole, e, g)
 
-      module _ (id start : ℕ) (g : numberFrom at f ≡ done id start) where
+      module _ (id more : ℕ) (g : number (drop (9 + used) f) ≡ done id more) where
         pub head-other : some (eqb (getD f 4 0)) (sent .own) ≡ false → head sent f ≡ refused 6 4
         unfolding head inOrder
         head-other o = rw (lt-ltb 4 (length f) (omega (arith, p .long)), p .known, le-leb 9 (length f) (p .long), p .allowed, p .whole, e, g, o)
 
         pub head-done : some (eqb (getD f 4 0)) (sent .own) ≡ true
-            → head sent f ≡ done (record { «frame_type» = getD f 4 0; flags = fourNumber (drop 5 f); stream = stream; frame = id }) start
+            → head sent f ≡ done (record { «frame_type» = getD f 4 0; flags = fourNumber (drop 5 f); stream = stream; frame = id }) (9 + used + more)
         unfolding head inOrder
         head-done o = rw (lt-ltb 4 (length f) (omega (arith, p .long)), p .known, le-leb 9 (length f) (p .long), p .allowed, p .whole, e, g, o)
 
@@ -101,10 +101,6 @@ from-done at f e = go (number (drop at f)) refl e
     go : (a : Answer ℕ) → number (drop at f) ≡ a → {n end : ℕ} → behind still at a ≡ done n end → (used : ℕ) × (number (drop at f) ≡ done n used) × (at + used ≡ end)
     go (done n used) is q = let o = done-same q in (used, is ∙ ap (λ (x : ℕ). done x used) (o .0), o .1)
     go (refused n place) is q = not-both q refl
-
--- it ends within the bytes
-pub from-ends : (at : ℕ) (f : List ℕ) (n end : ℕ) → at ≤ length f → numberFrom at f ≡ done n end → end ≤ length f
-from-ends at f n end h e = let o = from-done at f e in omega (arith, accepted (drop at f) n (o .0) (o .1), length-drop at f, o .2)
 
 module _ (sent : Sender) (f : List ℕ) (h : Head) (start : ℕ) where
   -- Law: each that is accepted says so, and what says so is accepted.

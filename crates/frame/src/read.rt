@@ -14,14 +14,14 @@ use answer::TOO_SOON;
 use answer::UNKNOWN;
 use varint::NumberRead;
 ghost use mathlib.Core.Path.{_≡_};
-ghost use Prim.Native.Nat.{ℕ, _≤_};
+ghost use Prim.Native.Nat.{ℕ, _+_, _≤_, _<_, _^_};
 ghost use lib.Dec.{eqb};
 ghost use lib.ListN.{length};
 ghost use Rattle.answer.specs.Answer.{refused as refusal};
 ghost use Rattle.answer.specs.Table.{some};
 ghost use Rattle.varint.specs.Promise.{numberSaid};
 ghost use Rattle.frame.specs.Head.{fourNumber};
-ghost use Rattle.frame.specs.Read.{frameTypes, finSet, sender, numberFrom};
+ghost use Rattle.frame.specs.Read.{frameTypes, finSet, sender};
 ghost use Rattle.frame.specs.Promise.{Cut, headSaid, ReadHead};
 
 // The number that the first four bytes are, the highest first.
@@ -84,29 +84,13 @@ fn refused(number: u64, place: usize) -> HeadRead
     HeadRead::Refused(Refusal { number, place })
 }
 
-// The number that stands at a place, with its end and its refusal's place counted from the front.
-fn number_at(frame: &[u8], at: usize) -> NumberRead
-    requires { ⌜ at ≤ length (now frame) ⌝ }
-    ensures { λ r. ⌜ numberSaid r ≡ numberFrom at (now (frame .entry)) ⌝ }
-{
-    match varint::decode_varint(&frame[at..]) {
-        NumberRead::Refused(r) => NumberRead::Refused(Refusal {
-            number: r.number,
-            place: at + r.place,
-        }),
-        NumberRead::Done { value, used } => NumberRead::Done {
-            value,
-            used: at + used,
-        },
-    }
-}
-
-// The refusal of a number; 0 at 0 of one that was read, which is not asked.
-fn number_refused(found: NumberRead) -> HeadRead
-    ensures { λ r. ⌜ ((number place : ℕ) → numberSaid found ≡ refusal number place → headSaid r ≡ refusal number place) ⌝ }
+// The refusal of a number that was read behind `at` bytes; 0 at 0 of one that was read, which is not asked.
+fn number_refused(found: NumberRead, at: usize) -> HeadRead
+    requires { ⌜ ((number place : ℕ) → numberSaid found ≡ refusal number place → at + place < 2 ^ 64) ⌝ }
+    ensures { λ r. ⌜ ((number place : ℕ) → numberSaid found ≡ refusal number place → headSaid r ≡ refusal number (at + place)) ⌝ }
 {
     match found {
-        NumberRead::Refused(r) => HeadRead::Refused(r),
+        NumberRead::Refused(r) => refused(r.number, at + r.place),
         NumberRead::Done { value: _, used: _ } => refused(0, 0),
     }
 }
@@ -132,21 +116,22 @@ pub fn read_head(frame: &[u8], side: Side) -> HeadRead
     if flags / 2 % 2 != 0 {
         return refused(ABORTED, 4);
     }
-    let first = number_at(frame, 9);
+    let first = varint::decode_varint(&frame[9..]);
     let NumberRead::Done {
         value: stream,
-        used: at,
+        used,
     } = first
     else {
-        return number_refused(first);
+        return number_refused(first, 9);
     };
-    let second = number_at(frame, at);
+    let at = 9 + used;
+    let second = varint::decode_varint(&frame[at..]);
     let NumberRead::Done {
         value: id,
-        used: start,
+        used: more,
     } = second
     else {
-        return number_refused(second);
+        return number_refused(second, at);
     };
     if !sent_by(side, frame_type) {
         return refused(OTHER_SIDE, 4);
@@ -158,6 +143,6 @@ pub fn read_head(frame: &[u8], side: Side) -> HeadRead
             stream,
             frame: id,
         },
-        start,
+        start: at + more,
     }
 }

@@ -1,15 +1,16 @@
 -- Laws about the negotiations: what each test decides, and what a choice says.
 use mathlib.Core.Path.{_≡_, refl, ap, ap₂, _∙_}
 use mathlib.Core.Bool.{Bool, true, false, cond, _||_}
-use mathlib.Core.List.{List, _∷_}
+use mathlib.Core.List.{List, [], _∷_}
 use Prim.Native.Nat.{ℕ, suc, _+_, _*_, _/_, _≤_, _<_, min}
 use native.Mathlib.Omega.{arith}
 use lib.Dec.{ltb}
-use lib.ListN.{length, getD}
+use lib.ListN.{length}
 use borrow.Author.Tests.{le-leb, lt-leb, eq-eqb, ne-eqb}
 use Rattle.answer.specs.Answer.{done, refused}
 use Rattle.answer.specs.Table.{numberAt, records, some}
 use Rattle.answer.proofs.Cases.{bool-cases}
+use Rattle.answer.proofs.Rows.{number-later}
 use Rattle.answer.proofs.Records.{records-none, records-run, some-none}
 use Rattle.hello.specs.declared.Announced.{Announced}
 use Rattle.hello.specs.declared.Version.{Version}
@@ -57,9 +58,7 @@ module _ (v : Announced) (others : List ℕ) where
 
   -- a version behind the first stands there without the first too, one earlier
   number-behind : (i k : ℕ) → numberAt versionWidth with-first (1 + i) k ≡ numberAt versionWidth others i k
-  number-behind i k =
-      let later : (1 + i) * versionWidth + k ≡ suc (suc (suc (suc (i * versionWidth + k)))) = omega arith in
-      ap (λ (n : ℕ). getD with-first n 0) later
+  number-behind i k = number-later versionWidth 1 (v .major ∷ v .minor ∷ v .patch ∷ v .pre ∷ []) others refl i k
 
   behind-first : (i : ℕ) → versionAt with-first (1 + i) ≡ versionAt others i
   unfolding versionAt
@@ -69,7 +68,7 @@ module _ (v : Announced) (others : List ℕ) where
 
   first-is : versionAt with-first 0 ≡ v
   unfolding versionAt
-  first-is = refl
+  first-is = simp (le-leb ((0 + 1) * versionWidth) (length with-first) (omega arith))
 
   pub announced-on : announced with-first ≡ (covers v || announced others)
   unfolding announced records some

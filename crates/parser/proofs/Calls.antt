@@ -5,15 +5,14 @@ use Prim.Native.Nat.{ℕ}
 use Rattle.answer.specs.Answer.{Answer, done, refused, written, leaves}
 use Rattle.answer.specs.Table.{joined}
 use Rattle.frame.specs.declared.Head.{Head}
-use Rattle.frame.specs.declared.Side.{Side}
 use Rattle.frame.specs.declared.Side.the-variants as side
-use Rattle.frame.specs.Read.{Reading, wait, answered, Sender, sender, head}
+use Rattle.frame.specs.Read.{Reading, wait, answered, Sender, head}
 use Rattle.frame.specs.Records.{messageNumbers, actionNumbers}
 use Rattle.payload.specs.declared.Counts.{Counts}
 use Rattle.payload.specs.declared.Payload.{Payload}
 use Rattle.payload.specs.declared.PayloadRead.{PayloadRead}
 use Rattle.payload.specs.Payload.{Contents, payload}
-use Rattle.payload.specs.Promise.{payloadSaid, payloadTells, roomsOf, messagesLeft, actionsLeft, Fills, ReadPayload}
+use Rattle.payload.specs.Promise.{payloadSaid, payloadTells, roomsOf, tableLeft, ReadPayload}
 use Rattle.parser.specs.declared.FrameRead.{FrameRead}
 use Rattle.parser.specs.Frame.{payloadOf, framed, frameRead}
 use Rattle.parser.specs.Promise.{frameSaid, frameTells, contentsRead, FrameFills}
@@ -75,13 +74,13 @@ by-contents (wait n) f g = g 1 n refl
 by-contents (answered (done y used)) f g = f (y .0) (y .1) used refl refl
 by-contents (answered (refused number place)) f g = g number place refl
 
-pub no-actions : (limit : ℕ) (rooms : Counts) (s : List ℕ) → [] ≡ actionsLeft (contentsRead (frameRead side.HAProxy limit rooms s)) []
+pub no-actions : (limit : ℕ) (rooms : Counts) (s : List ℕ) → [] ≡ tableLeft actionNumbers (λ c. c .actions) (contentsRead (frameRead side.HAProxy limit rooms s)) []
 no-actions limit rooms s =
     by-contents (frameRead side.HAProxy limit rooms s)
     (λ h c used e is. rw is (none-left actionNumbers (c .actions) (haproxy-actions rooms _ h c used (frame-cut side.HAProxy limit rooms s h c used e .held))))
     (λ n place is. rw is)
 
-pub no-messages : (limit : ℕ) (rooms : Counts) (s : List ℕ) → [] ≡ messagesLeft (contentsRead (frameRead side.Agents limit rooms s)) []
+pub no-messages : (limit : ℕ) (rooms : Counts) (s : List ℕ) → [] ≡ tableLeft messageNumbers (λ c. c .messages) (contentsRead (frameRead side.Agents limit rooms s)) []
 no-messages limit rooms s =
     by-contents (frameRead side.Agents limit rooms s)
     (λ h c used e is. rw is (none-left messageNumbers (c .messages) (agent-messages rooms _ h c used (frame-cut side.Agents limit rooms s h c used e .held))))

@@ -44,19 +44,10 @@ roomsOf messages pairs actions =
 abbrev pub tableLeft : {A : Type 0} → (A → List ℕ) → (Contents → List A) → Answer Contents → List ℕ → List ℕ
 tableLeft numbers records a old = leaves (next a (λ c used. written (joined numbers (records c)))) old
 
-abbrev pub messagesLeft : Answer Contents → List ℕ → List ℕ
-messagesLeft a old = tableLeft messageNumbers (λ c. c .messages) a old
-
-abbrev pub pairsLeft : Answer Contents → List ℕ → List ℕ
-pairsLeft a old = tableLeft pairNumbers (λ c. c .pairs) a old
-
-abbrev pub actionsLeft : Answer Contents → List ℕ → List ℕ
-actionsLeft a old = tableLeft actionNumbers (λ c. c .actions) a old
-
 pub record Fills (a : Answer Contents) (oldMessages newMessages oldPairs newPairs oldActions newActions : List ℕ) : Type 0 where
-  pub messages : newMessages ≡ messagesLeft a oldMessages
-  pub pairs : newPairs ≡ pairsLeft a oldPairs
-  pub actions : newActions ≡ actionsLeft a oldActions
+  pub messages : newMessages ≡ tableLeft messageNumbers (λ c. c .messages) a oldMessages
+  pub pairs : newPairs ≡ tableLeft pairNumbers (λ c. c .pairs) a oldPairs
+  pub actions : newActions ≡ tableLeft actionNumbers (λ c. c .actions) a oldActions
 
 -- ---- the promises
 

@@ -6,10 +6,10 @@ use lib.ListN.{length, drop}
 use Rattle.answer.specs.Answer.{Answer, done, refused}
 use Rattle.frame.specs.declared.Pair.{Pair}
 use Rattle.frame.specs.declared.Side.the-variants as side
-use Rattle.frame.specs.Records.{messageWidth}
+use Rattle.frame.specs.Records.{messageWidth, messageNumbers}
 use Rattle.payload.specs.declared.Counts.{Counts}
 use Rattle.payload.specs.Payload.{Contents}
-use Rattle.payload.specs.Promise.{messagesLeft}
+use Rattle.payload.specs.Promise.{tableLeft}
 use Rattle.parser.specs.declared.FrameRead.{FrameRead}
 use Rattle.parser.specs.Frame.{frameRead}
 use Rattle.parser.specs.Promise.{frameSaid, frameTells, contentsRead}
@@ -25,7 +25,7 @@ recordsLeft (refused number place) old = old
 
 -- The messages' table is left as `read_frame` leaves it.
 pub record FillsRecords (a : Answer Contents) (oldMessages newMessages : List ℕ) (oldPairs newPairs : List Pair) : Type 0 where
-  pub messages : newMessages ≡ messagesLeft a oldMessages
+  pub messages : newMessages ≡ tableLeft messageNumbers (λ c. c .messages) a oldMessages
   pub pairs : newPairs ≡ recordsLeft a oldPairs
 
 -- `read_frame_records` says what the frame reader says with room for as many, and leaves the records.

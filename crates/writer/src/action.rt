@@ -13,7 +13,6 @@ use answer::Written;
 use frame::ACTION_WIDTH;
 use frame::Action;
 use frame::Head;
-use frame::Pair;
 use frame::SET_VAR;
 use frame::UNSET_VAR;
 use types::Measured;
@@ -26,32 +25,10 @@ ghost use Rattle.answer.specs.Answer.{written, leaves};
 ghost use Rattle.answer.specs.Writes.{Writes};
 ghost use Rattle.answer.specs.Inner.{Passes, Sound};
 ghost use Rattle.types.specs.Promise.{recordOf};
-ghost use Rattle.frame.specs.Records.{actionWidth, actionAt};
+ghost use Rattle.frame.specs.Records.{actionWidth};
 ghost use Rattle.writer.specs.Action.{noValue, actionWritable, actionBytes, actionChecks};
 ghost use Rattle.writer.specs.Frame.{limited, actionsBytes, headOf, actionsAnswer};
 ghost use Rattle.writer.specs.Inner.{capped, actionOrder, Measures, Checks};
-
-// Record i of a table of actions.
-fn action_at(actions: &[u64], i: usize) -> Action
-    requires { ⌜ i * actionWidth + actionWidth ≤ length (now actions) ⌝ }
-    ensures { λ r. ⌜ r ≡ actionAt (now (actions .entry)) i ⌝ }
-{
-    let at = i * ACTION_WIDTH;
-    Action {
-        verb: actions[at],
-        scope: actions[at + 1],
-        pair: Pair {
-            start: actions[at + 2],
-            len: actions[at + 3],
-            value: Value {
-                kind: actions[at + 4],
-                a: actions[at + 5],
-                b: actions[at + 6],
-                flags: actions[at + 7],
-            },
-        },
-    }
-}
 
 // Whether a value's four numbers are 0.
 fn no_value(value: Value) -> bool
@@ -123,7 +100,7 @@ fn check_actions(actions: &[u64], count: usize, buffer: &[u8], most: u32) -> Che
     let mut len = 0;
     let mut i = 0;
     while i < count {
-        let action = action_at(actions, i);
+        let action = frame::action_at(actions, i);
         let own = measure_action(action, buffer, most);
         let number = own.number;
         if number != 0 {
@@ -182,7 +159,7 @@ fn put_actions(actions: &[u64], count: usize, buffer: &[u8], out: &mut [u8]) -> 
     let mut at = 0;
     let mut i = 0;
     while i < count {
-        at += put_action(action_at(actions, i), buffer, &mut out[at..]);
+        at += put_action(frame::action_at(actions, i), buffer, &mut out[at..]);
         i += 1;
     }
     at

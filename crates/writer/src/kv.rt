@@ -5,7 +5,6 @@ use crate::cap;
 use crate::fin_alone;
 use crate::head_of;
 use crate::pair::measure_pair;
-use crate::pair::pair_at;
 use crate::pair::put_pairs;
 use answer::MET_TWICE;
 use answer::NOT_WRITABLE;
@@ -45,10 +44,10 @@ fn key_met(pairs: &[u64], i: usize, buffer: &[u8]) -> bool
     requires { ⌜ Sound (pairOrder (now buffer) (now pairs)) (i + 1) ⌝ }
     ensures { λ r. ⌜ r ≡ some (sameKey (now (buffer .entry)) (pairAt (now (pairs .entry)) i)) (records (pairAt (now (pairs .entry))) 0 i) ⌝ }
 {
-    let pair = pair_at(pairs, i);
+    let pair = frame::pair_at(pairs, i);
     let mut j = 0;
     while j < i {
-        if same_key(pair, pair_at(pairs, j), buffer) {
+        if same_key(pair, frame::pair_at(pairs, j), buffer) {
             return true;
         }
         j += 1;
@@ -64,7 +63,7 @@ fn check_pairs(pairs: &[u64], count: usize, buffer: &[u8], most: u32) -> Checked
     let mut len = 0;
     let mut i = 0;
     while i < count {
-        let pair = pair_at(pairs, i);
+        let pair = frame::pair_at(pairs, i);
         let own = measure_pair(pair, buffer, most);
         let number = own.number;
         if number != 0 {

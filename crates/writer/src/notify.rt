@@ -7,7 +7,6 @@ use crate::cap;
 use crate::fin_alone;
 use crate::head_of;
 use crate::pair::measure_pair;
-use crate::pair::pair_at;
 use crate::pair::put_pairs;
 use answer::NOT_WRITABLE;
 use answer::OUTSIDE;
@@ -33,20 +32,6 @@ ghost use Rattle.writer.specs.Inner.{capped, pairOrder, messageOrder, Ch
 
 // The most arguments that a count byte can say.
 const MOST_ARGUMENTS: u64 = 255;
-
-// Record i of a table of messages.
-fn message_at(messages: &[u64], i: usize) -> Message
-    requires { ⌜ i * messageWidth + messageWidth ≤ length (now messages) ⌝ }
-    ensures { λ r. ⌜ r ≡ messageAt (now (messages .entry)) i ⌝ }
-{
-    let at = i * MESSAGE_WIDTH;
-    Message {
-        start: messages[at],
-        len: messages[at + 1],
-        first: messages[at + 2],
-        count: messages[at + 3],
-    }
-}
 
 // Whether a run of `count` pairs from `first` on ends at `place`. Their sum may pass 64 bits, so it is not made.
 fn ends_at(first: u64, count: u64, place: u64) -> bool
@@ -94,7 +79,7 @@ fn check_messages(messages: &[u64], count: usize, total: u64, buffer: &[u8], mos
     let mut len = 0;
     let mut i = 0;
     while i < count {
-        let message = message_at(messages, i);
+        let message = frame::message_at(messages, i);
         let number = check_message(message, run_first, run_count, i + 1 == count, total, buffer);
         if number != 0 {
             return Checked {
@@ -128,7 +113,7 @@ fn check_arguments(pairs: &[u64], count: usize, buffer: &[u8], most: u32) -> Che
     let mut len = 0;
     let mut i = 0;
     while i < count {
-        let pair = pair_at(pairs, i);
+        let pair = frame::pair_at(pairs, i);
         let own = measure_pair(pair, buffer, most);
         let number = own.number;
         if number != 0 {
@@ -194,7 +179,12 @@ fn put_messages(
     let mut at = 0;
     let mut i = 0;
     while i < count {
-        at += put_message(message_at(messages, i), pairs, buffer, &mut out[at..]);
+        at += put_message(
+            frame::message_at(messages, i),
+            pairs,
+            buffer,
+            &mut out[at..],
+        );
         i += 1;
     }
     at

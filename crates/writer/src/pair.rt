@@ -1,36 +1,16 @@
 // Pairs: checked, measured and written, one by one and in runs.
 use crate::cap;
 use answer::NOT_WRITABLE;
-use frame::PAIR_WIDTH;
 use frame::Pair;
 use types::Measured;
-use types::Value;
 ghost use mathlib.Core.Path.{_≡_};
-ghost use Prim.Native.Nat.{_+_, _*_, _≤_};
+ghost use Prim.Native.Nat.{_+_, _≤_};
 ghost use lib.ListN.{length};
 ghost use Rattle.answer.specs.Answer.{written, leaves};
 ghost use Rattle.answer.specs.Table.{records, joined};
-ghost use Rattle.frame.specs.Records.{pairWidth, pairAt};
+ghost use Rattle.frame.specs.Records.{pairAt};
 ghost use Rattle.writer.specs.Pair.{pairBytes, pairChecks};
 ghost use Rattle.writer.specs.Inner.{Measures, Formed, FormedRun};
-
-// Record i of a table of pairs.
-pub(crate) fn pair_at(pairs: &[u64], i: usize) -> Pair
-    requires { ⌜ i * pairWidth + pairWidth ≤ length (now pairs) ⌝ }
-    ensures { λ r. ⌜ r ≡ pairAt (now (pairs .entry)) i ⌝ }
-{
-    let at = i * PAIR_WIDTH;
-    Pair {
-        start: pairs[at],
-        len: pairs[at + 1],
-        value: Value {
-            kind: pairs[at + 2],
-            a: pairs[at + 3],
-            b: pairs[at + 4],
-            flags: pairs[at + 5],
-        },
-    }
-}
 
 // What a pair on its own is refused with: 14, 16 or 15, the first that holds; else 0, and how many bytes its written form has, as far as it
 // matters.
@@ -88,7 +68,7 @@ pub(crate) fn put_pairs(
     let mut at = 0;
     let mut i = 0;
     while i < count {
-        at += put_pair(pair_at(pairs, first + i), buffer, &mut out[at..]);
+        at += put_pair(frame::pair_at(pairs, first + i), buffer, &mut out[at..]);
         i += 1;
     }
     at

@@ -4,19 +4,22 @@ use borrow.Author.Needs.{needs}
 use mathlib.Core.Path.{_≡_, sym, ap, _∙_}
 use mathlib.Core.Bool.{true}
 use mathlib.Core.List.{List}
-use Prim.Native.Nat.{ℕ, _/_, _%_, _≤_}
+use Prim.Native.Nat.{ℕ, _+_, _/_, _%_, _≤_}
 use native.Mathlib.Omega.{arith}
 use lib.Dec.{eqb}
-use lib.ListN.{length, drop, getD}
+use lib.ListN.{length, drop, getD, length-drop}
 use borrow.Author.Tests.{not-true, not-false}
-use Rattle.answer.specs.Answer.{done}
+use Rattle.answer.specs.Answer.{Answer, done}
 use Rattle.answer.specs.Table.{some}
 use Rattle.answer.proofs.Output.{lent-tail}
+use Rattle.varint.specs.Number.{number}
 use Rattle.varint.specs.Promise.{numberSaid}
+use Rattle.varint.proofs.Reading.{accepted, number-place}
 use Rattle.frame.specs.Head.{fourNumber}
-use Rattle.frame.specs.Read.{sender, numberFrom}
+use Rattle.frame.specs.Read.{sender}
 use Rattle.frame.specs.Promise.{headSaid}
-use Rattle.frame.proofs.Heads.{Passed, from-ends, sides, head-none, head-type, head-short, head-flags, head-abort, head-first, head-second, head-other, head-done}
+use Rattle.answer.proofs.Answers.{lent}
+use Rattle.frame.proofs.Heads.{Passed, sides, head-none, head-type, head-short, head-flags, head-abort, head-first, head-second, head-other, head-done}
 use Rattle.frame.proofs.read.read_head.Statement.{statement}
 use Rattle.frame.proofs.read.read_head.Tie as tie
 
@@ -118,8 +121,17 @@ passed c =
       whole = ap (λ (n : ℕ). n / 2 % 2) (sym (flags (k .before))) ∙ c .if5 .left;
     }
 
-number-at-requires : tie.Need-number-at-requires
-number-at-requires c κs = search needs
+sub-decode-varint : tie.Need-sub-decode-varint
+sub-decode-varint c = search needs
+
+part-decode-varint-start : tie.Need-part-decode-varint-start
+part-decode-varint-start c = search needs
+
+part-decode-varint-end : tie.Need-part-decode-varint-end
+part-decode-varint-end c = search needs
+
+decode-varint-requires : tie.Need-decode-varint-requires
+decode-varint-requires c κs = search needs
 
 enum-known-first : tie.Need-enum-known-first
 enum-known-first c = search needs
@@ -127,24 +139,49 @@ enum-known-first c = search needs
 enum-told : tie.Need-enum-told
 enum-told c = search needs
 
+-- the first number
+abbrev begin : tie.After-decode-varint → tie.Start
+begin n = start (n .before .before .before .before .before .before .before)
+
+abbrev bytes : tie.After-decode-varint → List ℕ
+bytes n = begin n .args .frame .now
+
+read : (n : tie.After-decode-varint) (a : Answer ℕ) → numberSaid (n .decode-varint .result) ≡ a → number (drop 9 (bytes n)) ≡ a
+read n a e = lent number (bytes n) 9 (n .decode-varint .ensures) e
+
 number-refused-requires : tie.Need-number-refused-requires
-number-refused-requires c κs = search needs
+number-refused-requires c κs number place e =
+    let n = c .before .before in
+    omega (arith, number-place _ _ _ (read n _ e), length-drop 9 (bytes n), passed (n .before .before) .long, begin n .good)
 
 returns-6 : tie.Need-returns-6
 returns-6 c =
     let n = c .before .before .before in
     let e = ap numberSaid (c .before .enum-told .given .1) in
-    c .number-refused .ensures _ _ e ∙ sym (head-first _ _ (passed (n .before)) _ _ (sym (n .number-at .ensures) ∙ e))
+    c .number-refused .ensures _ _ e ∙ sym (head-first _ _ (passed (n .before .before)) _ _ (read n _ e))
 
--- the first number, and the second behind it
-abbrev bytes : tie.After-number-at → List ℕ
-bytes n = start (n .before .before .before .before .before .before) .args .frame .now
+first : (k : tie.After-known-told) → let g = k .before .first .given in number (drop 9 (bytes (k .before .before .before))) ≡ done (g .0 .0) (g .0 .1 .0)
+first k = read (k .before .before .before) _ (ap numberSaid (k .before .first .given .1))
 
-first : (c : tie.After-known-told) → numberFrom 9 (bytes (c .before .before .before)) ≡ done (c .before .first .given .0 .0) (c .before .first .given .0 .1 .0)
-first c = sym (c .before .before .before .number-at .ensures) ∙ ap numberSaid (c .before .first .given .1)
+inside : (k : tie.After-known-told) → 9 + k .before .first .given .0 .1 .0 ≤ length (bytes (k .before .before .before))
+inside k =
+    let n = k .before .before .before in
+    omega (arith, accepted _ _ _ (first k), length-drop 9 (bytes n), passed (n .before .before) .long)
 
-number-at-requires-2 : tie.Need-number-at-requires-2
-number-at-requires-2 c κs = from-ends 9 (bytes (c .before .before .before)) _ _ (passed (c .before .before .before .before) .long) (first c)
+add-at : tie.Need-add-at
+add-at c = omega (arith, inside c, begin (c .before .before .before) .good)
+
+sub-decode-varint-2 : tie.Need-sub-decode-varint-2
+sub-decode-varint-2 c = inside c
+
+part-decode-varint-start-2 : tie.Need-part-decode-varint-start-2
+part-decode-varint-start-2 c = inside c
+
+part-decode-varint-end-2 : tie.Need-part-decode-varint-end-2
+part-decode-varint-end-2 c = search needs
+
+decode-varint-requires-2 : tie.Need-decode-varint-requires-2
+decode-varint-requires-2 c κs = search needs
 
 enum-known-second : tie.Need-enum-known-second
 enum-known-second c = search needs
@@ -152,19 +189,35 @@ enum-known-second c = search needs
 enum-told-2 : tie.Need-enum-told-2
 enum-told-2 c = search needs
 
+-- the second behind it
+abbrev before-it : tie.After-decode-varint2 → tie.After-known-told
+before-it m = m .before .before
+
+abbrev frame : tie.After-decode-varint2 → List ℕ
+frame m = bytes (before-it m .before .before .before)
+
+abbrev at : tie.After-decode-varint2 → ℕ
+at m = 9 + before-it m .before .first .given .0 .1 .0
+
+abbrev tests : tie.After-decode-varint2 → tie.Else5
+tests m = before-it m .before .before .before .before .before
+
+read-second : (m : tie.After-decode-varint2) (a : Answer ℕ) → numberSaid (m .decode-varint2 .result) ≡ a → number (drop (at m) (frame m)) ≡ a
+read-second m a e = lent number (frame m) (at m) (m .decode-varint2 .ensures) e
+
 number-refused-requires-2 : tie.Need-number-refused-requires-2
-number-refused-requires-2 c κs = search needs
+number-refused-requires-2 c κs number place e =
+    let m = c .before .before in
+    omega (arith, number-place _ _ _ (read-second m _ e), length-drop (at m) (frame m), inside (before-it m), begin (before-it m .before .before .before) .good)
 
 returns-7 : tie.Need-returns-7
 returns-7 c =
     let m = c .before .before .before in
     let e = ap numberSaid (c .before .enum-told2 .given .1) in
-    c .number-refused2 .ensures _ _ e
-    ∙ sym (head-second _ _ (passed (m .before .before .before .before .before)) _ _ (first (m .before)) _ _ (sym (m .number-at2 .ensures) ∙ e))
+    c .number-refused2 .ensures _ _ e ∙ sym (head-second _ _ (passed (tests m)) _ _ (first (before-it m)) _ _ (read-second m _ e))
 
-second : (c : tie.After-known-told2) → let m = c .before .before .before in
-    numberFrom (m .before .before .first .given .0 .1 .0) (bytes (m .before .before .before .before)) ≡ done (c .before .second .given .0 .0) (c .before .second .given .0 .1 .0)
-second c = sym (c .before .before .before .number-at2 .ensures) ∙ ap numberSaid (c .before .second .given .1)
+second : (q : tie.After-known-told2) → let m = q .before .before .before in let g = q .before .second .given in number (drop (at m) (frame m)) ≡ done (g .0 .0) (g .0 .1 .0)
+second q = read-second (q .before .before .before) _ (ap numberSaid (q .before .second .given .1))
 
 sent-by-requires : tie.Need-sent-by-requires
 sent-by-requires c κs = search needs
@@ -177,21 +230,22 @@ returns-8 c =
     let k = c .before .before in
     let m = k .before .before .before .before in
     ap headSaid (c .refused6 .ensures)
-    ∙ sym
-    (head-other _ _ (passed (m .before .before .before .before .before)) _ _ (first (m .before)) _ _ (second (k .before))
-    (sym (k .sent-by .ensures) ∙ not-true _ (c .before .if6 .taken)))
+    ∙ sym (head-other _ _ (passed (tests m)) _ _ (first (before-it m)) _ _ (second (k .before)) (sym (k .sent-by .ensures) ∙ not-true _ (c .before .if6 .taken)))
+
+add-t12 : tie.Need-add-t12
+add-t12 c =
+    let q = c .before .before in
+    let m = q .before .before .before in
+    omega (arith, accepted _ _ _ (second q), length-drop (at m) (frame m), inside (before-it m), begin (before-it m .before .before .before) .good)
 
 returns-9 : tie.Need-returns-9
 returns-9 c =
-    let k = c .before in
-    let m = k .before .before .before .before in
-    let n = m .before .before .before .before in
-    let one = m .before .before .first .given .0 in
-    let two = k .before .before .second .given .0 in
-    ap (λ (f : ℕ). done (record { «frame_type» = getD (bytes n) 4 0; flags = f; stream = one .0; frame = two .0 }) (two .1 .0)) (flags (n .before .before .before .before))
-    ∙ sym
-    (head-done _ _ (passed (n .before)) _ _ (first (m .before)) _ _ (second (k .before))
-    (sym (k .sent-by .ensures) ∙ not-false _ (c .if6 .left)))
+    let q = c .before .before in
+    let m = q .before .before .before in
+    let one = before-it m .before .first .given .0 in
+    let two = q .before .second .given .0 in
+    ap (λ (f : ℕ). done (record { «frame_type» = getD (frame m) 4 0; flags = f; stream = one .0; frame = two .0 }) (at m + two .1 .0)) (flags (tests m .before .before .before))
+    ∙ sym (head-done _ _ (passed (tests m)) _ _ (first (before-it m)) _ _ (second q) (sym (c .before .sent-by .ensures) ∙ not-false _ (c .if6 .left)))
 
 pub read-head-spec : {M : Type 1} → statement M
 read-head-spec =
@@ -214,12 +268,19 @@ read-head-spec =
     returns-4
     refused-requires-5
     returns-5
-    number-at-requires
+    sub-decode-varint
+    part-decode-varint-start
+    part-decode-varint-end
+    decode-varint-requires
     enum-known-first
     enum-told
     number-refused-requires
     returns-6
-    number-at-requires-2
+    add-at
+    sub-decode-varint-2
+    part-decode-varint-start-2
+    part-decode-varint-end-2
+    decode-varint-requires-2
     enum-known-second
     enum-told-2
     number-refused-requires-2
@@ -227,4 +288,5 @@ read-head-spec =
     sent-by-requires
     refused-requires-6
     returns-8
+    add-t12
     returns-9)

@@ -28,7 +28,7 @@ loop-holds : tie.Need-loop-holds Inv-loop μ-loop
 loop-holds c = (omega arith, checking-none _ _ _ _)
 
 action-at-requires : tie.Need-action-at-requires Inv-loop μ-loop
-action-at-requires c κs = omega (arith, start c .pre, c .loop-test .taken)
+action-at-requires c κs = search needs
 
 measure-action-requires : tie.Need-measure-action-requires Inv-loop μ-loop
 measure-action-requires c κs = search needs

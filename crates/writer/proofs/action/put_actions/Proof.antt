@@ -23,7 +23,7 @@ loop-holds : tie.Need-loop-holds Inv-loop μ-loop
 loop-holds c = putting-none _ _ _ _ (c .before .before .before .pre .1 .1)
 
 action-at-requires : tie.Need-action-at-requires Inv-loop μ-loop
-action-at-requires c κs = omega (arith, c .before .before .before .before .before .pre .0)
+action-at-requires c κs = search needs
 
 sub-put-action : tie.Need-sub-put-action Inv-loop μ-loop
 sub-put-action c = putting-start (c .before .before .loop .inv) (c .before .loop-test .taken)

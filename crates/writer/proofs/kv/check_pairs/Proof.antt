@@ -30,7 +30,7 @@ loop-holds : tie.Need-loop-holds Inv-loop μ-loop
 loop-holds c = (omega arith, checking-none _ _ _ _)
 
 pair-at-requires : tie.Need-pair-at-requires Inv-loop μ-loop
-pair-at-requires c κs = omega (arith, start c .pre, c .loop-test .taken)
+pair-at-requires c κs = search needs
 
 measure-pair-requires : tie.Need-measure-pair-requires Inv-loop μ-loop
 measure-pair-requires c κs = search needs

@@ -1,5 +1,6 @@
 -- `writer::kv::key_met` meets its contract: the loop compares the key with one earlier key after the other.
 -- Assumes nothing.
+use borrow.Author.Needs.{needs}
 use mathlib.Core.Path.{_≡_, sym, ap₂, _∙_}
 use Prim.Native.Nat.{ℕ, _+_, _-_, _≤_, _<_}
 use lib.ListN.{length}
@@ -22,13 +23,13 @@ inside : (s : tie.Start Inv-loop μ-loop) (j : ℕ) → j < s .args .i + 1
 inside s j h = formed-passed (s .args .buffer .now) (pairAt (s .args .pairs .now) j) (s .pre .1 .each j h) .key
 
 pair-at-requires : tie.Need-pair-at-requires Inv-loop μ-loop
-pair-at-requires c κs = c .before .before .pre .0
+pair-at-requires c κs = search needs
 
 loop-holds : tie.Need-loop-holds Inv-loop μ-loop
 loop-holds c = seeking-none _ _ _
 
 pair-at-requires-2 : tie.Need-pair-at-requires-2 Inv-loop μ-loop
-pair-at-requires-2 c κs = omega (arith, c .before .before .before .before .before .pre .0)
+pair-at-requires-2 c κs = search needs
 
 same-key-requires : tie.Need-same-key-requires Inv-loop μ-loop
 same-key-requires c κs =

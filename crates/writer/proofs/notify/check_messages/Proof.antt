@@ -37,7 +37,7 @@ loop-holds : tie.Need-loop-holds Inv-loop μ-loop
 loop-holds c = (omega arith, refl, checking-none _ _ _ _)
 
 message-at-requires : tie.Need-message-at-requires Inv-loop μ-loop
-message-at-requires c κs = omega (arith, start c .pre, c .loop-test .taken)
+message-at-requires c κs = search needs
 
 add-check-message : tie.Need-add-check-message Inv-loop μ-loop
 add-check-message c = let t = c .before in omega (arith, t .loop-test .taken, start t .fits)

@@ -23,7 +23,7 @@ loop-holds : tie.Need-loop-holds Inv-loop μ-loop
 loop-holds c = putting-none _ _ _ _ (c .before .before .before .before .pre .1 .1)
 
 message-at-requires : tie.Need-message-at-requires Inv-loop μ-loop
-message-at-requires c κs = omega (arith, c .before .before .before .before .before .before .pre .0, c .loop-test .taken)
+message-at-requires c κs = search needs
 
 sub-put-message : tie.Need-sub-put-message Inv-loop μ-loop
 sub-put-message c = putting-start (c .before .before .loop .inv) (c .before .loop-test .taken)

@@ -45,7 +45,7 @@ add-pair-at : tie.Need-add-pair-at Inv-loop μ-loop
 add-pair-at c = let s = start c in omega (arith, c .loop-test .taken, s .pre .0 .held, s .good)
 
 pair-at-requires : tie.Need-pair-at-requires Inv-loop μ-loop
-pair-at-requires c κs = run-pair (start c .pre .0) (c .before .loop .i) (c .loop-test .taken) .0
+pair-at-requires c κs = search needs
 
 sub-put-pair : tie.Need-sub-put-pair Inv-loop μ-loop
 sub-put-pair c = putting-start (c .before .before .loop .inv) (c .before .loop-test .taken)
