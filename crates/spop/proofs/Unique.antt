@@ -65,7 +65,7 @@ module _ (r q at also : ℕ) where
 
   pub spop-decode-varint-unique : (input : List ℕ) (before value other : ℕ)
       → SpopDecodeVarint input r at before value → SpopDecodeVarint input q also before other → (r ≡ q) × (at ≡ also) × (value ≡ other)
-  spop-decode-varint-unique input before value other p s = call-unique p s
+  spop-decode-varint-unique input before value other p s = call-unique (p .0) (s .0)
 
   pub spop-typed-data-unique : (input before value other : List ℕ)
       → SpopTypedData input r at before value → SpopTypedData input q also before other → (r ≡ q) × (at ≡ also) × (value ≡ other)

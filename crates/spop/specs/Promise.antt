@@ -4,6 +4,7 @@ use mathlib.Core.Bool.{Bool}
 use mathlib.Core.List.{List, []}
 use Prim.Native.Nat.{ℕ}
 use Rattle.varint.specs.Number.{number}
+use Rattle.varint.specs.Promise.{exactly}
 use Rattle.plain.specs.Promise.{comparison, TextsLeft}
 use Rattle.types.specs.Value.{typed}
 use Rattle.frame.specs.declared.Head.{Head}
@@ -23,7 +24,7 @@ use Rattle.spop.specs.Told.{Told, valueOr, chosenOf}
 use Rattle.spop.specs.Values.{recordNumbers, headNumbers}
 
 abbrev pub SpopDecodeVarint : List ℕ → ℕ → ℕ → ℕ → ℕ → Type 0
-SpopDecodeVarint input r at before value = Told (number input) r at × (value ≡ valueOr (λ n. n) (number input) before)
+SpopDecodeVarint input r at before value = (Told (number input) r at × (value ≡ valueOr (λ n. n) (number input) before)) × exactly input (number input)
 
 pub record SpopSameTextPlain (a b : List ℕ) (r at : ℕ) (before same : Bool) (aOld aNew bOld bNew : List ℕ) : Type 0 where
   pub told : Told (comparison a b aOld bOld) r at

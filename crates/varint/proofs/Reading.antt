@@ -13,7 +13,9 @@ use lib.ListN.{length, take, getD}
 use borrow.Author.Tests.{lt-ltb, le-ltb, le-leb, lt-leb, eqb-true, eqb-false}
 use Rattle.answer.specs.Answer.{Answer, done, refused}
 use Rattle.answer.proofs.Cases.{bool-cases, not-both, lt-or-le}
+use Rattle.varint.specs.declared.NumberRead.{NumberRead}
 use Rattle.varint.specs.Number.{worth, tenthTooHigh, more, number, groups, numberBytes}
+use Rattle.varint.specs.Promise.{numberSaid, exactly, DecodeVarint}
 use Rattle.varint.proofs.Writing.{reach, reach-down, groups-last, groups-on, bytes-one, bytes-more, steps-reach}
 
 -- ---- one byte
@@ -338,3 +340,11 @@ number-exact (b ∷ s) n used small is =
 -- So different bytes never give one number.
 pub one-form : (s t : List ℕ) (n u v : ℕ) → Bytes s → Bytes t → number s ≡ done n u → number t ≡ done n v → take u s ≡ take v t
 one-form s t n u v small other e f = number-exact s n u small e ∙ sym (number-exact t n v other f)
+
+-- so the number reader keeps its promise, of lent bytes, where it answers as the definition does
+pub decoded : (s : List ℕ) (r : NumberRead) → Bytes s → numberSaid r ≡ number s → DecodeVarint s r
+decoded s r small says = record { says = says; exact = go (number s) refl }
+  where
+    go : (a : Answer ℕ) → number s ≡ a → exactly s a
+    go (done n used) e = number-exact s n used small e
+    go (refused n place) e = tt

@@ -16,4 +16,4 @@ numberSaid-same (n.Refused r) (n.Done v u) e = let z : _≡_ {A = ℕ} 0 1 = cc 
 numberSaid-same (n.Refused r) (n.Refused q) e = ap n.Refused (refusal-same r q (cc) (cc))
 
 pub decode-varint-unique : (s : List ℕ) (r q : NumberRead) → DecodeVarint s r → DecodeVarint s q → r ≡ q
-decode-varint-unique s r q p o = numberSaid-same r q (one-only p o)
+decode-varint-unique s r q p o = numberSaid-same r q (one-only (p .says) (o .says))

@@ -14,7 +14,7 @@ use Rattle.answer.specs.Answer.{Answer, done, refused, written, within, tells, 
 use Rattle.answer.specs.Writes.{said, Writes}
 use Rattle.answer.specs.Order.{inOrder}
 use Rattle.answer.proofs.Cases.{lt-or-le, not-both}
-use Rattle.answer.proofs.Output.{writes-whole}
+use Rattle.answer.proofs.Output.{writes-as, writes-whole}
 use Rattle.answer.proofs.Parts.{both-start, both-room, both-leaves}
 use Rattle.frame.specs.declared.Head.{Head}
 use Rattle.frame.specs.Head.{fourBytes, headBytes, frameBytes}
@@ -129,7 +129,7 @@ module _ (limit : ℕ) (h : Head) (payload : List ℕ) {old out : List ℕ} (len
       refused-as n a b =
           let says : said (w.Refused x) ≡ refused n 0 = sym (ap said e) ∙ said-refused n a in
           let holds : out ≡ old = p .holds ∙ ap (λ (y : Answer (List ℕ)). leaves y old) a in
-          rw b (record { says = says; holds = holds })
+          writes-as b says holds
 
   -- and else it is begun
   pub begun-done : (start : ℕ) → r ≡ w.Done start → Begun limit h payload old len start out

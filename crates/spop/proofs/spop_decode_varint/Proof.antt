@@ -8,12 +8,13 @@ use Rattle.spop.proofs.spop_decode_varint.Statement.{statement}
 use Rattle.spop.proofs.spop_decode_varint.Tie as tie
 
 returns : tie.Need-returns
-returns c = told-done (λ n. n) _ (sym (c .before .before .before .decode-varint .ensures) ∙ ap numberSaid (c .before .n .given .1))
+returns c = let d = c .before .before .before .decode-varint .ensures in (told-done (λ n. n) _ (sym (d .says) ∙ ap numberSaid (c .before .n .given .1)), d .exact)
 
 returns-2 : tie.Need-returns-2
 returns-2 c =
     let k = c .before .before .before in
-    told-refused (λ n. n) _ (sym (k .before .before .decode-varint .ensures) ∙ ap numberSaid (k .r .given .1)) (c .refuse .ensures)
+    let d = k .before .before .decode-varint .ensures in
+    (told-refused (λ n. n) _ (sym (d .says) ∙ ap numberSaid (k .r .given .1)) (c .refuse .ensures), d .exact)
 
 pub spop-decode-varint-spec : {M : Type 1} → statement M
 spop-decode-varint-spec =

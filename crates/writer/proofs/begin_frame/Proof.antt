@@ -62,7 +62,9 @@ returns-4 c =
     let behind = length (headBytes (a .head)) + a .len in
     let fits : 4 + behind ≤ length (a .out .now) = omega (arith, e .if3 .left, n) in
     rw (begun-in (length (a .out .now)) (a .limit) (a .head) (a .len) (omega (arith, e .before .if2 .left, n)) fits)
-    (let w = simp (le-leb (length (fourBytes behind ++ headBytes (a .head))) (length (a .out .now)) (omega (arith, front-length (a .head) (a .len)))) at (rw n at (c .before .before .write-head .ensures)) in record { says = w .says; holds = w .holds })
+    (let room = le-leb (length (fourBytes behind ++ headBytes (a .head))) (length (a .out .now)) (omega (arith, front-length (a .head) (a .len))) in
+    let w = rw n at (c .before .before .write-head .ensures) in
+    record { says = simp room at (w .says); holds = simp room at (w .holds) })
 
 pub begin-frame-spec : {M : Type 1} → statement M
 begin-frame-spec =

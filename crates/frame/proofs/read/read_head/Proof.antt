@@ -147,7 +147,7 @@ abbrev bytes : tie.After-decode-varint → List ℕ
 bytes n = begin n .args .frame .now
 
 read : (n : tie.After-decode-varint) (a : Answer ℕ) → numberSaid (n .decode-varint .result) ≡ a → number (drop 9 (bytes n)) ≡ a
-read n a e = lent number (bytes n) 9 (n .decode-varint .ensures) e
+read n a e = lent number (bytes n) 9 (n .decode-varint .ensures .says) e
 
 number-refused-requires : tie.Need-number-refused-requires
 number-refused-requires c κs number place e =
@@ -203,7 +203,7 @@ abbrev tests : tie.After-decode-varint2 → tie.Else5
 tests m = before-it m .before .before .before .before .before
 
 read-second : (m : tie.After-decode-varint2) (a : Answer ℕ) → numberSaid (m .decode-varint2 .result) ≡ a → number (drop (at m) (frame m)) ≡ a
-read-second m a e = lent number (frame m) (at m) (m .decode-varint2 .ensures) e
+read-second m a e = lent number (frame m) (at m) (m .decode-varint2 .ensures .says) e
 
 number-refused-requires-2 : tie.Need-number-refused-requires-2
 number-refused-requires-2 c κs number place e =

@@ -12,17 +12,17 @@ use Rattle.types.proofs.read.read_number.Tie as tie
 add-place : tie.Need-add-place
 add-place c = let k = c .before .before .before .before in
     let a = k .before .before .before in
-    omega (arith, none-bound (a .args .input .now) (a .pre .0) (k .decode-varint .ensures) _ _ (ap numberSaid (c .before .before .r .given .1)))
+    omega (arith, none-bound (a .args .input .now) (a .pre .0) (k .decode-varint .ensures .says) _ _ (ap numberSaid (c .before .before .r .given .1)))
 
 returns : tie.Need-returns
 returns c = let k = c .before .before .before .before in
     let a = k .before .before .before in
-    number-none (a .args .input .now) (a .pre .0) (k .decode-varint .ensures) (a .args .kind) (a .args .flags) (a .pre .1) _ _ (ap numberSaid (c .before .before .r .given .1))
+    number-none (a .args .input .now) (a .pre .0) (k .decode-varint .ensures .says) (a .args .kind) (a .args .flags) (a .pre .1) _ _ (ap numberSaid (c .before .before .r .given .1))
 
 add-taken : tie.Need-add-taken
 add-taken c = let k = c .before .before .before in
     let a = k .before .before .before in
-    omega (arith, some-bound (a .args .input .now) (a .pre .0) (k .decode-varint .ensures) _ _ (ap numberSaid (c .before .value .given .1)))
+    omega (arith, some-bound (a .args .input .now) (a .pre .0) (k .decode-varint .ensures .says) _ _ (ap numberSaid (c .before .value .given .1)))
 
 integer-value-requires : tie.Need-integer-value-requires
 integer-value-requires c κs = let a = c .before .before .before .before .before .before .before in
@@ -34,19 +34,19 @@ returns-2 c = let t = c .before in
     let a = k .before .before .before in
     shape-integer (a .args .kind) (numbered-integer (a .args .kind) (a .pre .1) (t .if1 .taken)) (t .if1 .taken)
     (λ w row. c .integer-value .ensures w row
-    ∙ integer-some (a .args .input .now) (a .pre .0) (k .decode-varint .ensures) (a .args .kind) (a .args .flags) w row _ _ (ap numberSaid (t .before .before .value .given .1)))
+    ∙ integer-some (a .args .input .now) (a .pre .0) (k .decode-varint .ensures .says) (a .args .kind) (a .args .flags) w row _ _ (ap numberSaid (t .before .before .value .given .1)))
 
 bytes-value-requires : tie.Need-bytes-value-requires
 bytes-value-requires c κs = let k = c .before .before .before .before in
     let a = k .before .before .before in
-    some-bound (a .args .input .now) (a .pre .0) (k .decode-varint .ensures) _ _ (ap numberSaid (c .before .before .value .given .1))
+    some-bound (a .args .input .now) (a .pre .0) (k .decode-varint .ensures .says) _ _ (ap numberSaid (c .before .before .value .given .1))
 
 returns-3 : tie.Need-returns-3
 returns-3 c = let t = c .before in
     let k = t .before .before .before .before in
     let a = k .before .before .before in
     c .bytes-value .ensures
-    ∙ text-some (a .args .input .now) (a .pre .0) (k .decode-varint .ensures) (a .args .kind) (a .args .flags) (numbered-text (a .args .kind) (a .pre .1) (t .if1 .left)) _ _
+    ∙ text-some (a .args .input .now) (a .pre .0) (k .decode-varint .ensures .says) (a .args .kind) (a .args .flags) (numbered-text (a .args .kind) (a .pre .1) (t .if1 .left)) _ _
     (ap numberSaid (t .before .before .value .given .1))
 
 pub read-number-spec : {M : Type 1} → statement M

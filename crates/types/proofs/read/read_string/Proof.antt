@@ -13,11 +13,11 @@ use Rattle.types.proofs.read.read_string.Tie as tie
 
 returns : tie.Need-returns
 returns c = let s = c .before .before .before .before .before .args .input .now in
-    sym (string-refused s _ _ (sym (ap numberSaid (sym (c .before .r .given .1)) ∙ c .before .before .before .decode-varint .ensures)))
+    sym (string-refused s _ _ (sym (ap numberSaid (sym (c .before .r .given .1)) ∙ c .before .before .before .decode-varint .ensures .says)))
 
 -- what the number is, where one was read
 read : (c : tie.After-known-told2) → number (c .before .before .before .before .before .args .input .now) ≡ done (c .before .value .given .0 .0) (c .before .value .given .0 .1 .0)
-read c = sym (ap numberSaid (sym (c .before .value .given .1)) ∙ c .before .before .before .decode-varint .ensures)
+read c = sym (ap numberSaid (sym (c .before .value .given .1)) ∙ c .before .before .before .decode-varint .ensures .says)
 
 sub-if1 : tie.Need-sub-if1
 sub-if1 c = accepted _ _ _ (read c) .2

@@ -28,7 +28,7 @@ abbrev bytes : tie.After-decode-varint → List ℕ
 bytes t = start t .args .frame .now
 
 read : (t : tie.After-decode-varint) (a : Answer ℕ) → numberSaid (t .decode-varint .result) ≡ a → number (drop (start t .args .at) (bytes t)) ≡ a
-read t a e = lent number (bytes t) (start t .args .at) (t .decode-varint .ensures) e
+read t a e = lent number (bytes t) (start t .args .at) (t .decode-varint .ensures .says) e
 
 ends : (t : tie.After-decode-varint) (a : Answer ℕ) → numberSaid (t .decode-varint .result) ≡ a
     → endOr (length (bytes t)) (behind still (start t .args .at) a) ≡ endOr (length (bytes t)) (behind still (start t .args .at) (number (drop (start t .args .at) (bytes t))))
