@@ -2,8 +2,9 @@
 use mathlib.Core.Path.{_≡_, refl, sym, ap, _∙_}
 use mathlib.Core.List.{List}
 use Prim.Native.Nat.{ℕ}
+use lib.ListN.{length}
 use Rattle.answer.specs.declared.Written.{Written}
-use Rattle.answer.specs.Answer.{Answer, done, refused, tells}
+use Rattle.answer.specs.Answer.{Answer, done, refused, tells, within}
 use Rattle.answer.specs.Writes.{said, Writes}
 use Rattle.answer.proofs.Cases.{not-both}
 use Rattle.frame.specs.declared.Head.{Head}
@@ -16,7 +17,7 @@ use Rattle.payload.specs.Payload.{Contents}
 use Rattle.payload.specs.Promise.{countsOf}
 use Rattle.parser.specs.Promise.{frameTells}
 use Rattle.parser.proofs.Entries.{said-done}
-use Rattle.spop.specs.Told.{numberOf, atOf, valueOr, Told}
+use Rattle.spop.specs.Told.{numberOf, atOf, valueOr, Told, Left}
 use Rattle.spop.specs.Values.{headNumbers}
 use Rattle.spop.specs.Promise.{HeadTold}
 
@@ -40,12 +41,15 @@ at-tells : (a : Answer (List ℕ)) → atOf (tells a) ≡ atOf a
 at-tells (done value n) = refl
 at-tells (refused number place) = refl
 
-pub told-writes : {a : Answer (List ℕ)} {w : Written} {old new : List ℕ} {r at : ℕ} → Writes a w old new → Told (said w) r at → Told a r at
-told-writes {a} p t =
-    record {
-      says = t .says ∙ ap numberOf (p .says) ∙ number-tells a;
-      where-at = t .where-at ∙ ap atOf (p .says) ∙ at-tells a;
-    }
+pub left-writes : {a : Answer (List ℕ)} {w : Written} {old new : List ℕ} {r at : ℕ} → Writes a w old new → Told (said w) r at → Left a r at old new
+left-writes {a} {old = old} p t =
+    let b = within (length old) a in (
+      record {
+        says = t .says ∙ ap numberOf (p .says) ∙ number-tells b;
+        where-at = t .where-at ∙ ap atOf (p .says) ∙ at-tells b;
+      },
+      p .holds,
+    )
 
 -- ---- what the frame readers said, in numbers
 

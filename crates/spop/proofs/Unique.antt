@@ -27,8 +27,8 @@ call-unique : {A B : Type 0} {a : Answer A} {x y left : B} {r q at also : ℕ}
 call-unique p q = let t = told-unique (p .0) (q .0) in (t .0, t .1, one-only (p .1) (q .1))
 
 -- of any writer
-pub left-unique : {a : Answer (List ℕ)} {r q at also : ℕ} {old new other : List ℕ} → Left a r at old new → Left a q also old other → (r ≡ q) × (at ≡ also) × (new ≡ other)
-left-unique p q = call-unique p q
+pub left-unique : (a : Answer (List ℕ)) (old : List ℕ) {r q at also : ℕ} {new other : List ℕ} → Left a r at old new → Left a q also old other → (r ≡ q) × (at ≡ also) × (new ≡ other)
+left-unique a old p q = call-unique p q
 
 -- of both frame readers: the head's numbers, and the numbers in each table
 frame-unique : {side : Side} {x : Reading (Head × Contents)} {r q at also : ℕ} {before head other om nm om′ op np op′ oa na oa′ : List ℕ}

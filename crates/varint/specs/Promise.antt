@@ -16,7 +16,7 @@ numberSaid (n.Refused r) = refused (r .number) (r .place)
 -- a number that was read took exactly the bytes that it is written as
 abbrev pub exactly : List ℕ → Answer ℕ → Type 0
 exactly input (done value used) = take used input ≡ numberBytes value
-exactly input (refused number place) = Unit
+exactly input (refused why place) = Unit
 
 -- `decode_varint` reads the number at the front of the bytes, and none from other bytes than those that it is written as.
 pub record DecodeVarint (input : List ℕ) (r : NumberRead) : Type 0 where

@@ -9,7 +9,7 @@ use borrow.Author.Needs.{needs}
 use Rattle.answer.specs.Answer.{Answer, within}
 use Rattle.answer.specs.Writes.{Writes}
 use Rattle.types.specs.Form.{valueAnswer}
-use Rattle.spop.proofs.Telling.{told-writes}
+use Rattle.spop.proofs.Telling.{left-writes}
 use Rattle.spop.proofs.spop_write_value.Statement.{statement}
 use Rattle.spop.proofs.spop_write_value.Tie as tie
 
@@ -21,7 +21,7 @@ returns c =
     subst
     (λ (x : Answer (List ℕ)). Writes x (k .write-value .result) (a .out .now) (k .write-value .last .1 .1 .0))
     (ap (valueAnswer (a .buffer .now)) (k .before .before .value-of .ensures)) (k .write-value .ensures) in
-    (told-writes w (c .tell .ensures), w .holds)
+    left-writes w (c .tell .ensures)
 
 pub spop-write-value-spec : {M : Type 1} → statement M
 spop-write-value-spec = tie.close (tie.spec (λ c κs. search needs) (λ c κs. search needs) (λ c κs. search needs) (λ c. search needs) returns)
