@@ -9,9 +9,9 @@ use lib.Dec.{leb}
 use lib.ListN.{length, take, length-append}
 use lib.Seq.{length-take-le}
 use borrow.Author.Tests.{le-leb, eq-eqb, ne-eqb}
-use Rattle.answer.specs.Answer.{Answer, done, written}
-use Rattle.answer.specs.Order.{Check, inOrder, linesAt}
-use Rattle.answer.specs.Table.{numberAt, holds, records, joined}
+use Rattle.answer.specs.Answer.{done, written}
+use Rattle.answer.specs.Order.{Check}
+use Rattle.answer.specs.Table.{numberAt, records, joined}
 use Rattle.answer.specs.Inner.{Passes}
 use Rattle.answer.proofs.Cases.{bool-cases}
 use Rattle.answer.proofs.Order.{lines-pass}
@@ -19,7 +19,7 @@ use Rattle.answer.proofs.Each.{Each, each-at}
 use Rattle.answer.proofs.Records.{records-none, joined-on}
 use Rattle.answer.proofs.Rows.{number-later}
 use Rattle.types.specs.Value.{points, shape}
-use Rattle.types.specs.Form.{ranged}
+use Rattle.types.specs.Form.{inside, ranged}
 use Rattle.types.specs.Promise.{recordOf}
 use Rattle.frame.specs.declared.Head.{Head}
 use Rattle.frame.specs.declared.Pair.{Pair}
@@ -36,8 +36,8 @@ use Rattle.parser.specs.Frame.{frameRead}
 use Rattle.parser.specs.Promise.{contentsRead}
 use Rattle.parser.proofs.Frames.{Cut, frame-cut}
 use Rattle.listing.specs.Lines.{frameLine, messageLine, pairLine, actionLine}
-use Rattle.listing.specs.Check.{messageLineChecks, pairLineChecks, isAction, actionLineChecks}
-use Rattle.listing.specs.Order.{messageAnswer, pairAnswer, actionAnswer}
+use Rattle.listing.specs.Check.{checkedLine, messageAnswer, pairLineChecks, pairAnswer, isAction, actionAnswer}
+use Rattle.listing.specs.Order.{inTable}
 use Rattle.listing.proofs.Frames.{itemLines, actionLines, frameLines}
 use Rattle.listing.proofs.Accepted.{Named, Whole, Acts, Held, whole-held}
 use Rattle.listing.proofs.Stepped.{bytesOf, steps, steps-lines}
@@ -108,7 +108,7 @@ table-actions = table-holds actionNumbers actionAt here later
 
 -- ---- records of an accepted frame pass their checks
 
-message-passes : (f : List ℕ) (m : Message) → Named (length f) m → Passes (messageLineChecks f m)
+message-passes : (f : List ℕ) (m : Message) → Named (length f) m → Passes ((16, inside f (m .start) (m .len)) ∷ [])
 message-passes f m h = (le-leb (m .start + m .len) (length f) h, tt)
 
 pair-passes : (f : List ℕ) (p : Pair) → Whole (length f) p → Passes (pairLineChecks f p)
@@ -117,7 +117,7 @@ pair-passes f p h = (h .fields, (le-leb (p .start + p .len) (length f) (h .key),
     range : ranged f (recordOf (p .value)) ≡ true
     range = bool-cases (points (shape (p .value .kind))) (λ t. rw t (le-leb (p .value .a + p .value .b) (length f) (h .range t))) (λ t. rw t)
 
-action-passes : (f : List ℕ) (x : Action) → Acts (length f) x → Passes (actionLineChecks f x)
+action-passes : (f : List ℕ) (x : Action) → Acts (length f) x → Passes ((14, isAction x) ∷ pairLineChecks f (x .pair))
 action-passes f x a = (known, pair-passes f (x .pair) (a .whole))
   where
     scope : leb (x .scope) 4 ≡ true
@@ -132,28 +132,28 @@ action-passes f x a = (known, pair-passes f (x .pair) (a .whole))
         let flags : x .pair .value .flags ≡ 0 = cc in
         rw (scope, ne-eqb (x .verb) 1 (λ z. omega arith), eq-eqb (x .verb) 2 two, eq-eqb (x .pair .value .kind) 0 kind, eq-eqb (x .pair .value .flags) 0 flags))
 
--- A table with these records at its front: whatever holds of each of them, and lets its checks pass, record i is there and passes.
-answers : {A : Type 0} (numbers : A → List ℕ) (width : ℕ) → ((x : A) → length (numbers x) ≡ width) → (at : ℕ → A) (P : A → Type 0) (checks : A → List Check)
-    → ((x : A) → P x → Passes (checks x)) → (table : List ℕ) (xs : List A) (behind : List ℕ) → table ≡ joined numbers xs ++ behind
-    → records at 0 (length xs) ≡ xs → Each P xs → (i : ℕ) → i < length xs → (a : Answer (List ℕ))
-    → inOrder (linesAt 0 ((16, holds width table (i + 1)) ∷ checks (at i))) a ≡ a
-answers numbers width wide at P checks passes table xs behind is these each i h a =
+-- A table with these records at its front: whatever holds of each of them, and lets its checks pass, record i is there and has its line.
+answers : {A : Type 0} (numbers : A → List ℕ) (width : ℕ) → ((x : A) → length (numbers x) ≡ width) → (at : List ℕ → ℕ → A) (P : A → Type 0)
+    → (checks : A → List Check) → ((x : A) → P x → Passes (checks x)) → (line : ℕ → List ℕ → A → List ℕ) (f table : List ℕ) (xs : List A) (behind : List ℕ)
+    → table ≡ joined numbers xs ++ behind → records (at table) 0 (length xs) ≡ xs → Each P xs → (i : ℕ) → i < length xs
+    → inTable width at (λ k g x. checkedLine (checks x) (line k g x)) f table i ≡ written (line i f (at table i))
+answers numbers width wide at P checks passes line f table xs behind is these each i h =
     let all = joined-width numbers width wide xs in
     let few : i + 1 ≤ length xs = omega arith in
     let more = mul-le-mul-right width few in
     let room : (i + 1) * width ≤ length table = omega (arith, ap length is, length-append (joined numbers xs) behind) in
     let here : 0 + i ≡ i = omega arith in
-    let there : P (at i) = rw here at (each-at P at (length xs) 0 (rw these each) i h) in
-    lines-pass ((16, holds width table (i + 1)) ∷ checks (at i)) (le-leb ((i + 1) * width) (length table) room, passes (at i) there) 0 a
+    let there : P (at table i) = rw here at (each-at P (at table) (length xs) 0 (rw these each) i h) in
+    rw (le-leb ((i + 1) * width) (length table) room) (lines-pass (checks (at table i)) (passes (at table i) there) 0 (written (line i f (at table i))))
 
 -- ---- the lines of the actions of a table
 
 -- What the answers for so many actions of a table write, one behind the other.
 unfoldable pub actionSteps : List ℕ → List ℕ → ℕ → ℕ → List ℕ
 actionSteps f actions k zero = []
-actionSteps f actions k (suc n) = bytesOf (actionAnswer f actions k) ++ actionSteps f actions (suc k) n
+actionSteps f actions k (suc n) = bytesOf (inTable actionWidth actionAt actionAnswer f actions k) ++ actionSteps f actions (suc k) n
 
-action-steps : (f actions : List ℕ) (n k : ℕ) → ((i : ℕ) → i < k + n → actionAnswer f actions i ≡ written (actionLine i f (actionAt actions i)))
+action-steps : (f actions : List ℕ) (n k : ℕ) → ((i : ℕ) → i < k + n → inTable actionWidth actionAt actionAnswer f actions i ≡ written (actionLine i f (actionAt actions i)))
     → actionSteps f actions k n ≡ actionLines f k (records (actionAt actions) k n)
 unfolding actionSteps actionLines records
 action-steps f actions zero k each = refl
@@ -196,20 +196,20 @@ module _ (side : Side) (limit : ℕ) (s oldMessages newMessages oldPairs newPair
   actions-held = rw (inActions .1) (table-actions (c .actions) (inActions .0))
 
   -- Laws: and each of them is answered with its line.
-  pub message-answered : (i : ℕ) → i < length (c .messages) → messageAnswer f newMessages i ≡ written (messageLine i f (messageAt newMessages i))
+  pub message-answered : (i : ℕ) → i < length (c .messages) → inTable messageWidth messageAt messageAnswer f newMessages i ≡ written (messageLine i f (messageAt newMessages i))
   message-answered i h =
-      answers messageNumbers messageWidth (λ x. refl) (messageAt newMessages) (Named (length f)) (messageLineChecks f) (message-passes f) newMessages (c .messages) (inMessages .0) (inMessages .1)
-      messages-held (held .messages) i h _
+      answers messageNumbers messageWidth (λ x. refl) messageAt (Named (length f)) (λ x. (16, inside f (x .start) (x .len)) ∷ []) (message-passes f) messageLine f newMessages (c .messages) (inMessages .0) (inMessages .1)
+      messages-held (held .messages) i h
 
-  pub pair-answered : (k : ℕ) → k < length (c .pairs) → pairAnswer f newPairs k ≡ written (pairLine k f (pairAt newPairs k))
+  pub pair-answered : (k : ℕ) → k < length (c .pairs) → inTable pairWidth pairAt pairAnswer f newPairs k ≡ written (pairLine k f (pairAt newPairs k))
   pair-answered k h =
-      answers pairNumbers pairWidth (λ x. refl) (pairAt newPairs) (Whole (length f)) (pairLineChecks f) (pair-passes f) newPairs (c .pairs) (inPairs .0) (inPairs .1)
-      pairs-held (held .pairs) k h _
+      answers pairNumbers pairWidth (λ x. refl) pairAt (Whole (length f)) (pairLineChecks f) (pair-passes f) pairLine f newPairs (c .pairs) (inPairs .0) (inPairs .1)
+      pairs-held (held .pairs) k h
 
-  pub action-answered : (k : ℕ) → k < length (c .actions) → actionAnswer f newActions k ≡ written (actionLine k f (actionAt newActions k))
+  pub action-answered : (k : ℕ) → k < length (c .actions) → inTable actionWidth actionAt actionAnswer f newActions k ≡ written (actionLine k f (actionAt newActions k))
   action-answered k h =
-      answers actionNumbers actionWidth (λ x. refl) (actionAt newActions) (Acts (length f)) (actionLineChecks f) (action-passes f) newActions (c .actions) (inActions .0) (inActions .1)
-      actions-held (held .actions) k h _
+      answers actionNumbers actionWidth (λ x. refl) actionAt (Acts (length f)) (λ x. (14, isAction x) ∷ pairLineChecks f (x .pair)) (action-passes f) actionLine f newActions (c .actions) (inActions .0) (inActions .1)
+      actions-held (held .actions) k h
 
   -- Law: so the steps from the first place on, and then the actions one by one, are the frame's lines, in order, behind its own.
   pub accepted-lines : (index : ℕ)
