@@ -1,17 +1,17 @@
 -- Laws about a table whose numbers start with those of whole records: these are its first records, and the others follow.
-use mathlib.Core.Path.{_≡_, sym, ap, ap₂, _∙_}
+use mathlib.Core.Path.{_≡_, refl, sym, ap, ap₂, _∙_}
 use mathlib.Core.Bool.{Bool, cond}
-use mathlib.Core.List.{List, _++_}
+use mathlib.Core.List.{List, [], _∷_, _++_, append-assoc}
 use mathlib.Core.Logic.{⊎-elim}
-use Prim.Native.Nat.{ℕ, _+_, _*_, _≤_, _<_}
+use Prim.Native.Nat.{ℕ, zero, suc, _+_, _*_, _≤_, _<_}
 use native.Mathlib.Nat.{add-mul, one-mul, add-assoc, mul-le-mul-right}
 use native.Mathlib.Omega.{arith}
 use lib.ListN.{length, take, getD, length-append, List·getD-append}
 use lib.Seq.{length-take-le, getD-append-add, getD-take}
 use borrow.Author.Tests.{le-leb, lt-leb}
-use Rattle.answer.specs.Table.{holds, numberAt, records}
+use Rattle.answer.specs.Table.{holds, numberAt, records, joined}
 use Rattle.answer.proofs.Cases.{lt-or-le}
-use Rattle.answer.proofs.Records.{records-both, records-run, records-same}
+use Rattle.answer.proofs.Records.{records-none, records-both, records-run, records-same, joined-on}
 
 -- number k of record i stands among those of so many records
 in-records : (width count i k : ℕ) → i < count → k < width → i * width + k < count * width
@@ -64,3 +64,33 @@ module _ {A : Type 0} (width : ℕ) (at : List ℕ → ℕ → A)
       (ap (λ (k : ℕ). records all k m) here
       ∙ records-run all n m
       ∙ records-same (λ (j : ℕ). all (n + j)) (at t) m 0 (λ i z k. second n s behind h i ∙ first m t rest l i (omega arith)))
+
+-- ---- what a table holds
+
+-- records that are the same from the next on
+records-later : {A : Type 0} (at other : ℕ → A) → ((i : ℕ) → at (suc i) ≡ other i) → (n i : ℕ) → records at (suc i) n ≡ records other i n
+unfolding records
+records-later at other e zero i = refl
+records-later at other e (suc n) i = ap₂ _∷_ (e i) (records-later at other e n (suc i))
+
+records-first : {A : Type 0} (at : ℕ → A) (n : ℕ) → records at 0 (suc n) ≡ at 0 ∷ records at 1 n
+unfolding records
+records-first at n = refl
+
+-- A number of a record behind the first stands there without the first too, one record earlier.
+pub number-next : (width : ℕ) (front t : List ℕ) → length front ≡ width → (i k : ℕ) → numberAt width (front ++ t) (suc i) k ≡ numberAt width t i k
+number-next width front t long i k =
+    let one : suc i ≡ 1 + i = omega arith in
+    ap (λ (n : ℕ). numberAt width (front ++ t) n k) one ∙ number-later width 1 front t (long ∙ sym (one-mul width)) i k
+
+-- A table's records are read one by one, whatever their width.
+module _ {A : Type 0} (numbers : A → List ℕ) (at : List ℕ → ℕ → A)
+    (here : (x : A) (t : List ℕ) → at (numbers x ++ t) 0 ≡ x) (later : (x : A) (t : List ℕ) (i : ℕ) → at (numbers x ++ t) (suc i) ≡ at t i) where
+  -- Law: a table with the numbers of some records at its front holds them.
+  pub table-holds : (xs : List A) (t : List ℕ) → records (at (joined numbers xs ++ t)) 0 (length xs) ≡ xs
+  table-holds [] t = records-none (at (joined numbers [] ++ t)) 0
+  table-holds (x ∷ xs) t =
+      let rest = joined numbers xs ++ t in
+      ap (λ (l : List ℕ). records (at l) 0 (suc (length xs))) (ap (λ (l : List ℕ). l ++ t) (joined-on numbers x xs) ∙ append-assoc (numbers x) (joined numbers xs) t)
+      ∙ records-first (at (numbers x ++ rest)) (length xs)
+      ∙ ap₂ _∷_ (here x rest) (records-later (at (numbers x ++ rest)) (at rest) (later x rest) (length xs) 0 ∙ table-holds xs t)

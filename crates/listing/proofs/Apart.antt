@@ -19,8 +19,9 @@ use Rattle.frame.specs.declared.Message.{Message}
 use Rattle.frame.specs.declared.Action.{Action}
 use Rattle.frame.specs.Records.{keyOf}
 use Rattle.payload.proofs.Standing.{by-verb}
-use Rattle.listing.specs.Digits.{decimal, shown}
-use Rattle.listing.specs.Lines.{gap, filled, frameForm, messageForm, pairForm, setForm, unsetForm, endForm, valueText, frameLine, messageLine, pairLine, actionLine, endLine}
+use Rattle.listing.specs.Digits.{letters, decimal, shown}
+use Rattle.listing.specs.Lines.{filled, valueText, frameLine, messageLine, pairTexts, pairLine, actionLine, endLine}
+use Rattle.listing.proofs.Text.{gap}
 use Rattle.listing.proofs.Accepted.{Acts}
 use Rattle.listing.proofs.Distinct.{lineMeaning, Plain, decimal-apart, shown-apart, values-apart, decimal-plain, shown-plain, value-plain, texts-apart}
 
@@ -100,7 +101,7 @@ pub frame-apart : (i j : ℕ) (m n : Head) (b c : ℕ) (u v : List ℕ) → fram
     → (i ≡ j) × (m .«frame_type» ≡ n .«frame_type») × (m .stream ≡ n .stream) × (m .frame ≡ n .frame) × (b ≡ c) × (u ≡ v)
 unfolding frameLine
 frame-apart i j m n b c u v e =
-    let o = filled-apart frameForm refl _ _ u v refl refl (texts i m b) (texts j n c) e in
+    let o = filled-apart (letters "frame # type # stream # id # bytes #\n") refl _ _ u v refl refl (texts i m b) (texts j n c) e in
     let t1 = tail-eq-of-cons-eq (o .0) in
     let t2 = tail-eq-of-cons-eq t1 in
     let t3 = tail-eq-of-cons-eq t2 in
@@ -127,7 +128,7 @@ pub message-apart : (i : ℕ) (f g : List ℕ) (m n : Message) (u v : List ℕ) 
     → (part f (m .start) (m .len) ≡ part g (n .start) (n .len)) × (m .count ≡ n .count) × (u ≡ v)
 unfolding messageLine
 message-apart i f g m n u v e =
-    let o = filled-apart messageForm refl _ _ u v refl refl (texts f m) (texts g n) e in
+    let o = filled-apart (letters "message # name # args #\n") refl _ _ u v refl refl (texts f m) (texts g n) e in
     let t1 = tail-eq-of-cons-eq (o .0) in (
       shown-apart _ _ (head-eq-of-cons-eq t1),
       decimal-apart (m .count) (n .count) (head-eq-of-cons-eq (tail-eq-of-cons-eq t1)),
@@ -145,20 +146,20 @@ kinds-apart k l a b x c d y f g e h w t = rw (sym e) (values-apart k a b x c d y
 abbrev pub Fields : Pair → Type 0
 Fields p = writableRecord (recordOf (p .value)) ≡ true
 
+pair-plain : (f : List ℕ) (p : Pair) → Each Plain (pairTexts f p)
+pair-plain f p = (shown-plain (keyOf f p), (decimal-plain (p .value .kind), (value-plain f (recordOf (p .value)), tt)))
+
 pub pair-apart : (i : ℕ) (f g : List ℕ) (p q : Pair) (u v : List ℕ) → Fields p → Fields q → pairLine i f p ++ u ≡ pairLine i g q ++ v
     → (pairMeans f p ≡ pairMeans g q) × (u ≡ v)
 unfolding pairLine
 pair-apart i f g p q u v h l e =
-    let o = filled-apart pairForm refl _ _ u v refl refl (texts f p) (texts g q) e in
+    let o = filled-apart (letters "pair # key # kind # value #\n") refl _ _ u v refl refl (decimal-plain i, pair-plain f p) (decimal-plain i, pair-plain g q) e in
     let t1 = tail-eq-of-cons-eq (o .0) in
     let t2 = tail-eq-of-cons-eq t1 in
     let key : keyOf f p ≡ keyOf g q = shown-apart _ _ (head-eq-of-cons-eq t1) in
     let kind = decimal-apart (p .value .kind) (q .value .kind) (head-eq-of-cons-eq t2) in
     let val = kinds-apart (p .value .kind) (q .value .kind) (p .value .a) (p .value .b) (p .value .flags) (q .value .a) (q .value .b) (q .value .flags) f g kind h l (head-eq-of-cons-eq (tail-eq-of-cons-eq t2)) in
     ((λ j. (key j, val j)), o .1)
-  where
-    texts : (f : List ℕ) (p : Pair) → Each Plain (decimal i ∷ shown (keyOf f p) ∷ decimal (p .value .kind) ∷ valueText f (recordOf (p .value)) ∷ [])
-    texts f p = (decimal-plain i, (shown-plain (keyOf f p), (decimal-plain (p .value .kind), (value-plain f (recordOf (p .value)), tt))))
 
 -- ---- an action's line
 
@@ -170,28 +171,25 @@ actionMeans f x = (x .verb, x .scope, pairMeans f (x .pair))
 abbrev pub Lined : Action → Type 0
 Lined x = (n : ℕ) × Acts n x
 
+abbrev setForm : List ℕ
+setForm = letters "action # set scope # name # kind # value #\n"
+
+abbrev unsetForm : List ℕ
+unsetForm = letters "action # unset scope # name #\n"
+
 module _ (i : ℕ) (f : List ℕ) (x : Action) where
-  abbrev setTexts : List (List ℕ)
-  setTexts = decimal i ∷ decimal (x .scope) ∷ shown (keyOf f (x .pair)) ∷ decimal (x .pair .value .kind) ∷ valueText f (recordOf (x .pair .value)) ∷ []
-
-  abbrev unsetTexts : List (List ℕ)
-  unsetTexts = decimal i ∷ decimal (x .scope) ∷ shown (keyOf f (x .pair)) ∷ []
-
-  set-line : x .verb ≡ 1 → actionLine i f x ≡ filled setForm setTexts
+  set-line : x .verb ≡ 1 → actionLine i f x ≡ filled setForm (decimal i ∷ decimal (x .scope) ∷ pairTexts f (x .pair))
   unfolding actionLine
   set-line one = rw (eq-eqb (x .verb) 1 one)
 
-  unset-line : (x .verb ≡ 1 → ⊥) → actionLine i f x ≡ filled unsetForm unsetTexts
-  unfolding actionLine
+  unset-line : (x .verb ≡ 1 → ⊥) → actionLine i f x ≡ filled unsetForm (decimal i ∷ decimal (x .scope) ∷ shown (keyOf f (x .pair)) ∷ [])
+  unfolding actionLine filled
   unset-line ne = rw (ne-eqb (x .verb) 1 ne)
 
-  set-plain : Each Plain setTexts
-  set-plain = (
-    decimal-plain i,
-    (decimal-plain (x .scope), (shown-plain (keyOf f (x .pair)), (decimal-plain (x .pair .value .kind), (value-plain f (recordOf (x .pair .value)), tt)))),
-  )
+  set-plain : Each Plain (decimal i ∷ decimal (x .scope) ∷ pairTexts f (x .pair))
+  set-plain = (decimal-plain i, (decimal-plain (x .scope), pair-plain f (x .pair)))
 
-  unset-plain : Each Plain unsetTexts
+  unset-plain : Each Plain (decimal i ∷ decimal (x .scope) ∷ shown (keyOf f (x .pair)) ∷ [])
   unset-plain = (decimal-plain i, (decimal-plain (x .scope), (shown-plain (keyOf f (x .pair)), tt)))
 
 -- a set's line and an unset's part behind the index
@@ -249,7 +247,7 @@ module _ (i : ℕ) (f g : List ℕ) (x y : Action) (u v : List ℕ) (h : Lined x
 pub end-apart : (used number at taken other place : ℕ) → endLine used number at ≡ endLine taken other place → (used ≡ taken) × (number ≡ other) × (at ≡ place)
 unfolding endLine
 end-apart used number at taken other place e =
-    let o = filled-apart endForm refl _ _ [] [] refl refl (texts used number at) (texts taken other place) (ap (λ (l : List ℕ). l ++ []) e) in
+    let o = filled-apart (letters "end # # #\n") refl _ _ [] [] refl refl (texts used number at) (texts taken other place) (ap (λ (l : List ℕ). l ++ []) e) in
     let t1 = tail-eq-of-cons-eq (o .0) in (
       decimal-apart used taken (head-eq-of-cons-eq (o .0)),
       decimal-apart number other (head-eq-of-cons-eq t1),

@@ -1,24 +1,25 @@
 -- Laws about texts: no two have the same digits, and each ends where a space or a line's end stands behind it.
 use mathlib.Core.Path.{_≡_, refl, sym, ap, ap₂, _∙_}
-use mathlib.Core.Bool.{true, false}
+use mathlib.Core.Bool.{true, false, _||_}
 use mathlib.Core.Logic.{⊎-elim}
 use mathlib.Core.List.{List, [], _∷_, _++_, head-eq-of-cons-eq, tail-eq-of-cons-eq}
 use Prim.Native.Nat.{ℕ, zero, suc, _+_, _-_, _/_, _%_, _^_, _≤_, _<_}
 use native.Mathlib.Omega.{arith}
+use lib.Dec.{eqb}
 use lib.ListN.{length, length-append}
-use borrow.Author.Tests.{lt-ltb, le-ltb}
+use borrow.Author.Tests.{lt-ltb, le-ltb, ne-eqb}
 use Rattle.answer.specs.Table.{joined}
 use Rattle.answer.proofs.Cases.{lt-or-le, bool-cases}
 use Rattle.answer.proofs.Records.{joined-none, joined-on}
-use Rattle.types.specs.Value.{Shape, nothing, flag, integer, address, text, reserved, Width, signed32, unsigned32, whole64, shape, Record, value, points}
+use Rattle.types.specs.Value.{Shape, nothing, integer, reserved, Width, signed32, unsigned32, whole64, shape, Record, value, points}
 use Rattle.types.specs.Form.{part, writableRecord}
 use Rattle.types.proofs.Roundtrip.{Meaning, means, meaning}
-use Rattle.types.proofs.Shapes.{shape-cases, signed-below, InWidth, Fields, writable-fields}
+use Rattle.types.proofs.Shapes.{shape-cases, points-yes, signed-below, InWidth, Fields, writable-fields}
 use Rattle.listing.specs.Digits.{dash, glyph, decimal, signed, hexPair, shown}
-use Rattle.listing.specs.Lines.{hasSign, dataText, valueText}
+use Rattle.listing.specs.Lines.{valueText}
 use Rattle.listing.proofs.Decimal.{decimal-last, decimal-on, length-last, length-on, decimal-some}
 use Rattle.listing.proofs.Text.{signed-plus, signed-minus, hex-length}
-use Rattle.listing.proofs.Pieces.{text-at}
+use Rattle.listing.proofs.Pieces.{text-number, text-bytes}
 use Rattle.answer.proofs.Each.{Each, each-more}
 
 -- ---- digits
@@ -128,16 +129,6 @@ shown-apart (b ∷ s) (c ∷ t) e = hex-apart (b ∷ s) (c ∷ t) e
 abbrev pub lineMeaning : List ℕ → Record → Meaning
 lineMeaning f (value k a b x) = meaning f (value k a b 0)
 
-module _ (k a b x c d y : ℕ) (f g : List ℕ) where
-  plain-same : points (shape k) ≡ false → a ≡ c → lineMeaning f (value k a b x) ≡ lineMeaning g (value k c d y)
-  plain-same p e = rw p (ap (λ (n : ℕ). means k n 0 []) e)
-
-  part-same : points (shape k) ≡ true → part f a b ≡ part g c d → lineMeaning f (value k a b x) ≡ lineMeaning g (value k c d y)
-  part-same p e = rw p (ap (means k 0 0) e)
-
-  same-text : (sh : Shape) → shape k ≡ sh → valueText f (value k a b x) ≡ valueText g (value k c d y) → dataText sh k a (part f a b) ≡ dataText sh k c (part g c d)
-  same-text sh is e = sym (text-at f k a b x sh is) ∙ e ∙ text-at g k c d y sh is
-
 pub below : (w : Width) (a : ℕ) → InWidth w a → a < 2 ^ 64
 below signed32 a h = rw h (signed-below a)
 below unsigned32 a h = omega arith
@@ -146,26 +137,34 @@ below whole64 a h = h
 -- Law: values of one kind with the same text mean the same but for their flags.
 pub values-apart : (k a b x c d y : ℕ) (f g : List ℕ) → writableRecord (value k a b x) ≡ true → writableRecord (value k c d y) ≡ true
     → valueText f (value k a b x) ≡ valueText g (value k c d y) → lineMeaning f (value k a b x) ≡ lineMeaning g (value k c d y)
+unfolding valueText
 values-apart k a b x c d y f g h l e =
     shape-cases k
-    (λ z is. plain-same k a b x c d y f g (ap points is) (fields nothing is .0 ∙ sym (others nothing is .0)))
-    (λ z is. plain-same k a b x c d y f g (ap points is) (decimal-apart a c (same-text k a b x c d y f g flag is e)))
-    (λ w u v is. plain-same k a b x c d y f g (ap points is) (number w is (same-text k a b x c d y f g (integer w) is e)))
-    (λ n u v is. part-same k a b x c d y f g (ap points is) (shown-apart (part f a b) (part g c d) (same-text k a b x c d y f g (address n) is e)))
-    (λ u v is. part-same k a b x c d y f g (ap points is) (shown-apart (part f a b) (part g c d) (same-text k a b x c d y f g text is e)))
+    (λ z is. plain (ap points is) (fields nothing is .0 ∙ sym (others nothing is .0)))
+    (λ z is. plain (ap points is) (decimal-apart a c (rw (text-number f k a b x (λ o. omega arith) (λ o. omega arith) (λ o. omega arith) (omega arith), text-number g k c d y (λ o. omega arith) (λ o. omega arith) (λ o. omega arith) (omega arith)) at e)))
+    (λ w u v is. plain (ap points is) (number w u is e))
+    (λ n u v is. bytes u (omega arith))
+    (λ u v is. bytes (omega arith) v)
     (λ u is. absurd (fields reserved is))
   where
+    plain : points (shape k) ≡ false → a ≡ c → lineMeaning f (value k a b x) ≡ lineMeaning g (value k c d y)
+    plain p o = rw p (ap (λ (n : ℕ). means k n 0 []) o)
+
+    bytes : 6 ≤ k → k < 10 → lineMeaning f (value k a b x) ≡ lineMeaning g (value k c d y)
+    bytes u v = rw (points-yes k u v) (ap (means k 0 0) (shown-apart (part f a b) (part g c d) (rw (text-bytes f k a b x u v, text-bytes g k c d y u v) at e)))
+
     fields : (sh : Shape) → shape k ≡ sh → Fields sh a b
     fields = writable-fields k a b x h
 
     others : (sh : Shape) → shape k ≡ sh → Fields sh c d
     others = writable-fields k c d y l
 
-    number : (w : Width) → shape k ≡ integer w → dataText (integer w) k a (part f a b) ≡ dataText (integer w) k c (part g c d) → a ≡ c
-    number w is q =
-        bool-cases (hasSign k)
-        (λ t. signed-apart a c (below w a (fields (integer w) is .0)) (below w c (others (integer w) is .0)) (rw t at q))
-        (λ t. decimal-apart a c (rw t at q))
+    number : (w : Width) → 2 ≤ k → shape k ≡ integer w → valueText f (value k a b x) ≡ valueText g (value k c d y) → a ≡ c
+    number w u is q =
+        let no = ne-eqb k 0 (λ z. omega arith) in
+        bool-cases (eqb k 2 || eqb k 4)
+        (λ t. signed-apart a c (below w a (fields (integer w) is .0)) (below w c (others (integer w) is .0)) (rw (no, t) at q))
+        (λ t. decimal-apart a c (rw (no, t, ap points is) at q))
 
 -- ---- where a text ends
 
@@ -192,17 +191,12 @@ unfolding shown
 shown-plain [] = (omega arith, tt)
 shown-plain (b ∷ s) = hex-plain (b ∷ s)
 
-data-plain : (sh : Shape) (k a : ℕ) (bytes : List ℕ) → Plain (dataText sh k a bytes)
-data-plain nothing k a bytes = (omega arith, tt)
-data-plain flag k a bytes = decimal-plain a
-data-plain (integer w) k a bytes = bool-cases (hasSign k) (λ t. rw t (signed-plain a)) (λ t. rw t (decimal-plain a))
-data-plain (address n) k a bytes = shown-plain bytes
-data-plain text k a bytes = shown-plain bytes
-data-plain reserved k a bytes = tt
-
 pub value-plain : (f : List ℕ) (v : Record) → Plain (valueText f v)
 unfolding valueText
-value-plain f (value k a b flags) = data-plain (shape k) k a (part f a b)
+value-plain f (value k a b x) =
+    bool-cases (eqb k 0) (λ t. rw t (omega arith, tt))
+    (λ t. bool-cases (eqb k 2 || eqb k 4) (λ s. rw (t, s) (signed-plain a))
+    (λ s. bool-cases (points (shape k)) (λ p. rw (t, s, p) (shown-plain (part f a b))) (λ p. rw (t, s, p) (decimal-plain a))))
 
 -- Law: two texts, each with a space or a line's end behind it, that start the same bytes are the same, and so is what follows.
 pub texts-apart : (s t : List ℕ) (x y : ℕ) (u v : List ℕ) → Plain s → Plain t → x ≤ 32 → y ≤ 32 → s ++ (x ∷ u) ≡ t ++ (y ∷ v) → (s ≡ t) × (u ≡ v)

@@ -1,17 +1,17 @@
 -- Laws about how long lines are: of a frame of n bytes none has more than 2n and 128 besides.
 use mathlib.Core.Path.{_≡_, refl, ap, _∙_}
-use mathlib.Core.Bool.{true}
+use mathlib.Core.Bool.{true, _||_}
 use mathlib.Core.Logic.{_⊎_, inl, inr, ⊎-elim}
 use mathlib.Core.List.{List, [], _∷_}
 use Prim.Native.Nat.{ℕ, _+_, _*_, _^_, _≤_, _<_}
 use native.Mathlib.Omega.{arith}
 use lib.Dec.{eqb}
 use lib.ListN.{length, drop, length-append, length-take}
-use borrow.Author.Tests.{eqb-true, eqb-false}
+use borrow.Author.Tests.{ne-eqb, eqb-true, eqb-false}
 use Rattle.answer.specs.Answer.{done}
 use Rattle.answer.proofs.Cases.{bool-cases}
 use Rattle.answer.proofs.Each.{Each, each-on}
-use Rattle.types.specs.Value.{Shape, nothing, flag, integer, address, text, reserved, Width, shape, value, points}
+use Rattle.types.specs.Value.{Shape, flag, integer, reserved, Width, shape, value, points}
 use Rattle.types.specs.Form.{part, writableRecord}
 use Rattle.types.specs.Promise.{recordOf}
 use Rattle.types.proofs.Shapes.{shape-cases, Fields, writable-fields, writable-kind}
@@ -25,10 +25,10 @@ use Rattle.payload.specs.declared.Counts.{Counts}
 use Rattle.payload.specs.Payload.{Contents}
 use Rattle.parser.specs.Frame.{framed}
 use Rattle.listing.specs.Digits.{decimal, shown}
-use Rattle.listing.specs.Lines.{filled, hasSign, dataText, valueText, messageLine, pairLine, actionLine}
+use Rattle.listing.specs.Lines.{filled, valueText, messageLine, pairLine, actionLine}
 use Rattle.listing.proofs.Decimal.{decimal-most}
 use Rattle.listing.proofs.Text.{signed-most, hex-length, shown-none, shown-some}
-use Rattle.listing.proofs.Pieces.{text-at, messageFront, messageBack, pairFront, setFront, unsetFront, named-length, valued-length, message-length, pair-length, action-set, action-unset}
+use Rattle.listing.proofs.Pieces.{text-null, text-number, text-bytes, messageFront, messageBack, pairFront, setFront, unsetFront, named-length, valued-length, message-parts, pair-parts, action-set, action-unset}
 use Rattle.listing.specs.Inner.{kindForm}
 use Rattle.listing.proofs.Accepted.{Named, Whole, whole-held}
 use Rattle.listing.proofs.Distinct.{below}
@@ -75,33 +75,37 @@ part-most f start len = rw (length-take len (drop start f)) (omega arith)
 -- a value that points has at most two digits for each byte, and another at most 21
 value-most : (f : List ℕ) (k a b flags : ℕ) → writableRecord (value k a b flags) ≡ true
     → ((points (shape k) ≡ true) × (length (valueText f (value k a b flags)) ≤ 2 * b + 1)) ⊎ (length (valueText f (value k a b flags)) ≤ 21)
+unfolding valueText
 value-most f k a b flags h =
     shape-cases k
-    (λ e is. inr (rw (text-at f k a b flags nothing is) (omega arith)))
-    (λ e is. inr (rw (text-at f k a b flags flag is) (let o = fields flag is in omega (arith, decimal-most a (omega (arith, o .0))))))
-    (λ w l g is. inr (rw (text-at f k a b flags (integer w) is) (number w is)))
-    (λ n l g is. inl (ap points is, rw (text-at f k a b flags (address n) is) (omega (arith, shown-most (part f a b), part-most f a b))))
-    (λ l g is. inl (ap points is, rw (text-at f k a b flags text is) (omega (arith, shown-most (part f a b), part-most f a b))))
+    (λ e is. inr (rw (text-null f k a b flags e) (omega arith)))
+    (λ e is. inr (rw (text-number f k a b flags (λ z. omega arith) (λ z. omega arith) (λ z. omega arith) (omega arith)) (let o = fields flag is in omega (arith, decimal-most a (omega (arith, o .0))))))
+    (λ w l g is. inr (number w l is))
+    (λ n l g is. inl (ap points is, bytes l (omega arith)))
+    (λ l g is. inl (ap points is, bytes (omega arith) g))
     (λ l is. absurd (fields reserved is))
   where
     fields : (sh : Shape) → shape k ≡ sh → Fields sh a b
     fields = writable-fields k a b flags h
 
-    number : (w : Width) → shape k ≡ integer w → length (dataText (integer w) k a (part f a b)) ≤ 21
-    number w is =
+    bytes : 6 ≤ k → k < 10 → length (valueText f (value k a b flags)) ≤ 2 * b + 1
+    bytes l g = rw (text-bytes f k a b flags l g) (omega (arith, shown-most (part f a b), part-most f a b))
+
+    number : (w : Width) → 2 ≤ k → shape k ≡ integer w → length (valueText f (value k a b flags)) ≤ 21
+    number w l is =
         let o = below w a (fields (integer w) is .0) in
-        bool-cases (hasSign k) (λ t. rw t (signed-most a o)) (λ t. rw t (omega (arith, decimal-most a o)))
+        let no = ne-eqb k 0 (λ z. omega arith) in
+        bool-cases (eqb k 2 || eqb k 4) (λ t. rw (no, t) (signed-most a o)) (λ t. rw (no, t, ap points is) (omega (arith, decimal-most a o)))
 
 -- ---- lines
 
 -- Law: of a frame of n bytes.
 pub message-room : (i : ℕ) (f : List ℕ) (m : Message) (n : ℕ) → i < 2 ^ 64 → m .count < 2 ^ 64 → Named n m → length (messageLine i f m) ≤ 2 * n + 128
-unfolding messageLine
 message-room i f m n h c in-frame =
     let name = part f (m .start) (m .len) in
     omega (
       arith,
-      message-length (decimal i) (shown name) (decimal (m .count)),
+      ap length (message-parts i f m) ∙ named-length (filled messageFront (decimal i ∷ [])) (shown name) (filled messageBack (decimal (m .count) ∷ [])),
       message-front (decimal i),
       message-back (decimal (m .count)),
       decimal-most i h,
@@ -112,11 +116,10 @@ message-room i f m n h c in-frame =
     )
 
 pub pair-room : (k : ℕ) (f : List ℕ) (p : Pair) (n : ℕ) → k < 2 ^ 64 → Whole n p → length (pairLine k f p) ≤ 2 * n + 128
-unfolding pairLine
 pair-room k f p n h w =
     let v = p .value in
     let kind = writable-kind (v .kind) (v .a) (v .b) (v .flags) (w .fields) in
-    let all = pair-length (decimal k) (shown (keyOf f p)) (decimal (v .kind)) (valueText f (recordOf v)) in
+    let all = ap length (pair-parts k f p) ∙ valued-length (filled pairFront (decimal k ∷ [])) (shown (keyOf f p)) (filled kindForm (decimal (v .kind) ∷ [])) (valueText f (recordOf v)) in
     let words = pair-front (decimal k) in
     let more = pair-back (decimal (v .kind)) in
     let digits = decimal-most k h in
@@ -143,7 +146,7 @@ action-room k f x n h scope w =
     let short = part-most f (p .start) (p .len) in
     bool-cases (eqb (x .verb) 1)
     (λ t.
-    let all = ap length (action-set f x k (eqb-true (x .verb) 1 t)) ∙ valued-length (filled setFront numbers) name (filled kindForm (decimal (v .kind) ∷ [])) (valueText f (recordOf v)) in
+    let all = ap length (action-set k f x (eqb-true (x .verb) 1 t)) ∙ valued-length (filled setFront numbers) name (filled kindForm (decimal (v .kind) ∷ [])) (valueText f (recordOf v)) in
     let words = set-front (decimal k) (decimal (x .scope)) in
     let back = pair-back (decimal (v .kind)) in
     ⊎-elim
@@ -151,7 +154,7 @@ action-room k f x n h scope w =
     (λ o. omega (arith, all, words, back, digits, more, few, key, short, o, w .key))
     (value-most f (v .kind) (v .a) (v .b) (v .flags) (w .fields)))
     (λ t.
-    let all = ap length (action-unset f x k (eqb-false (x .verb) 1 t)) ∙ named-length (filled unsetFront numbers) name (filled (10 ∷ []) []) in
+    let all = ap length (action-unset k f x (eqb-false (x .verb) 1 t)) ∙ named-length (filled unsetFront numbers) name (filled (10 ∷ []) []) in
     omega (arith, all, unset-front (decimal k) (decimal (x .scope)), unset-back, digits, more, key, short, w .key))
 
 -- Law: so no line of an accepted frame is refused where 2n + 128 bytes are lent.

@@ -17,10 +17,11 @@ use Rattle.answer.proofs.Cases.{lt-or-le, bool-cases, true-false}
 use Rattle.answer.proofs.Records.{records-on, records-end, records-start}
 use Rattle.frame.specs.declared.Pair.{Pair}
 use Rattle.frame.specs.declared.Message.{Message}
-use Rattle.frame.specs.Records.{messageAt, pairAt}
+use Rattle.frame.specs.Records.{messageWidth, pairWidth, messageAt, pairAt}
 use Rattle.listing.specs.declared.Place.{Place}
 use Rattle.listing.specs.Lines.{messageLine, pairLine}
-use Rattle.listing.specs.Order.{pairNext, pairAnswer, messageAnswer, Coming, line, none, coming}
+use Rattle.listing.specs.Check.{pairAnswer, messageAnswer}
+use Rattle.listing.specs.Order.{pairNext, inTable, Coming, line, none, coming}
 use Rattle.listing.proofs.Frames.{pairLines, itemLines}
 use Rattle.listing.proofs.Coming.{coming-pair, coming-message, coming-none}
 
@@ -104,8 +105,8 @@ module _ (f : List ℕ) (i k : ℕ) where
 -- ---- the steps
 
 module _ (f messages : List ℕ) (count : ℕ) (pairs : List ℕ) (total : ℕ)
-    (named : (i : ℕ) → i < count → messageAnswer f messages i ≡ written (messageLine i f (messageAt messages i)))
-    (paired : (k : ℕ) → k < total → pairAnswer f pairs k ≡ written (pairLine k f (pairAt pairs k))) where
+    (named : (i : ℕ) → i < count → inTable messageWidth messageAt messageAnswer f messages i ≡ written (messageLine i f (messageAt messages i)))
+    (paired : (k : ℕ) → k < total → inTable pairWidth pairAt pairAnswer f pairs k ≡ written (pairLine k f (pairAt pairs k))) where
   abbrev ms : ℕ → List Message
   ms i = records (messageAt messages) i (count - i)
 

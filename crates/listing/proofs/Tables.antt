@@ -1,25 +1,23 @@
 -- Laws about the tables of an accepted frame, whichever side sent it: they hold its records, and the steps over them give its lines.
 use mathlib.Core.Path.{_≡_, refl, sym, ap, ap₂, _∙_}
 use mathlib.Core.Bool.{true}
-use mathlib.Core.List.{List, [], _∷_, _++_, append-assoc}
+use mathlib.Core.List.{List, [], _∷_, _++_}
 use Prim.Native.Nat.{ℕ, zero, suc, _+_, _*_, _≤_, _<_}
-use native.Mathlib.Nat.{one-mul, mul-le-mul-right}
+use native.Mathlib.Nat.{mul-le-mul-right}
 use native.Mathlib.Omega.{arith}
 use lib.Dec.{leb}
 use lib.ListN.{length, take, length-append}
 use lib.Seq.{length-take-le}
 use borrow.Author.Tests.{le-leb, eq-eqb, ne-eqb}
-use Rattle.answer.specs.Answer.{Answer, done, written}
-use Rattle.answer.specs.Order.{Check, inOrder, linesAt}
-use Rattle.answer.specs.Table.{numberAt, holds, records, joined}
+use Rattle.answer.specs.Answer.{done, written}
+use Rattle.answer.specs.Order.{Check}
+use Rattle.answer.specs.Table.{records, joined}
 use Rattle.answer.specs.Inner.{Passes}
 use Rattle.answer.proofs.Cases.{bool-cases}
 use Rattle.answer.proofs.Order.{lines-pass}
 use Rattle.answer.proofs.Each.{Each, each-at}
-use Rattle.answer.proofs.Records.{records-none, joined-on}
-use Rattle.answer.proofs.Rows.{number-later}
 use Rattle.types.specs.Value.{points, shape}
-use Rattle.types.specs.Form.{ranged}
+use Rattle.types.specs.Form.{inside, ranged}
 use Rattle.types.specs.Promise.{recordOf}
 use Rattle.frame.specs.declared.Head.{Head}
 use Rattle.frame.specs.declared.Pair.{Pair}
@@ -27,7 +25,8 @@ use Rattle.frame.specs.declared.Message.{Message}
 use Rattle.frame.specs.declared.Action.{Action}
 use Rattle.frame.specs.declared.Side.{Side}
 use Rattle.frame.specs.Read.{answered, sender}
-use Rattle.frame.specs.Records.{messageWidth, messageAt, messageNumbers, pairWidth, pairIn, pairAt, pairNumbers, actionWidth, actionAt, actionNumbers}
+use Rattle.frame.proofs.Rows.{table-messages, table-pairs, table-actions}
+use Rattle.frame.specs.Records.{messageWidth, messageAt, messageNumbers, pairWidth, pairAt, pairNumbers, actionWidth, actionAt, actionNumbers}
 use Rattle.payload.specs.Payload.{Contents}
 use Rattle.payload.specs.Promise.{roomsOf, Fills}
 use Rattle.payload.proofs.Filling.{joined-width}
@@ -36,79 +35,15 @@ use Rattle.parser.specs.Frame.{frameRead}
 use Rattle.parser.specs.Promise.{contentsRead}
 use Rattle.parser.proofs.Frames.{Cut, frame-cut}
 use Rattle.listing.specs.Lines.{frameLine, messageLine, pairLine, actionLine}
-use Rattle.listing.specs.Check.{messageLineChecks, pairLineChecks, isAction, actionLineChecks}
-use Rattle.listing.specs.Order.{messageAnswer, pairAnswer, actionAnswer}
+use Rattle.listing.specs.Check.{checkedLine, messageAnswer, pairLineChecks, pairAnswer, isAction, actionAnswer}
+use Rattle.listing.specs.Order.{inTable}
 use Rattle.listing.proofs.Frames.{itemLines, actionLines, frameLines}
 use Rattle.listing.proofs.Accepted.{Named, Whole, Acts, Held, whole-held}
 use Rattle.listing.proofs.Stepped.{bytesOf, steps, steps-lines}
 
--- ---- what a table holds
-
--- records that are the same from the next on
-records-later : {A : Type 0} (at other : ℕ → A) → ((i : ℕ) → at (suc i) ≡ other i) → (n i : ℕ) → records at (suc i) n ≡ records other i n
-unfolding records
-records-later at other e zero i = refl
-records-later at other e (suc n) i = ap₂ _∷_ (e i) (records-later at other e n (suc i))
-
-records-first : {A : Type 0} (at : ℕ → A) (n : ℕ) → records at 0 (suc n) ≡ at 0 ∷ records at 1 n
-unfolding records
-records-first at n = refl
-
--- A number of a record behind the first stands there without the first too, one record earlier.
-pub number-next : (width : ℕ) (front t : List ℕ) → length front ≡ width → (i k : ℕ) → numberAt width (front ++ t) (suc i) k ≡ numberAt width t i k
-number-next width front t long i k =
-    let one : suc i ≡ 1 + i = omega arith in
-    ap (λ (n : ℕ). numberAt width (front ++ t) n k) one ∙ number-later width 1 front t (long ∙ sym (one-mul width)) i k
-
--- A table's records are read one by one, whatever their width.
-module _ {A : Type 0} (numbers : A → List ℕ) (at : List ℕ → ℕ → A)
-    (here : (x : A) (t : List ℕ) → at (numbers x ++ t) 0 ≡ x) (later : (x : A) (t : List ℕ) (i : ℕ) → at (numbers x ++ t) (suc i) ≡ at t i) where
-  -- Law: a table with the numbers of some records at its front holds them.
-  pub table-holds : (xs : List A) (t : List ℕ) → records (at (joined numbers xs ++ t)) 0 (length xs) ≡ xs
-  table-holds [] t = records-none (at (joined numbers [] ++ t)) 0
-  table-holds (x ∷ xs) t =
-      let rest = joined numbers xs ++ t in
-      ap (λ (l : List ℕ). records (at l) 0 (suc (length xs))) (ap (λ (l : List ℕ). l ++ t) (joined-on numbers x xs) ∙ append-assoc (numbers x) (joined numbers xs) t)
-      ∙ records-first (at (numbers x ++ rest)) (length xs)
-      ∙ ap₂ _∷_ (here x rest) (records-later (at (numbers x ++ rest)) (at rest) (later x rest) (length xs) 0 ∙ table-holds xs t)
-
-pub table-messages : (ms : List Message) (t : List ℕ) → records (messageAt (joined messageNumbers ms ++ t)) 0 (length ms) ≡ ms
-unfolding messageAt
-table-messages = table-holds messageNumbers messageAt here later
-  where
-    here : (m : Message) (t : List ℕ) → messageAt (messageNumbers m ++ t) 0 ≡ m
-    here m t = refl
-
-    later : (m : Message) (t : List ℕ) (i : ℕ) → messageAt (messageNumbers m ++ t) (suc i) ≡ messageAt t i
-    later m t i =
-        let on = number-next messageWidth (messageNumbers m) t refl i in
-        λ j. record { start = on 0 j; len = on 1 j; first = on 2 j; count = on 3 j }
-
-pub table-pairs : (ps : List Pair) (t : List ℕ) → records (pairAt (joined pairNumbers ps ++ t)) 0 (length ps) ≡ ps
-unfolding pairAt
-table-pairs = table-holds pairNumbers pairAt here later
-  where
-    here : (p : Pair) (t : List ℕ) → pairAt (pairNumbers p ++ t) 0 ≡ p
-    here p t = refl
-
-    later : (p : Pair) (t : List ℕ) (i : ℕ) → pairAt (pairNumbers p ++ t) (suc i) ≡ pairAt t i
-    later p t i = λ j. pairIn (λ k. number-next pairWidth (pairNumbers p) t refl i k j) 0
-
-pub table-actions : (xs : List Action) (t : List ℕ) → records (actionAt (joined actionNumbers xs ++ t)) 0 (length xs) ≡ xs
-unfolding actionAt
-table-actions = table-holds actionNumbers actionAt here later
-  where
-    here : (x : Action) (t : List ℕ) → actionAt (actionNumbers x ++ t) 0 ≡ x
-    here x t = refl
-
-    later : (x : Action) (t : List ℕ) (i : ℕ) → actionAt (actionNumbers x ++ t) (suc i) ≡ actionAt t i
-    later x t i =
-        let on = number-next actionWidth (actionNumbers x) t refl i in
-        λ j. record { verb = on 0 j; scope = on 1 j; pair = pairIn (λ k. on k j) 2 }
-
 -- ---- records of an accepted frame pass their checks
 
-message-passes : (f : List ℕ) (m : Message) → Named (length f) m → Passes (messageLineChecks f m)
+message-passes : (f : List ℕ) (m : Message) → Named (length f) m → Passes ((16, inside f (m .start) (m .len)) ∷ [])
 message-passes f m h = (le-leb (m .start + m .len) (length f) h, tt)
 
 pair-passes : (f : List ℕ) (p : Pair) → Whole (length f) p → Passes (pairLineChecks f p)
@@ -117,7 +52,7 @@ pair-passes f p h = (h .fields, (le-leb (p .start + p .len) (length f) (h .key),
     range : ranged f (recordOf (p .value)) ≡ true
     range = bool-cases (points (shape (p .value .kind))) (λ t. rw t (le-leb (p .value .a + p .value .b) (length f) (h .range t))) (λ t. rw t)
 
-action-passes : (f : List ℕ) (x : Action) → Acts (length f) x → Passes (actionLineChecks f x)
+action-passes : (f : List ℕ) (x : Action) → Acts (length f) x → Passes ((14, isAction x) ∷ pairLineChecks f (x .pair))
 action-passes f x a = (known, pair-passes f (x .pair) (a .whole))
   where
     scope : leb (x .scope) 4 ≡ true
@@ -132,28 +67,28 @@ action-passes f x a = (known, pair-passes f (x .pair) (a .whole))
         let flags : x .pair .value .flags ≡ 0 = cc in
         rw (scope, ne-eqb (x .verb) 1 (λ z. omega arith), eq-eqb (x .verb) 2 two, eq-eqb (x .pair .value .kind) 0 kind, eq-eqb (x .pair .value .flags) 0 flags))
 
--- A table with these records at its front: whatever holds of each of them, and lets its checks pass, record i is there and passes.
-answers : {A : Type 0} (numbers : A → List ℕ) (width : ℕ) → ((x : A) → length (numbers x) ≡ width) → (at : ℕ → A) (P : A → Type 0) (checks : A → List Check)
-    → ((x : A) → P x → Passes (checks x)) → (table : List ℕ) (xs : List A) (behind : List ℕ) → table ≡ joined numbers xs ++ behind
-    → records at 0 (length xs) ≡ xs → Each P xs → (i : ℕ) → i < length xs → (a : Answer (List ℕ))
-    → inOrder (linesAt 0 ((16, holds width table (i + 1)) ∷ checks (at i))) a ≡ a
-answers numbers width wide at P checks passes table xs behind is these each i h a =
+-- A table with these records at its front: whatever holds of each of them, and lets its checks pass, record i is there and has its line.
+answers : {A : Type 0} (numbers : A → List ℕ) (width : ℕ) → ((x : A) → length (numbers x) ≡ width) → (at : List ℕ → ℕ → A) (P : A → Type 0)
+    → (checks : A → List Check) → ((x : A) → P x → Passes (checks x)) → (line : ℕ → List ℕ → A → List ℕ) (f table : List ℕ) (xs : List A) (behind : List ℕ)
+    → table ≡ joined numbers xs ++ behind → records (at table) 0 (length xs) ≡ xs → Each P xs → (i : ℕ) → i < length xs
+    → inTable width at (λ k g x. checkedLine (checks x) (line k g x)) f table i ≡ written (line i f (at table i))
+answers numbers width wide at P checks passes line f table xs behind is these each i h =
     let all = joined-width numbers width wide xs in
     let few : i + 1 ≤ length xs = omega arith in
     let more = mul-le-mul-right width few in
     let room : (i + 1) * width ≤ length table = omega (arith, ap length is, length-append (joined numbers xs) behind) in
     let here : 0 + i ≡ i = omega arith in
-    let there : P (at i) = rw here at (each-at P at (length xs) 0 (rw these each) i h) in
-    lines-pass ((16, holds width table (i + 1)) ∷ checks (at i)) (le-leb ((i + 1) * width) (length table) room, passes (at i) there) 0 a
+    let there : P (at table i) = rw here at (each-at P (at table) (length xs) 0 (rw these each) i h) in
+    rw (le-leb ((i + 1) * width) (length table) room) (lines-pass (checks (at table i)) (passes (at table i) there) 0 (written (line i f (at table i))))
 
 -- ---- the lines of the actions of a table
 
 -- What the answers for so many actions of a table write, one behind the other.
 unfoldable pub actionSteps : List ℕ → List ℕ → ℕ → ℕ → List ℕ
 actionSteps f actions k zero = []
-actionSteps f actions k (suc n) = bytesOf (actionAnswer f actions k) ++ actionSteps f actions (suc k) n
+actionSteps f actions k (suc n) = bytesOf (inTable actionWidth actionAt actionAnswer f actions k) ++ actionSteps f actions (suc k) n
 
-action-steps : (f actions : List ℕ) (n k : ℕ) → ((i : ℕ) → i < k + n → actionAnswer f actions i ≡ written (actionLine i f (actionAt actions i)))
+action-steps : (f actions : List ℕ) (n k : ℕ) → ((i : ℕ) → i < k + n → inTable actionWidth actionAt actionAnswer f actions i ≡ written (actionLine i f (actionAt actions i)))
     → actionSteps f actions k n ≡ actionLines f k (records (actionAt actions) k n)
 unfolding actionSteps actionLines records
 action-steps f actions zero k each = refl
@@ -196,20 +131,20 @@ module _ (side : Side) (limit : ℕ) (s oldMessages newMessages oldPairs newPair
   actions-held = rw (inActions .1) (table-actions (c .actions) (inActions .0))
 
   -- Laws: and each of them is answered with its line.
-  pub message-answered : (i : ℕ) → i < length (c .messages) → messageAnswer f newMessages i ≡ written (messageLine i f (messageAt newMessages i))
+  pub message-answered : (i : ℕ) → i < length (c .messages) → inTable messageWidth messageAt messageAnswer f newMessages i ≡ written (messageLine i f (messageAt newMessages i))
   message-answered i h =
-      answers messageNumbers messageWidth (λ x. refl) (messageAt newMessages) (Named (length f)) (messageLineChecks f) (message-passes f) newMessages (c .messages) (inMessages .0) (inMessages .1)
-      messages-held (held .messages) i h _
+      answers messageNumbers messageWidth (λ x. refl) messageAt (Named (length f)) (λ x. (16, inside f (x .start) (x .len)) ∷ []) (message-passes f) messageLine f newMessages (c .messages) (inMessages .0) (inMessages .1)
+      messages-held (held .messages) i h
 
-  pub pair-answered : (k : ℕ) → k < length (c .pairs) → pairAnswer f newPairs k ≡ written (pairLine k f (pairAt newPairs k))
+  pub pair-answered : (k : ℕ) → k < length (c .pairs) → inTable pairWidth pairAt pairAnswer f newPairs k ≡ written (pairLine k f (pairAt newPairs k))
   pair-answered k h =
-      answers pairNumbers pairWidth (λ x. refl) (pairAt newPairs) (Whole (length f)) (pairLineChecks f) (pair-passes f) newPairs (c .pairs) (inPairs .0) (inPairs .1)
-      pairs-held (held .pairs) k h _
+      answers pairNumbers pairWidth (λ x. refl) pairAt (Whole (length f)) (pairLineChecks f) (pair-passes f) pairLine f newPairs (c .pairs) (inPairs .0) (inPairs .1)
+      pairs-held (held .pairs) k h
 
-  pub action-answered : (k : ℕ) → k < length (c .actions) → actionAnswer f newActions k ≡ written (actionLine k f (actionAt newActions k))
+  pub action-answered : (k : ℕ) → k < length (c .actions) → inTable actionWidth actionAt actionAnswer f newActions k ≡ written (actionLine k f (actionAt newActions k))
   action-answered k h =
-      answers actionNumbers actionWidth (λ x. refl) (actionAt newActions) (Acts (length f)) (actionLineChecks f) (action-passes f) newActions (c .actions) (inActions .0) (inActions .1)
-      actions-held (held .actions) k h _
+      answers actionNumbers actionWidth (λ x. refl) actionAt (Acts (length f)) (λ x. (14, isAction x) ∷ pairLineChecks f (x .pair)) (action-passes f) actionLine f newActions (c .actions) (inActions .0) (inActions .1)
+      actions-held (held .actions) k h
 
   -- Law: so the steps from the first place on, and then the actions one by one, are the frame's lines, in order, behind its own.
   pub accepted-lines : (index : ℕ)

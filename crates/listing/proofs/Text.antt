@@ -17,7 +17,7 @@ use Rattle.answer.proofs.Output.{Partly, partly-count, partly-all}
 use Rattle.answer.proofs.Parts.{part-start, part-room, part-most, partly-part}
 use Rattle.types.specs.Inner.{Puts}
 use Rattle.listing.specs.Digits.{dash, glyph, decimal, signed, hexPair, shown}
-use Rattle.listing.specs.Lines.{gap, filled}
+use Rattle.listing.specs.Lines.{filled}
 use Rattle.listing.proofs.Decimal.{decimal-most}
 
 -- ---- a sign
@@ -66,6 +66,10 @@ shown-some [] h = absurd (h refl)
 shown-some (b ∷ s) h = refl
 
 -- ---- forms
+
+-- `#`, for which a text is put
+abbrev pub gap : ℕ
+gap = 35
 
 -- what is left of a form with its numbers, from byte i and number k on
 abbrev pub filledFrom : List ℕ → List ℕ → ℕ → ℕ → List ℕ

@@ -1,5 +1,5 @@
 -- Numbers and bytes as text, in ASCII: docs/RULES.md, "The listing".
-use mathlib.Core.Bool.{Bool, true, false, cond}
+use mathlib.Core.Bool.{cond}
 use mathlib.Core.List.{List, [], _∷_, _++_}
 use Prim.Native.Nat.{ℕ, zero, suc, _+_, _-_, _/_, _%_, _^_}
 use Prim.Native.Char.{code}
@@ -20,15 +20,11 @@ dash = code "-"
 abbrev pub glyph : ℕ → ℕ
 glyph d = cond (ltb d 10) (code "0" + d) (code "a" - 10 + d)
 
--- A number below ten is one digit, and any other its tens and a last digit.
-abbrev pub withLast : Bool → (ℕ → List ℕ) → ℕ → List ℕ
-withLast true tens n = glyph n ∷ []
-withLast false tens n = tens (n / 10) ++ (glyph (n % 10) ∷ [])
-
--- The decimal digits of n, the highest first, as many as are counted down at most.
+-- The decimal digits of n, the highest first, as many as are counted down at most. A number below ten is one digit, and any other its tens and a
+-- last digit.
 unfoldable pub digits : ℕ → ℕ → List ℕ
 digits zero n = []
-digits (suc left) n = withLast (ltb n 10) (digits left) n
+digits (suc left) n = cond (ltb n 10) (glyph n ∷ []) (digits left (n / 10) ++ (glyph (n % 10) ∷ []))
 
 -- All of them: a number has no more than it counts, and 0 has one.
 unfoldable pub decimal : ℕ → List ℕ

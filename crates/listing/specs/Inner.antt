@@ -2,16 +2,11 @@
 use mathlib.Core.Path.{_≡_}
 use mathlib.Core.Bool.{true}
 use mathlib.Core.List.{List, [], _∷_, _++_, map}
-use Rattle.answer.specs.declared.Written.{Written}
-use Rattle.answer.specs.declared.Written.the-variants as w
 use Rattle.types.specs.declared.Value.{Value}
 use Rattle.types.specs.Form.{writableRecord, ranged}
 use Rattle.types.specs.Promise.{recordOf}
 use Rattle.listing.specs.Digits.{letters, decimal, shown}
 use Rattle.listing.specs.Lines.{filled, valueText}
-use Rattle.listing.specs.declared.Place.{Place}
-use Rattle.listing.specs.declared.Step.{Step}
-use Rattle.listing.specs.declared.Step.the-variants as s
 use Prim.Native.Nat.{ℕ}
 
 -- A value that has a text: its numbers lie in their fields, and where it points, it points into the frame.
@@ -30,8 +25,3 @@ namedText front numbers name back others = filled front (map decimal numbers) ++
 abbrev pub valuedText : List ℕ → List ℕ → List ℕ → List ℕ → Value → List ℕ
 valuedText front numbers key f v =
     filled front (map decimal numbers) ++ (shown key ++ (filled kindForm (decimal (v .kind) ∷ []) ++ (valueText f (recordOf v) ++ (10 ∷ []))))
-
--- a line's answer as a step
-abbrev pub stepFrom : Written → Place → Step
-stepFrom (w.Done n) p = s.Line n p
-stepFrom (w.Refused r) p = s.Refused r

@@ -10,14 +10,12 @@
 --
 --     action 0 set scope 2 name 736c6f74 kind 3 value 7
 --     action 1 unset scope 1 name 6f6b
-use mathlib.Core.Bool.{Bool, cond, _||_}
-use mathlib.Core.List.{List, [], _∷_, _++_}
+use mathlib.Core.Bool.{Bool, true, false, cond, _||_}
+use mathlib.Core.List.{List, [], _∷_, _++_, map}
 use Prim.Native.Nat.{ℕ}
 use Prim.Native.Char.{code}
 use lib.Dec.{eqb}
-use lib.ListN.{drop, getD}
-use Rattle.types.specs.declared.Value.{Value}
-use Rattle.types.specs.Value.{Shape, nothing, flag, integer, address, text, reserved, shape, Record, value}
+use Rattle.types.specs.Value.{shape, points, Record, value}
 use Rattle.types.specs.Form.{part}
 use Rattle.types.specs.Promise.{recordOf}
 use Rattle.frame.specs.declared.Pair.{Pair}
@@ -27,93 +25,48 @@ use Rattle.frame.specs.Records.{keyOf}
 use Rattle.frame.specs.declared.Head.{Head}
 use Rattle.listing.specs.Digits.{letters, dash, decimal, signed, shown}
 
--- ---- a line
+-- A byte of a form, whether it is `#`, and the rest: for `#` the first text is put, or nothing where none is left.
+abbrev pub fillsOne : Bool → ℕ → (List (List ℕ) → List ℕ) → List (List ℕ) → List ℕ
+fillsOne true b rest [] = rest []
+fillsOne true b rest (t ∷ texts) = t ++ rest texts
+fillsOne false b rest texts = b ∷ rest texts
 
--- `#`, for which a text is put
-abbrev pub gap : ℕ
-gap = code "#"
-
--- what is put for a byte of a form, and the texts that are left: a gap takes the first, or none where none is left
-abbrev pub piece : ℕ → List (List ℕ) → List ℕ
-piece b texts = cond (eqb b gap) (getD texts 0 []) (b ∷ [])
-
-abbrev pub others : ℕ → List (List ℕ) → List (List ℕ)
-others b texts = cond (eqb b gap) (drop 1 texts) texts
-
--- A form with a text for each gap, in order.
+-- A form with its texts in order.
 unfoldable pub filled : List ℕ → List (List ℕ) → List ℕ
 filled [] texts = []
-filled (b ∷ form) texts = piece b texts ++ filled form (others b texts)
+filled (b ∷ form) texts = fillsOne (eqb b (code "#")) b (filled form) texts
 
--- The forms of the kinds of line, each with the line's end.
-abbrev pub frameForm : List ℕ
-frameForm = letters "frame # type # stream # id # bytes #\n"
-
-abbrev pub messageForm : List ℕ
-messageForm = letters "message # name # args #\n"
-
-abbrev pub pairForm : List ℕ
-pairForm = letters "pair # key # kind # value #\n"
-
-abbrev pub setForm : List ℕ
-setForm = letters "action # set scope # name # kind # value #\n"
-
-abbrev pub unsetForm : List ℕ
-unsetForm = letters "action # unset scope # name #\n"
-
-abbrev pub endForm : List ℕ
-endForm = letters "end # # #\n"
-
--- ---- what is put
-
--- kinds whose number has a sign: INT32 and INT64 of SPOE.txt's table
-abbrev pub hasSign : ℕ → Bool
-hasSign kind = eqb kind 2 || eqb kind 4
-
--- a value of this kind, with the number a or with these bytes; its flags are not shown
-abbrev pub dataText : Shape → ℕ → ℕ → List ℕ → List ℕ
-dataText nothing kind a bytes = dash ∷ []
-dataText flag kind a bytes = decimal a
-dataText (integer w) kind a bytes = cond (hasSign kind) (signed a) (decimal a)
-dataText (address n) kind a bytes = shown bytes
-dataText text kind a bytes = shown bytes
-dataText reserved kind a bytes = []
-
+-- Null is a dash, and INT32 and INT64 (kinds 2 and 4 of SPOE.txt's table) have a sign. A kind that points has its bytes, and any other is a number.
+-- Flags are not shown.
 unfoldable pub valueText : List ℕ → Record → List ℕ
-valueText f (value kind a b flags) = dataText (shape kind) kind a (part f a b)
+valueText f (value kind a b flags) =
+    cond (eqb kind 0) (dash ∷ [])
+    (cond (eqb kind 2 || eqb kind 4) (signed a)
+    (cond (points (shape kind)) (shown (part f a b)) (decimal a)))
 
 -- ---- the lines
 
 unfoldable pub frameLine : ℕ → Head → ℕ → List ℕ
 frameLine index m bytes =
-    filled frameForm (decimal index ∷ decimal (m .«frame_type») ∷ decimal (m .stream) ∷ decimal (m .frame) ∷ decimal bytes ∷ [])
-
--- a message of this name, and a pair of this key
-abbrev pub messageText : ℕ → List ℕ → ℕ → List ℕ
-messageText index name count = filled messageForm (decimal index ∷ shown name ∷ decimal count ∷ [])
-
-abbrev pub pairText : ℕ → List ℕ → List ℕ → Value → List ℕ
-pairText index key f v = filled pairForm (decimal index ∷ shown key ∷ decimal (v .kind) ∷ valueText f (recordOf v) ∷ [])
+    filled (letters "frame # type # stream # id # bytes #\n") (map decimal (index ∷ m .«frame_type» ∷ m .stream ∷ m .frame ∷ bytes ∷ []))
 
 unfoldable pub messageLine : ℕ → List ℕ → Message → List ℕ
-messageLine index f m = messageText index (part f (m .start) (m .len)) (m .count)
+messageLine index f m =
+    filled (letters "message # name # args #\n") (decimal index ∷ shown (part f (m .start) (m .len)) ∷ decimal (m .count) ∷ [])
+
+-- a pair's key, and its value's kind and text
+abbrev pub pairTexts : List ℕ → Pair → List (List ℕ)
+pairTexts f p = shown (keyOf f p) ∷ decimal (p .value .kind) ∷ valueText f (recordOf (p .value)) ∷ []
 
 unfoldable pub pairLine : ℕ → List ℕ → Pair → List ℕ
-pairLine index f p = pairText index (keyOf f p) f (p .value)
+pairLine index f p = filled (letters "pair # key # kind # value #\n") (decimal index ∷ pairTexts f p)
 
--- an action that sets a variable of this scope and name, and one that unsets it
-abbrev pub setText : ℕ → ℕ → List ℕ → List ℕ → Value → List ℕ
-setText index scope name f v =
-    filled setForm (decimal index ∷ decimal scope ∷ shown name ∷ decimal (v .kind) ∷ valueText f (recordOf v) ∷ [])
-
-abbrev pub unsetText : ℕ → ℕ → List ℕ → List ℕ
-unsetText index scope name = filled unsetForm (decimal index ∷ decimal scope ∷ shown name ∷ [])
-
+-- An action that sets a variable has its value, and one that unsets it the name alone.
 unfoldable pub actionLine : ℕ → List ℕ → Action → List ℕ
 actionLine index f x =
-    let name = keyOf f (x .pair) in
-    cond (eqb (x .verb) 1) (setText index (x .scope) name f (x .pair .value)) (unsetText index (x .scope) name)
+    filled (letters (cond (eqb (x .verb) 1) "action # set scope # name # kind # value #\n" "action # unset scope # name #\n"))
+    (decimal index ∷ decimal (x .scope) ∷ pairTexts f (x .pair))
 
 -- bytes used by accepted frames, the answer that stopped it, and the missing count or the place
 unfoldable pub endLine : ℕ → ℕ → ℕ → List ℕ
-endLine used number at = filled endForm (decimal used ∷ decimal number ∷ decimal at ∷ [])
+endLine used number at = filled (letters "end # # #\n") (map decimal (used ∷ number ∷ at ∷ []))

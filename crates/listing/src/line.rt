@@ -22,6 +22,7 @@ use frame::UNSET_VAR;
 use types::Value;
 ghost use mathlib.Core.Path.{_≡_};
 ghost use mathlib.Core.Bool.{_&&_, _||_};
+ghost use mathlib.Core.List.{_∷_};
 ghost use Prim.Native.Nat.{_≤_};
 ghost use lib.Dec.{leb, eqb};
 ghost use lib.ListN.{length};
@@ -31,14 +32,13 @@ ghost use Rattle.answer.specs.Order.{inOrder};
 ghost use Rattle.types.specs.Inner.{Puts};
 ghost use Rattle.types.specs.Form.{inside};
 ghost use Rattle.types.specs.Promise.{recordOf};
-ghost use Rattle.listing.specs.Lines.{valueText};
-ghost use Rattle.listing.specs.Check.{pairLineChecks, isAction, actionLineChecks};
-ghost use Rattle.listing.specs.Promise.{WriteFrameLine, WriteMessageLine, WritePairLine, WriteActionLine, WriteEndLine};
+ghost use Rattle.listing.specs.Lines.{valueText, frameLine, endLine};
+ghost use Rattle.listing.specs.Check.{messageAnswer, pairLineChecks, pairAnswer, isAction, actionAnswer};
 ghost use Rattle.listing.specs.Inner.{Listed, namedText, valuedText};
 
 // Writes the line of a frame: its index, type, stream and id, and how many bytes it takes.
 pub fn write_frame_line(index: u64, head: Head, bytes: u64, out: &mut [u8]) -> Written
-    ensures { λ r. ⌜ WriteFrameLine index head bytes r (now (out .entry)) (now (out .exit)) ⌝ }
+    ensures { λ r. ⌜ Writes (written (frameLine index head bytes)) r (now (out .entry)) (now (out .exit)) ⌝ }
 {
     let numbers = [
         index,
@@ -56,7 +56,7 @@ pub fn write_frame_line(index: u64, head: Head, bytes: u64, out: &mut [u8]) -> W
 
 // Writes the last line: the bytes used by accepted frames, the answer that stopped it, and the missing count or the place.
 pub fn write_end_line(used: u64, number: u64, at: u64, out: &mut [u8]) -> Written
-    ensures { λ r. ⌜ WriteEndLine used number at r (now (out .entry)) (now (out .exit)) ⌝ }
+    ensures { λ r. ⌜ Writes (written (endLine used number at)) r (now (out .entry)) (now (out .exit)) ⌝ }
 {
     let numbers = [used, number, at];
     let form = b"end # # #\n";
@@ -74,7 +74,7 @@ fn refused(number: u64) -> Written
 
 // Writes the line of a message of the frame: its index, its name's bytes, and how many arguments it has.
 pub fn write_message_line(index: u64, frame: &[u8], message: Message, out: &mut [u8]) -> Written
-    ensures { λ r. ⌜ WriteMessageLine index (now (frame .entry)) message r (now (out .entry)) (now (out .exit)) ⌝ }
+    ensures { λ r. ⌜ Writes (messageAnswer index (now (frame .entry)) message) r (now (out .entry)) (now (out .exit)) ⌝ }
 {
     if !is_inside(message.start, message.len, frame) {
         return refused(OUTSIDE);
@@ -161,7 +161,7 @@ fn put_named(
 
 // Writes the line of a pair of the frame: its index, its key's bytes, and its value's kind and text.
 pub fn write_pair_line(index: u64, frame: &[u8], pair: Pair, out: &mut [u8]) -> Written
-    ensures { λ r. ⌜ WritePairLine index (now (frame .entry)) pair r (now (out .entry)) (now (out .exit)) ⌝ }
+    ensures { λ r. ⌜ Writes (pairAnswer index (now (frame .entry)) pair) r (now (out .entry)) (now (out .exit)) ⌝ }
 {
     let number = check_pair(pair, frame);
     if number != 0 {
@@ -201,7 +201,7 @@ fn check_pair(pair: Pair, frame: &[u8]) -> u64
 
 // Writes the line of an action of the frame: its index, what it does, its scope, its variable's name, and what it sets it to.
 pub fn write_action_line(index: u64, frame: &[u8], action: Action, out: &mut [u8]) -> Written
-    ensures { λ r. ⌜ WriteActionLine index (now (frame .entry)) action r (now (out .entry)) (now (out .exit)) ⌝ }
+    ensures { λ r. ⌜ Writes (actionAnswer index (now (frame .entry)) action) r (now (out .entry)) (now (out .exit)) ⌝ }
 {
     let number = check_action(action, frame);
     if number != 0 {
@@ -231,7 +231,7 @@ pub fn write_action_line(index: u64, frame: &[u8], action: Action, out: &mut [u8
 
 // What an action is refused with: 14 or 16, the first that holds; else 0.
 fn check_action(action: Action, frame: &[u8]) -> u64
-    ensures { λ r. ⌜ r ≡ inOrder (actionLineChecks (now (frame .entry)) action) 0 ⌝ }
+    ensures { λ r. ⌜ r ≡ inOrder ((14, isAction action) ∷ pairLineChecks (now (frame .entry)) (action .pair)) 0 ⌝ }
 {
     if !is_action(action) {
         return NOT_WRITABLE;

@@ -18,10 +18,10 @@ use types::Value;
 ghost use mathlib.Core.Path.{_≡_};
 ghost use Prim.Native.Nat.{_+_, _-_, _*_, _≤_};
 ghost use lib.ListN.{length};
+ghost use Rattle.answer.specs.Writes.{Writes};
 ghost use Rattle.frame.specs.Records.{messageWidth, pairWidth, actionWidth, messageAt, pairAt, actionAt};
-ghost use Rattle.listing.specs.Order.{pairNext, behindPair, behindMessage, pairAnswer, messageAnswer, line};
-ghost use Rattle.listing.specs.Promise.{Comes, WriteNextLine, WriteActionAt};
-ghost use Rattle.listing.specs.Inner.{stepFrom};
+ghost use Rattle.listing.specs.Check.{messageAnswer, pairAnswer, actionAnswer};
+ghost use Rattle.listing.specs.Order.{pairNext, behindPair, behindMessage, inTable, line, coming, stepOf, Comes};
 
 // Writes the line that comes at a place, of a frame with `count` messages and `total` pairs in its tables. The place of the first is all 0.
 pub fn write_next_line(
@@ -33,7 +33,7 @@ pub fn write_next_line(
     place: Place,
     out: &mut [u8],
 ) -> Step
-    ensures { λ r. ⌜ WriteNextLine (now (frame .entry)) (now (messages .entry)) count (now (pairs .entry)) total place r (now (out .entry)) (now (out .exit)) ⌝ }
+    ensures { λ r. ⌜ Comes (coming (now (frame .entry)) (now (messages .entry)) count (now (pairs .entry)) total place) r (now (out .entry)) (now (out .exit)) ⌝ }
 {
     if is_pair_next(count, total, place) {
         return write_pair_at(frame, pairs, place, out);
@@ -59,7 +59,7 @@ fn is_pair_next(count: usize, total: usize, place: Place) -> bool
 
 // Writes the line of the pair at a place.
 fn write_pair_at(frame: &[u8], pairs: &[u64], place: Place, out: &mut [u8]) -> Step
-    ensures { λ r. ⌜ Comes (line (pairAnswer (now (frame .entry)) (now (pairs .entry)) (place .pairs)) (behindPair place)) r (now (out .entry)) (now (out .exit)) ⌝ }
+    ensures { λ r. ⌜ Comes (line (inTable pairWidth pairAt pairAnswer (now (frame .entry)) (now (pairs .entry)) (place .pairs)) (behindPair place)) r (now (out .entry)) (now (out .exit)) ⌝ }
 {
     let k = place.pairs;
     if pairs.len() / PAIR_WIDTH <= k {
@@ -74,7 +74,7 @@ fn write_pair_at(frame: &[u8], pairs: &[u64], place: Place, out: &mut [u8]) -> S
 
 // Writes the line of the message at a place.
 fn write_message_at(frame: &[u8], messages: &[u64], place: Place, out: &mut [u8]) -> Step
-    ensures { λ r. ⌜ Comes (line (messageAnswer (now (frame .entry)) (now (messages .entry)) (place .messages)) (behindMessage place (messageAt (now (messages .entry)) (place .messages) .count))) r (now (out .entry)) (now (out .exit)) ⌝ }
+    ensures { λ r. ⌜ Comes (line (inTable messageWidth messageAt messageAnswer (now (frame .entry)) (now (messages .entry)) (place .messages)) (behindMessage place (messageAt (now (messages .entry)) (place .messages) .count))) r (now (out .entry)) (now (out .exit)) ⌝ }
 {
     let i = place.messages;
     if messages.len() / MESSAGE_WIDTH <= i {
@@ -90,7 +90,7 @@ fn write_message_at(frame: &[u8], messages: &[u64], place: Place, out: &mut [u8]
 
 // What a line's answer is as a step to this place.
 fn step(answer: Written, messages: usize, pairs: usize, left: u64) -> Step
-    ensures { λ r. ⌜ r ≡ stepFrom answer (record { messages = messages; pairs = pairs; left = left }) ⌝ }
+    ensures { λ r. ⌜ r ≡ stepOf answer (record { messages = messages; pairs = pairs; left = left }) ⌝ }
 {
     match answer {
         Written::Done(len) => Step::Line {
@@ -114,7 +114,7 @@ fn less(n: u64) -> u64
 
 // Writes the line of action k of a table.
 pub fn write_action_at(frame: &[u8], actions: &[u64], k: usize, out: &mut [u8]) -> Written
-    ensures { λ r. ⌜ WriteActionAt (now (frame .entry)) (now (actions .entry)) k r (now (out .entry)) (now (out .exit)) ⌝ }
+    ensures { λ r. ⌜ Writes (inTable actionWidth actionAt actionAnswer (now (frame .entry)) (now (actions .entry)) k) r (now (out .entry)) (now (out .exit)) ⌝ }
 {
     if actions.len() / ACTION_WIDTH <= k {
         return Written::Refused(Refusal {

@@ -53,7 +53,7 @@ use Rattle.writer.proofs.Messages.{message-name}
 use Rattle.writer.proofs.Answers.{kv-haproxy-hello, kv-haproxy-disconnect, kv-agent-hello, kv-agent-disconnect, kv-list, actions-list, notify-held, notify-named, notify-passed}
 use Rattle.roundtrip.proofs.Plain.{plainPair, plainAction, wellPair, wellName, wellAction, WellNames}
 use Rattle.listing.proofs.Accepted.{Whole, pair-there}
-use Rattle.listing.proofs.Tables.{table-messages, table-pairs, table-actions}
+use Rattle.frame.proofs.Rows.{table-messages, table-pairs, table-actions}
 use Rattle.roundtrip.proofs.Rows.{row-each}
 use Rattle.roundtrip.proofs.Pair.{Plain, run-form, run-only, pair-refuses}
 use Rattle.roundtrip.proofs.Action.{RefusesText, actions-form, actions-only, actions-refuse}

@@ -5,8 +5,7 @@ use mathlib.Core.Path.{_≡_, _∙_}
 use native.Mathlib.Omega.{arith}
 use lib.ListN.{length}
 use borrow.Author.Needs.{needs}
-use Rattle.listing.specs.Order.{actionAnswer}
-use Rattle.listing.proofs.Coming.{told-fits}
+use Rattle.listing.proofs.Coming.{writes-fit}
 use Rattle.spoplist.proofs.list_actions.Statement.{statement}
 use Rattle.spoplist.proofs.list_actions.Tie as tie
 
@@ -22,10 +21,8 @@ kept-length c = c .write-action-at .kept .1 .1 .1 .0 ∙ c .before .before .befo
 
 print-requires : tie.Need-print-requires Inv-loop μ-loop
 print-requires c κs =
-    let a = c .before .before .before .before .before .before .before .before .before .before .args in
-    let l = c .before .before .before .before .before .before .loop in
     let w = c .before .before .before .write-action-at in
-    omega (arith, told-fits (actionAnswer (a .frame .now) (a .actions .now) (l .k)) (length (l .out)) (w .result) (w .ensures .says), w .kept .1 .1 .1 .0)
+    omega (arith, writes-fit (w .ensures), w .kept .1 .1 .1 .0)
 
 same-length : tie.Need-same-length Inv-loop μ-loop
 same-length c = kept-length (c .before .before .before .before .before)

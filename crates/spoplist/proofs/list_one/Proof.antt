@@ -2,11 +2,8 @@
 -- Assumes nothing.
 use mathlib.Core.Path.{sym, ap, _∙_}
 use native.Mathlib.Omega.{arith}
-use lib.ListN.{length}
-use Rattle.answer.specs.Answer.{written}
 use Rattle.parser.specs.Promise.{frameSaid}
-use Rattle.listing.specs.Lines.{frameLine}
-use Rattle.listing.proofs.Coming.{told-fits}
+use Rattle.listing.proofs.Coming.{writes-fit}
 use Rattle.spoplist.proofs.Stopping.{said-taken, said-wait, said-refused}
 use Rattle.spoplist.specs.Inner.{readIn, sideIn, Accepts}
 use borrow.Author.Needs.{needs}
@@ -24,10 +21,8 @@ taken c =
 
 print-requires : tie.Need-print-requires
 print-requires c κs =
-    let a = c .before .before .before .before .before .before .before .before .before .before .before .before .before .before .before .before .before .before .before .before .before .before .before .args in
-    let m = c .before .before .before .before .before .before .head .given in
     let w = c .before .before .before .write-frame-line in
-    omega (arith, told-fits (written (frameLine (a .index) (m .0 .0) (m .0 .1 .1 .0))) (length (a .out .now)) (w .result) (w .ensures .says), w .kept .1 .1 .1 .0)
+    omega (arith, writes-fit (w .ensures), w .kept .1 .1 .1 .0)
 
 part-frame-end : tie.Need-part-frame-end
 part-frame-end c = taken (c .before .before .before .before .before .before .before .before) .most

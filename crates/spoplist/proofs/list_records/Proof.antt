@@ -1,14 +1,11 @@
-use Rattle.listing.specs.declared.Step.the-variants as s
 -- `spoplist::list_records` meets its contract. The loop's measure: how many messages and pairs are left, of which each line takes one.
 -- Assumes nothing.
 use borrow.Author.Needs.{needs}
-use mathlib.Core.Path.{_≡_, sym, _∙_}
-use Prim.Native.Nat.{_+_, _-_, _≤_}
+use mathlib.Core.Path.{_≡_, _∙_}
+use Prim.Native.Nat.{_+_, _-_, _≤_, _<_}
 use native.Mathlib.Omega.{arith}
 use lib.ListN.{length}
-use Rattle.listing.specs.Order.{coming}
-use Rattle.listing.specs.Promise.{comingSaid}
-use Rattle.listing.proofs.Coming.{line-fits, line-less}
+use Rattle.listing.proofs.Coming.{line-less}
 use Rattle.spoplist.proofs.list_records.Statement.{statement}
 use Rattle.spoplist.proofs.list_records.Tie as tie
 
@@ -21,28 +18,25 @@ abbrev μ-loop : tie.MeasureT-loop
 kept-length : (c : tie.After-write-next-line Inv-loop μ-loop) → length (c .write-next-line .last .1 .1 .1 .1 .1 .1 .0) ≡ length (c .before .before .before .before .before .before .before .args .out .now)
 kept-length c = c .write-next-line .kept .1 .1 .1 .1 .1 .1 .0 ∙ c .before .before .loop .inv
 
--- the step that was told
+-- the line that came fits, and fewer are left
 came : (c : tie.After-len Inv-loop μ-loop)
     → let a = c .before .before .before .before .before .before .before .before .before .before .before .args in
     let l = c .before .before .before .before .before .before .loop in
-    s.Line (c .len .given .0 .0) (c .len .given .0 .1 .0) ≡ comingSaid (length (l .out)) (coming (a .frame .now) (a .messages .now) (a .count) (a .pairs .now) (a .total) (l .place))
-came c = sym (c .len .given .1) ∙ c .before .before .before .before .write-next-line .ensures .says
-
-fits : (c : tie.After-len Inv-loop μ-loop) → c .len .given .0 .0 ≤ length (c .before .before .before .before .write-next-line .last .1 .1 .1 .1 .1 .1 .0)
-fits c =
+    let q = c .len .given .0 .1 .0 in
+    (c .len .given .0 .0 ≤ length (l .out)) × ((a .count - q .messages) + (a .total - q .pairs) < (a .count - l .place .messages) + (a .total - l .place .pairs))
+came c =
     let a = c .before .before .before .before .before .before .before .before .before .before .before .args in
-    omega (arith, line-fits (length (c .before .before .before .before .before .before .loop .out)) (c .len .given .0 .0) (c .len .given .0 .1 .0) (coming (a .frame .now) (a .messages .now) (a .count) (a .pairs .now) (a .total) (c .before .before .before .before .before .before .loop .place)) (came c), c .before .before .before .before .write-next-line .kept .1 .1 .1 .1 .1 .1 .0)
+    let w = c .before .before .before .before .write-next-line in
+    line-less _ _ (c .len .given .0 .0) (c .len .given .0 .1 .0) (c .len .given .1) (a .frame .now) (a .messages .now) (a .count) (a .pairs .now) (a .total) _ (w .ensures)
 
 part-write-all-end : tie.Need-part-write-all-end Inv-loop μ-loop
-part-write-all-end c = fits (c .before .before)
+part-write-all-end c = omega (arith, came (c .before .before) .0, c .before .before .before .before .before .before .write-next-line .kept .1 .1 .1 .1 .1 .1 .0)
 
 same-length : tie.Need-same-length Inv-loop μ-loop
 same-length c = kept-length (c .before .before .before .before .before .before .before .before .before)
 
 loop-less : tie.Need-loop-less Inv-loop μ-loop
-loop-less c = let l = c .before .before .before .before .before .before .before .before .before .before .before in
-    let a = c .before .before .before .before .before .before .before .before .before .before .before .before .before .before .before .before .args in
-    line-less (length (l .loop .out)) (c .before .before .before .before .before .len .given .0 .0) (c .before .before .before .before .before .len .given .0 .1 .0) (a .frame .now) (a .messages .now) (a .count) (a .pairs .now) (a .total) (l .loop .place) (came (c .before .before .before .before .before))
+loop-less c = came (c .before .before .before .before .before) .1
 
 loop-again : tie.Need-loop-again Inv-loop μ-loop
 loop-again c = kept-length (c .before .before .before .before .before .before .before .before .before)

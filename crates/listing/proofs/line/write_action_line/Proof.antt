@@ -2,6 +2,7 @@
 -- that of an unset.
 -- Assumes nothing.
 use mathlib.Core.Path.{sym, _∙_}
+use mathlib.Core.List.{_∷_}
 use Prim.Native.Nat.{_+_, _≤_}
 use native.Mathlib.Omega.{arith}
 use lib.ListN.{length}
@@ -12,13 +13,13 @@ use Rattle.answer.proofs.Order.{passes-zero, lines-refuse, lines-pass}
 use Rattle.answer.proofs.Output.{writes-refusal}
 use Rattle.types.proofs.Writing.{part-lent}
 use Rattle.listing.specs.Lines.{actionLine}
-use Rattle.listing.specs.Check.{actionLineChecks}
+use Rattle.listing.specs.Check.{isAction, pairLineChecks}
 use Rattle.listing.proofs.Pieces.{action-set, action-unset}
 use borrow.Author.Needs.{needs}
 use Rattle.listing.proofs.line.write_action_line.Statement.{statement}
 use Rattle.listing.proofs.line.write_action_line.Tie as tie
 
-none : (c : tie.Else1) → let a = c .before .before .before .before .args in Passes (actionLineChecks (a .frame .now) (a .action))
+none : (c : tie.Else1) → let a = c .before .before .before .before .args in Passes ((14, isAction (a .action)) ∷ pairLineChecks (a .frame .now) (a .action .pair))
 none c = passes-zero _ tt (sym (c .before .check-action .ensures) ∙ c .if1 .left)
 
 ends : (c : tie.Else1) → let a = c .before .before .before .before .args in a .action .pair .start + a .action .pair .len ≤ length (a .frame .now)
@@ -30,7 +31,7 @@ returns c = let a = c .before .before .before .before .before .args in
     let f = a .frame .now in
     rw (c .refused .ensures)
     (writes-refusal (c .before .before .check-action .result) 0 (a .out .now)
-    (lines-refuse (actionLineChecks f (a .action)) _ (c .before .before .check-action .ensures) (c .before .if1 .taken) 0 (written (actionLine (a .index) f (a .action)))))
+    (lines-refuse _ _ (c .before .before .check-action .ensures) (c .before .if1 .taken) 0 (written (actionLine (a .index) f (a .action)))))
 
 add-to : tie.Need-add-to
 add-to c = omega (arith, ends c, c .before .before .before .before .good)
@@ -45,7 +46,7 @@ returns-2 : tie.Need-returns-2
 returns-2 c = let a = c .before .before .before .before .before .before .before .before .before .before .before .before .before .args in
     let f = a .frame .now in
     let x = a .action in
-    rw (lines-pass (actionLineChecks f x) (none (c .before .before .before .before .before .before .before .before .before)) 0 (written (actionLine (a .index) f x)), action-set f x (a .index) (c .before .before .before .before .before .before .before .if2 .taken))
+    rw (lines-pass _ (none (c .before .before .before .before .before .before .before .before .before)) 0 (written (actionLine (a .index) f x)), action-set (a .index) f x (c .before .before .before .before .before .before .before .if2 .taken))
     (rw part-lent at (c .before .before .write-valued .ensures))
 
 part-write-named-end : tie.Need-part-write-named-end
@@ -55,7 +56,7 @@ returns-3 : tie.Need-returns-3
 returns-3 c = let a = c .before .before .before .before .before .before .before .before .before .before .before .before .before .before .before .args in
     let f = a .frame .now in
     let x = a .action in
-    rw (lines-pass (actionLineChecks f x) (none (c .before .before .before .before .before .before .before .before .before .before .before)) 0 (written (actionLine (a .index) f x)), action-unset f x (a .index) (c .before .before .before .before .before .before .before .before .before .if2 .left))
+    rw (lines-pass _ (none (c .before .before .before .before .before .before .before .before .before .before .before)) 0 (written (actionLine (a .index) f x)), action-unset (a .index) f x (c .before .before .before .before .before .before .before .before .before .if2 .left))
     (rw part-lent at (c .before .before .write-named .ensures))
 
 pub write-action-line-spec : {M : Type 1} → statement M

@@ -8,13 +8,11 @@ use native.Mathlib.Omega.{arith}
 use lib.ListN.{length}
 use borrow.Author.Tests.{not-true, not-false, leb-true}
 use Rattle.answer.specs.Answer.{refused, written}
-use Rattle.answer.proofs.Order.{order-fails, lines-pass}
+use Rattle.answer.proofs.Order.{order-none, order-fails, order-holds}
 use Rattle.answer.proofs.Output.{writes-refusal}
-use Rattle.types.specs.Form.{part, inside}
+use Rattle.types.specs.Form.{inside}
 use Rattle.types.proofs.Writing.{part-lent}
-use Rattle.listing.specs.Digits.{decimal, shown}
 use Rattle.listing.specs.Lines.{messageLine}
-use Rattle.listing.specs.Check.{messageLineChecks}
 use Rattle.listing.proofs.Pieces.{message-parts}
 use borrow.Author.Needs.{needs}
 use Rattle.listing.proofs.line.write_message_line.Statement.{statement}
@@ -40,11 +38,10 @@ part-write-named-end : tie.Need-part-write-named-end
 part-write-named-end c = ends (c .before .before)
 
 returns-2 : tie.Need-returns-2
-unfolding messageLine
 returns-2 c = let a = c .before .before .before .before .before .before .before .before .before .before .before .before .before .args in
     let f = a .frame .now in
     let m = a .message in
-    rw (lines-pass (messageLineChecks f m) (named (c .before .before .before .before .before .before .before .before .before), tt) 0 (written (messageLine (a .index) f m)), message-parts (decimal (a .index)) (shown (part f (m .start) (m .len))) (decimal (m .count)))
+    rw (order-holds (refused 16 0) _ [] (written (messageLine (a .index) f m)) (named (c .before .before .before .before .before .before .before .before .before)), order-none (written (messageLine (a .index) f m)), message-parts (a .index) f m)
     (rw part-lent at (c .before .before .write-named .ensures))
 
 pub write-message-line-spec : {M : Type 1} → statement M

@@ -9,11 +9,8 @@ use Rattle.answer.specs.Answer.{written}
 use Rattle.answer.specs.Inner.{Passes}
 use Rattle.answer.proofs.Order.{passes-zero, lines-refuse, lines-pass}
 use Rattle.answer.proofs.Output.{writes-refusal}
-use Rattle.types.specs.Promise.{recordOf}
 use Rattle.types.proofs.Writing.{part-lent}
-use Rattle.frame.specs.Records.{keyOf}
-use Rattle.listing.specs.Digits.{decimal, shown}
-use Rattle.listing.specs.Lines.{valueText, pairLine}
+use Rattle.listing.specs.Lines.{pairLine}
 use Rattle.listing.specs.Check.{pairLineChecks}
 use Rattle.listing.proofs.Pieces.{pair-parts}
 use borrow.Author.Needs.{needs}
@@ -43,11 +40,10 @@ write-valued-requires : tie.Need-write-valued-requires
 write-valued-requires c κs = let p = none (c .before .before .before .before) in (omega arith, record { fields = p .0; range = p .1 .1 .0 })
 
 returns-2 : tie.Need-returns-2
-unfolding pairLine
 returns-2 c = let a = c .before .before .before .before .before .before .before .before .before .before .before .args in
     let f = a .frame .now in
     let x = a .pair in
-    rw (lines-pass (pairLineChecks f x) (none (c .before .before .before .before .before .before .before)) 0 (written (pairLine (a .index) f x)), pair-parts (decimal (a .index)) (shown (keyOf f x)) (decimal (x .value .kind)) (valueText f (recordOf (x .value))))
+    rw (lines-pass (pairLineChecks f x) (none (c .before .before .before .before .before .before .before)) 0 (written (pairLine (a .index) f x)), pair-parts (a .index) f x)
     (rw part-lent at (c .before .before .write-valued .ensures))
 
 pub write-pair-line-spec : {M : Type 1} → statement M

@@ -4,28 +4,19 @@ use Prim.Native.Nat.{_+_, _*_}
 use native.Mathlib.Omega.{arith}
 use lib.ListN.{length}
 use borrow.Author.Tests.{le-leb, lt-leb}
-use Rattle.answer.specs.Answer.{refused, written}
-use Rattle.answer.specs.Order.{linesAt}
-use Rattle.answer.proofs.Order.{order-fails, order-holds}
 use Rattle.answer.proofs.Output.{writes-refusal}
-use Rattle.frame.specs.Records.{actionWidth, actionAt}
-use Rattle.listing.specs.Lines.{actionLine}
-use Rattle.listing.specs.Check.{actionLineChecks}
+use Rattle.frame.specs.Records.{actionWidth}
 use borrow.Author.Needs.{needs}
 use Rattle.listing.proofs.order.write_action_at.Statement.{statement}
 use Rattle.listing.proofs.order.write_action_at.Tie as tie
 
 returns : tie.Need-returns
 returns c = let a = c .before .before .before .before .args in
-    let x = actionAt (a .actions .now) (a .k) in
-    writes-refusal 16 0 (a .out .now)
-    (order-fails (refused 16 0) _ (linesAt 0 (actionLineChecks (a .frame .now) x)) (written (actionLine (a .k) (a .frame .now) x))
-    (lt-leb ((a .k + 1) * actionWidth) (length (a .actions .now)) (omega (arith, c .if1 .taken))))
+    writes-refusal 16 0 (a .out .now) (rw (lt-leb ((a .k + 1) * actionWidth) (length (a .actions .now)) (omega (arith, c .if1 .taken))))
 
 returns-2 : tie.Need-returns-2
 returns-2 c = let a = c .before .before .before .before .before .before .before .before .before .args in
-    let x = actionAt (a .actions .now) (a .k) in
-    rw (order-holds (refused 16 0) _ (linesAt 0 (actionLineChecks (a .frame .now) x)) (written (actionLine (a .k) (a .frame .now) x)) (le-leb ((a .k + 1) * actionWidth) (length (a .actions .now)) (omega (arith, c .before .before .before .before .before .if1 .left))))
+    rw (le-leb ((a .k + 1) * actionWidth) (length (a .actions .now)) (omega (arith, c .before .before .before .before .before .if1 .left)))
     (rw (c .before .before .before .before .action-at .ensures) at (c .before .before .write-action-line .ensures))
 
 pub write-action-at-spec : {M : Type 1} → statement M

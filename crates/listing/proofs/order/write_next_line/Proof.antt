@@ -16,7 +16,7 @@ returns-2 c = let a = c .before .before .before .before .before .before .before 
 
 returns-3 : tie.Need-returns-3
 returns-3 c = let a = c .before .before .before .before .before .before .before .before .args in
-    rw (coming-none (a .frame .now) (a .messages .now) (a .count) (a .pairs .now) (a .total) (a .place) (sym (c .before .before .before .is-pair-next .ensures) ∙ c .before .before .if1 .left) (c .if2 .left)) (record { says = refl; holds = refl })
+    rw (coming-none (a .frame .now) (a .messages .now) (a .count) (a .pairs .now) (a .total) (a .place) (sym (c .before .before .before .is-pair-next .ensures) ∙ c .before .before .if1 .left) (c .if2 .left)) (refl, refl)
 
 pub write-next-line-spec : {M : Type 1} → statement M
 write-next-line-spec =
