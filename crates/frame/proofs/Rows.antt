@@ -1,6 +1,6 @@
 -- Laws about pairs and actions of a table that starts with those of another: they are the other's, and behind them are those of the rest. And about a
 -- table that starts with the numbers of some records: it holds these.
-use mathlib.Core.Path.{_≡_}
+use mathlib.Core.Path.{_≡_, refl}
 use mathlib.Core.List.{List, _++_}
 use Prim.Native.Nat.{ℕ, suc, _+_, _*_, _≤_, _<_}
 use native.Mathlib.Omega.{arith}

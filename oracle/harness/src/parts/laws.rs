@@ -217,7 +217,7 @@ fn classes(again: &Again, seen: &Seen) -> Vec<Class> {
     all.extend(classes_of_oversize(again, &more, seen));
     let kept = |(number, name)| (name, seen.first.number() == number && more.all());
     all.extend(KEPT.map(kept));
-    all.extend(classes_of_full(&more, seen));
+    all.extend(classes_of_full(again, &more, seen));
     all
 }
 
@@ -305,12 +305,30 @@ fn classes_of_oversize(again: &Again, more: &More, seen: &Seen) -> Vec<Class> {
     ]
 }
 
-fn classes_of_full(more: &More, seen: &Seen) -> Vec<Class> {
+fn classes_of_full(again: &Again, more: &More, seen: &Seen) -> Vec<Class> {
     let is = seen.first.number() == TABLE_FULL;
+    let by_one = if is {
+        again.by_one_table().map(|then| then.answer == seen.first.answer)
+    } else {
+        [false; 2]
+    };
+    let list = is && again.first.input[4] < 3;
     let then = seen.second.number();
     let moved = is && seen.first.answer != seen.second.answer;
     vec![
         ("10, kept", is && more.bytes && more.limit && !more.room()),
+        (
+            "10 of a KV list, kept with more room for messages",
+            list && more.rooms[0] && by_one[0],
+        ),
+        (
+            "10 of a NOTIFY, kept with more room for messages",
+            is && !list && more.rooms[0] && by_one[0],
+        ),
+        (
+            "10 of a NOTIFY, kept with more room for pairs",
+            is && !list && more.rooms[1] && by_one[1],
+        ),
         (
             "10, and 0 with more room for messages alone",
             is && then == DONE && more.rooms == [true, false],

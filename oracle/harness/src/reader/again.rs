@@ -39,6 +39,10 @@ const ORDER: Law = "the keys' starts rise";
 const UNTOUCHED: Law = "only 0 changes what is lent";
 const ACCEPTED: Law = "what is accepted is accepted again, and the same";
 const REFUSED: Law = "a refusal keeps its number and its place";
+const FULL: Law = "10 is kept where the table that was full does not grow";
+
+/// The type of a frame that has messages; the others of HAProxy's have pairs alone.
+const NOTIFY: u8 = 3;
 
 /// The most bytes that are appended because a reading waits for them.
 const MOST: u64 = 1 << 16;
@@ -84,10 +88,34 @@ impl Again {
             DONE if same && same_content(first, second) => Ok(()),
             DONE => Err(ACCEPTED),
             OVERSIZE if self.first.limit < self.second().limit => Ok(()),
-            TABLE_FULL if self.larger().contains(&true) => Ok(()),
+            TABLE_FULL if self.larger().contains(&true) => self.full_kept(first),
             _ if same => Ok(()),
             _ => Err(REFUSED),
         }
+    }
+
+    /// One table was full: of a KV list that of pairs, of a NOTIFY one of the two. As long as it does not grow the 10 is
+    /// kept, however the other one does.
+    fn full_kept(&self, first: &Reading) -> Result<(), Law> {
+        let [messages, pairs] = self.by_one_table().map(|then| then.answer == first.answer);
+        let is_notify = self.first.input.get(4) == Some(&NOTIFY);
+        if messages || (is_notify && pairs) {
+            Ok(())
+        } else {
+            Err(FULL)
+        }
+    }
+
+    /// The second reading with more room for messages alone, and with more room for pairs alone.
+    pub fn by_one_table(&self) -> [Reading; 2] {
+        let [messages, pairs] = self.spare;
+        [[messages, 0], [0, pairs]].map(|spare| {
+            let alone = Again {
+                spare,
+                ..self.clone()
+            };
+            alone.second().by_port()
+        })
     }
 
     fn read_whole(&self, first: &Reading) -> Result<Option<Reading>, Law> {
