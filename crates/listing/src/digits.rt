@@ -4,9 +4,8 @@ ghost use mathlib.Core.List.{List, map};
 ghost use Prim.Native.Nat.{ℕ, _≤_, _<_, _^_};
 ghost use lib.ListN.{length};
 ghost use Rattle.answer.specs.Answer.{written};
-ghost use Rattle.answer.specs.Table.{joined};
 ghost use Rattle.types.specs.Inner.{Puts};
-ghost use Rattle.listing.specs.Digits.{decimal, signed, hexPair, shown, glyph as glyphOf};
+ghost use Rattle.listing.specs.Digits.{decimal, signed, shown, glyph as glyphOf};
 ghost use Rattle.listing.specs.Lines.{filled};
 
 pub(crate) const DASH: u8 = b'-';
@@ -108,11 +107,15 @@ pub(crate) fn put_signed(n: u64, out: &mut [u8]) -> usize
     1 + put_digits(u64::MAX - n + 1, &mut out[1..])
 }
 
-// Writes two digits for each byte.
-fn put_hex(bytes: &[u8], out: &mut [u8]) -> usize
-    requires { ⌜ length (joined hexPair (now bytes)) ≤ length (now out) ⌝ }
-    ensures { λ r. ⌜ Puts (written (joined hexPair (now (bytes .entry)))) r (now (out .entry)) (now (out .exit)) ⌝ }
+// Writes bytes, two digits for each, or a dash where there are none.
+pub(crate) fn put_shown(bytes: &[u8], out: &mut [u8]) -> usize
+    requires { ⌜ length (shown (now bytes)) ≤ length (now out) ⌝ }
+    ensures { λ r. ⌜ Puts (written (shown (now (bytes .entry)))) r (now (out .entry)) (now (out .exit)) ⌝ }
 {
+    if bytes.len() == 0 {
+        out[0] = DASH;
+        return 1;
+    }
     let mut at = 0;
     let mut i = 0;
     while i < bytes.len() {
@@ -123,18 +126,6 @@ fn put_hex(bytes: &[u8], out: &mut [u8]) -> usize
         i += 1;
     }
     at
-}
-
-// Writes bytes, or a dash where there are none.
-pub(crate) fn put_shown(bytes: &[u8], out: &mut [u8]) -> usize
-    requires { ⌜ length (shown (now bytes)) ≤ length (now out) ⌝ }
-    ensures { λ r. ⌜ Puts (written (shown (now (bytes .entry)))) r (now (out .entry)) (now (out .exit)) ⌝ }
-{
-    if bytes.len() == 0 {
-        out[0] = DASH;
-        return 1;
-    }
-    put_hex(bytes, out)
 }
 
 // Writes a form with these numbers.

@@ -115,30 +115,14 @@ fn write_named(
     requires { ⌜ length (now back) ≤ 64 ⌝ }
     ensures { λ r. ⌜ Writes (written (namedText (now (front .entry)) (now (numbers .entry)) (now (name .entry)) (now (back .entry)) (now (others .entry)))) r (now (out .entry)) (now (out .exit)) ⌝ }
 {
-    if !named_fits(front, numbers, name, back, others, out.len()) {
+    let words = filled_len(front, numbers) + filled_len(back, others);
+    if out.len() < words {
+        return refused(NO_ROOM);
+    }
+    if ((out.len() - words) as u64) < shown_len(name.len()) {
         return refused(NO_ROOM);
     }
     Written::Done(put_named(front, numbers, name, back, others, out))
-}
-
-// Whether the line has at most `room` bytes.
-fn named_fits(
-    front: &[u8],
-    numbers: &[u64],
-    name: &[u8],
-    back: &[u8],
-    others: &[u64],
-    room: usize,
-) -> bool
-    requires { ⌜ length (now front) ≤ 64 ⌝ }
-    requires { ⌜ length (now back) ≤ 64 ⌝ }
-    ensures { λ r. ⌜ r ≡ leb (length (namedText (now (front .entry)) (now (numbers .entry)) (now (name .entry)) (now (back .entry)) (now (others .entry)))) room ⌝ }
-{
-    let words = filled_len(front, numbers) + filled_len(back, others);
-    if room < words {
-        return false;
-    }
-    shown_len(name.len()) <= (room - words) as u64
 }
 
 // Writes the line where there is room.
@@ -271,35 +255,19 @@ fn write_valued(
     requires { ⌜ Listed (now frame) value ⌝ }
     ensures { λ r. ⌜ Writes (written (valuedText (now (front .entry)) (now (numbers .entry)) (now (key .entry)) (now (frame .entry)) value)) r (now (out .entry)) (now (out .exit)) ⌝ }
 {
-    if !valued_fits(front, numbers, key, value, frame, out.len()) {
+    let words = filled_len(front, numbers) + filled_len(b" kind # value ", &[value.kind]) + 1;
+    if out.len() < words {
+        return refused(NO_ROOM);
+    }
+    let left = (out.len() - words) as u64;
+    let shown = shown_len(key.len());
+    if left < shown {
+        return refused(NO_ROOM);
+    }
+    if left - shown < text_len(value, frame) {
         return refused(NO_ROOM);
     }
     Written::Done(put_valued(front, numbers, key, value, frame, out))
-}
-
-// Whether the line has at most `room` bytes.
-fn valued_fits(
-    front: &[u8],
-    numbers: &[u64],
-    key: &[u8],
-    value: Value,
-    frame: &[u8],
-    room: usize,
-) -> bool
-    requires { ⌜ length (now front) ≤ 64 ⌝ }
-    requires { ⌜ Listed (now frame) value ⌝ }
-    ensures { λ r. ⌜ r ≡ leb (length (valuedText (now (front .entry)) (now (numbers .entry)) (now (key .entry)) (now (frame .entry)) value)) room ⌝ }
-{
-    let words = filled_len(front, numbers) + filled_len(b" kind # value ", &[value.kind]) + 1;
-    if room < words {
-        return false;
-    }
-    let left = (room - words) as u64;
-    let shown = shown_len(key.len());
-    if left < shown {
-        return false;
-    }
-    text_len(value, frame) <= left - shown
 }
 
 // How many bytes the text of a value has.

@@ -69,7 +69,8 @@ fn write_pair_at(frame: &[u8], pairs: &[u64], place: Place, out: &mut [u8]) -> S
         });
     }
     let answer = write_pair_line(k as u64, frame, pair_at(pairs, k), out);
-    step(answer, place.messages, k + 1, less(place.left))
+    let left = if place.left == 0 { 0 } else { place.left - 1 };
+    step(answer, place.messages, k + 1, left)
 }
 
 // Writes the line of the message at a place.
@@ -103,13 +104,6 @@ fn step(answer: Written, messages: usize, pairs: usize, left: u64) -> Step
         },
         Written::Refused(r) => Step::Refused(r),
     }
-}
-
-// One less, down to 0.
-fn less(n: u64) -> u64
-    ensures { λ r. ⌜ r ≡ n - 1 ⌝ }
-{
-    if n == 0 { 0 } else { n - 1 }
 }
 
 // Writes the line of action k of a table.
