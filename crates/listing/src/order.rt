@@ -9,15 +9,13 @@ use answer::OUTSIDE;
 use answer::Refusal;
 use answer::Written;
 use frame::ACTION_WIDTH;
-use frame::Action;
 use frame::MESSAGE_WIDTH;
-use frame::Message;
 use frame::PAIR_WIDTH;
-use frame::Pair;
-use types::Value;
+use frame::action_at;
+use frame::message_at;
+use frame::pair_at;
 ghost use mathlib.Core.Path.{_≡_};
-ghost use Prim.Native.Nat.{_+_, _-_, _*_, _≤_};
-ghost use lib.ListN.{length};
+ghost use Prim.Native.Nat.{_+_, _-_};
 ghost use Rattle.answer.specs.Writes.{Writes};
 ghost use Rattle.frame.specs.Records.{messageWidth, pairWidth, actionWidth, messageAt, pairAt, actionAt};
 ghost use Rattle.listing.specs.Check.{messageAnswer, pairAnswer, actionAnswer};
@@ -117,58 +115,4 @@ pub fn write_action_at(frame: &[u8], actions: &[u64], k: usize, out: &mut [u8]) 
         });
     }
     write_action_line(k as u64, frame, action_at(actions, k), out)
-}
-
-// Record k of a table of pairs.
-fn pair_at(pairs: &[u64], k: usize) -> Pair
-    requires { ⌜ k * pairWidth + pairWidth ≤ length (now pairs) ⌝ }
-    ensures { λ r. ⌜ r ≡ pairAt (now (pairs .entry)) k ⌝ }
-{
-    let at = k * PAIR_WIDTH;
-    Pair {
-        start: pairs[at],
-        len: pairs[at + 1],
-        value: Value {
-            kind: pairs[at + 2],
-            a: pairs[at + 3],
-            b: pairs[at + 4],
-            flags: pairs[at + 5],
-        },
-    }
-}
-
-// Record i of a table of messages.
-fn message_at(messages: &[u64], i: usize) -> Message
-    requires { ⌜ i * messageWidth + messageWidth ≤ length (now messages) ⌝ }
-    ensures { λ r. ⌜ r ≡ messageAt (now (messages .entry)) i ⌝ }
-{
-    let at = i * MESSAGE_WIDTH;
-    Message {
-        start: messages[at],
-        len: messages[at + 1],
-        first: messages[at + 2],
-        count: messages[at + 3],
-    }
-}
-
-// Record k of a table of actions.
-fn action_at(actions: &[u64], k: usize) -> Action
-    requires { ⌜ k * actionWidth + actionWidth ≤ length (now actions) ⌝ }
-    ensures { λ r. ⌜ r ≡ actionAt (now (actions .entry)) k ⌝ }
-{
-    let at = k * ACTION_WIDTH;
-    Action {
-        verb: actions[at],
-        scope: actions[at + 1],
-        pair: Pair {
-            start: actions[at + 2],
-            len: actions[at + 3],
-            value: Value {
-                kind: actions[at + 4],
-                a: actions[at + 5],
-                b: actions[at + 6],
-                flags: actions[at + 7],
-            },
-        },
-    }
 }
