@@ -38,7 +38,13 @@ pub(crate) fn fields(text: &[u8], strings: Strings, numbers: &mut [u64], bytes: 
     while at < text.len() {
         let rest = &text[at..];
         let n = find(rest, b' ', b',');
-        found = field(&rest[0..n], strings.from <= i && i < strings.to, found, numbers, bytes);
+        found = field(
+            &rest[0..n],
+            strings.from <= i && i < strings.to,
+            found,
+            numbers,
+            bytes,
+        );
         if !found.whole {
             return found;
         }

@@ -31,33 +31,25 @@ pub(crate) fn read_line(
     if 0xFFFF_FFFF < limit || messages.len() < message_room || pairs.len() < pair_room {
         return Verdict::Unread;
     }
-    let message_count = n[9];
-    let pair_count = n[10];
-    if 6 < message_count {
+    let message_count = n[9] as usize;
+    if (n.len() - 11) / MESSAGE_WIDTH < message_count {
         return Verdict::Unread;
     }
-    if 4 < pair_count {
+    let split = 11 + MESSAGE_WIDTH * message_count;
+    let rest = n.len() - split;
+    if rest / PAIR_WIDTH != n[10] as usize || rest % PAIR_WIDTH != 0 {
         return Verdict::Unread;
     }
-    let split = 11 + MESSAGE_WIDTH * message_count as usize;
-    if n.len() != split + PAIR_WIDTH * pair_count as usize {
-        return Verdict::Unread;
-    }
-    let mut want_messages = [OLD; TABLE];
-    let mut want_pairs = [OLD; TABLE];
-    frame::put(&n[11..split], &mut want_messages);
-    frame::put(&n[split..], &mut want_pairs);
+    let want = &n[3..11];
+    let want_messages = &n[11..split];
+    let want_pairs = &n[split..];
     let told = numbers_of(parser::read_frame(
         input,
         limit as u32,
         &mut messages[0..message_room],
         &mut pairs[0..pair_room],
     ));
-    agreed(
-        same_numbers(&told, &n[3..11])
-            && same_numbers(messages, &want_messages)
-            && same_numbers(pairs, &want_pairs),
-    )
+    agreed(holds(&told, want) && holds(messages, want_messages) && holds(pairs, want_pairs))
 }
 
 // An answer in numbers: 0, 1 for a wait, or the refusal's; the bytes used or missing, or the place; and of an accepted frame the type, the
@@ -79,13 +71,15 @@ fn numbers_of(answer: FrameRead) -> [u64; 8] {
     }
 }
 
-fn same_numbers(a: &[u64], b: &[u64]) -> bool {
-    if a.len() != b.len() {
+// Whether a table has these numbers in front, and OLD behind them.
+fn holds(table: &[u64], numbers: &[u64]) -> bool {
+    if table.len() < numbers.len() {
         return false;
     }
     let mut i = 0;
-    while i < a.len() {
-        if a[i] != b[i] {
+    while i < table.len() {
+        let want = if i < numbers.len() { numbers[i] } else { OLD };
+        if table[i] != want {
             return false;
         }
         i += 1;
@@ -197,12 +191,11 @@ pub(crate) fn notify_line(n: &[u64], buffer: &[u8], bytes: &[u8], out: &mut [u8]
     if n.len() < 10 {
         return Verdict::Unread;
     }
-    let rows = n[8];
-    let most = (n.len() - 10) / MESSAGE_WIDTH;
-    if (most as u64) < rows {
+    let message_count = n[8] as usize;
+    if (n.len() - 10) / MESSAGE_WIDTH < message_count {
         return Verdict::Unread;
     }
-    let split = 10 + MESSAGE_WIDTH * rows as usize;
+    let split = 10 + MESSAGE_WIDTH * message_count;
     let c = call_of(n, out.len());
     if !c.whole {
         return Verdict::Unread;
@@ -216,7 +209,7 @@ pub(crate) fn notify_line(n: &[u64], buffer: &[u8], bytes: &[u8], out: &mut [u8]
         c.limit,
         buffer,
         &n[10..split],
-        rows,
+        n[8],
         &n[split..],
         n[9],
         &mut out[0..room],
