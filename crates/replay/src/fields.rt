@@ -51,8 +51,8 @@ pub(crate) fn fields(text: &[u8], strings: Strings, numbers: &mut [u64], bytes: 
         i += 1;
         at = at + n + 1;
     }
-    // Behind a last separator a field is missing.
-    if at == text.len() {
+    // A field is missing: behind a last separator, or a byte string.
+    if at == text.len() || i < strings.to {
         return UNREAD;
     }
     found

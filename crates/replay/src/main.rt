@@ -63,14 +63,14 @@ fn lines(text: &[u8]) -> Counts {
 }
 
 fn judge(line: &[u8]) -> Verdict {
-    if line.len() < 2 {
+    if line.len() == 0 {
         return Verdict::Unread;
     }
     let letter = line[0];
     if letter == b'#' {
         return Verdict::Comment;
     }
-    if line[1] != b' ' {
+    if line.len() < 2 || line[1] != b' ' {
         return Verdict::Unread;
     }
     let mut numbers = [0u64; 64];

@@ -77,7 +77,13 @@ pub(crate) fn value_line(n: &[u64], input: &[u8]) -> Verdict {
             let same = n[2] == value.kind && n[3] == value.a && n[4] == value.b;
             agreed(same && n[0] == 0 && n[1] == used as u64)
         },
-        ValueRead::Refused(r) => agreed(n[0] == r.number && n[1] == r.place as u64),
+        ValueRead::Refused(r) => {
+            if 5 < n.len() && n[5] != 0 {
+                return Verdict::Differs;
+            }
+            let none = n[2] == 0 && n[3] == 0 && n[4] == 0;
+            agreed(none && n[0] == r.number && n[1] == r.place as u64)
+        },
     }
 }
 
