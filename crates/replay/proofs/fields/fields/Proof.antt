@@ -1,4 +1,5 @@
--- `replay::fields::fields` meets its contract: each field ends past where it starts, and at the end of the text at the latest; what was found stays within both outputs.
+-- `replay::fields::fields` meets its contract: each field ends past where it starts, and at the end of the text at the latest;
+-- what was found stays within both outputs.
 -- Assumes nothing.
 use Prim.Native.Nat.{_+_, _-_, _≤_}
 use mathlib.Core.Path.{_≡_}
@@ -8,7 +9,8 @@ use Rattle.replay.proofs.fields.fields.Statement.{statement}
 use Rattle.replay.proofs.fields.fields.Tie as tie
 
 abbrev Inv-loop : tie.InvT-loop
-Inv-loop text strings numbers₀ bytes₀ found₀ at₀ i₀ numbers bytes found at i = (found .numbers ≤ length numbers) × (found .start ≤ found .end) × (found .end ≤ length bytes) × (i ≤ at) × (at ≤ length text + 1)
+Inv-loop text strings numbers₀ bytes₀ found₀ at₀ i₀ numbers bytes found at i =
+    (found .numbers ≤ length numbers) × (found .start ≤ found .end) × (found .end ≤ length bytes) × (i ≤ at) × (at ≤ length text + 1)
     × (length numbers ≡ length numbers₀) × (length bytes ≡ length bytes₀)
 
 abbrev μ-loop : tie.MeasureT-loop
