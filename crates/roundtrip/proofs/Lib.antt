@@ -15,3 +15,4 @@ pub mod Apart
 pub mod Standing
 pub mod ReadBack
 pub mod Examples
+pub mod Marked

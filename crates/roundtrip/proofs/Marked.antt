@@ -1,5 +1,5 @@
 -- Worked examples of docs/RULES.md on numbers, values, frames that are read and frame sizes, and of docs/PROMISES.md on what is kept and what is
--- read back, as one statement over a list. The program runs the same ones.
+-- read back, as one statement over a list. The program `replay` runs the same ones (crates/replay/data/marked.txt).
 use mathlib.Core.Path.{_≡_, refl}
 use mathlib.Core.Bool.{Bool, true, false, _&&_}
 use mathlib.Core.List.{List, [], _∷_, _++_}
