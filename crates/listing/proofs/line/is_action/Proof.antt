@@ -6,7 +6,7 @@ use Rattle.listing.proofs.line.is_action.Statement.{statement}
 use Rattle.listing.proofs.line.is_action.Tie as tie
 
 returns : tie.Need-returns
-returns c = rw (lt-leb (c .before .before .args .action .scope) 4 (c .if1 .taken))
+returns c = rw (lt-leb (c .before .before .args .action .scope) 4 (omega (arith, c .if1 .taken)))
 
 returns-2 : tie.Need-returns-2
 returns-2 c =
