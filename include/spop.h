@@ -49,7 +49,7 @@
 extern "C" {
 #endif
 
-/* tools/boundary makes the numbers and the records' fields too. */
+/* The numbers and the fields of the records are made by tools/boundary. */
 
 /* What a call answers. */
 enum spop_refusal {

@@ -1,5 +1,5 @@
-"""What tests/haproxy shows, in its six points: checks.py FOLDER LIBRARY [long]. The folder has the agent, and is removed at the end; the
-library is a folder with libspop.a and libspop.so."""
+"""What tests/haproxy shows, in its six points: checks.py FOLDER LIBRARY [long]. The folder has the agent, and is removed at the
+end; LIBRARY is a folder with libspop.a and libspop.so."""
 import http.client
 import os
 import random
@@ -111,7 +111,8 @@ def each_pair_of_slots(scratch):
 def answering():
     """The examples that read frames from standard input and write ACKs. The agent, which does both on a port, has its own point."""
     sources = [path for path in sorted((TOP / "examples").iterdir()) if path.suffix in (".c", ".py", ".rs")]
-    return [path for path in sources if re.search(r"\bstdin\b", path.read_text()) and re.search(r"_ack\(|SPOP_ACK|\bAck::", path.read_text())]
+    return [path for path in sources
+            if re.search(r"\bstdin\b", path.read_text()) and re.search(r"_ack\(|SPOP_ACK|\bAck::", path.read_text())]
 
 
 def started_by(source, scratch, library):
