@@ -49,6 +49,8 @@
 extern "C" {
 #endif
 
+/* The numbers and the fields of the records are made by tools/boundary. */
+
 /* What a call answers. */
 enum spop_refusal {
     SPOP_DONE = 0,
@@ -258,6 +260,8 @@ static inline const char *spop_refusal_text(uint64_t number)
 
 /* The calls of the library. */
 
+/* Made by tools/boundary, but for the comments: */
+
 /* Answers how many bytes the written form of n has: 1 to 10. */
 uint64_t spop_varint_len(uint64_t n);
 
@@ -278,9 +282,8 @@ bool spop_same_text(const uint8_t *a, size_t a_len, const uint8_t *b, size_t b_l
 /* The same the plain way: writes the lossy text of a at the front of a_text and that of b at the front of b_text, and compares
  * their bytes. 0 with *at 0 and *same set to what spop_same_text answers, or 11 where either text has no room; 3 * a_len and
  * 3 * b_len bytes always are enough. After 11 neither buffer has changed, and *same has not. */
-uint64_t spop_same_text_plain(const uint8_t *a, size_t a_len, const uint8_t *b, size_t b_len,
-                              uint8_t *a_text, size_t a_text_len, uint8_t *b_text, size_t b_text_len,
-                              bool *same, uint64_t *at);
+uint64_t spop_same_text_plain(const uint8_t *a, size_t a_len, const uint8_t *b, size_t b_len, uint8_t *a_text, size_t a_text_len,
+                              uint8_t *b_text, size_t b_text_len, bool *same, uint64_t *at);
 
 /* Writes the lossy text of the bytes at the front of out. 0 with its length, at most 3 * len, or 11. */
 uint64_t spop_lossy_text(const uint8_t *bytes, size_t len, uint8_t *out, size_t out_len, uint64_t *at);
@@ -362,16 +365,14 @@ uint64_t spop_read_pair(const uint8_t *input, size_t input_len, uint64_t pair[SP
  * To go on: after 0 the next frame is *at bytes further, at input + *at with input_len - *at bytes. After 1, call again with the
  * same bytes and *at more behind them; where the four length bytes were not there, it may then answer 1 once more, for the rest.
  * After 3 to 10 the frame is whole: whoever passes it over goes on four bytes further than its length bytes say. */
-uint64_t spop_read_frame(const uint8_t *input, size_t input_len, uint32_t limit,
-                         uint64_t *messages, size_t messages_len, uint64_t *pairs, size_t pairs_len,
-                         uint64_t head[6], uint64_t *at);
+uint64_t spop_read_frame(const uint8_t *input, size_t input_len, uint32_t limit, uint64_t *messages, size_t messages_len,
+                         uint64_t *pairs, size_t pairs_len, uint64_t head[6], uint64_t *at);
 
 /* Reads a frame as spop_read_frame does, with a table of records for the pairs, which has room for pairs_len of them. The answer,
  * *at, head and messages are those that spop_read_frame gives with a table of six times as many numbers. After 0 the records are
  * at the front of pairs, with the numbers that it gives, and those behind them stay. After any other number none has changed. */
-uint64_t spop_read_frame_records(const uint8_t *input, size_t input_len, uint32_t limit,
-                                 uint64_t *messages, size_t messages_len, struct spop_pair *pairs, size_t pairs_len,
-                                 uint64_t head[6], uint64_t *at);
+uint64_t spop_read_frame_records(const uint8_t *input, size_t input_len, uint32_t limit, uint64_t *messages, size_t messages_len,
+                                 struct spop_pair *pairs, size_t pairs_len, uint64_t head[6], uint64_t *at);
 
 /* Reads the frame at the front of input, one that an agent sends: an AGENT-HELLO (type 101) or an AGENT-DISCONNECT (102), which hold
  * a KV list, or an ACK (103), which holds actions. It answers as spop_read_frame does, with these changes: 6 is for types 1 to 3, and
@@ -387,9 +388,8 @@ uint64_t spop_read_frame_records(const uint8_t *input, size_t input_len, uint32_
  * numbers: 1 for set or 2 for unset, scope, name start, name length, and a value's kind, a, b and flags, which are 0 for unset. A KV
  * list has no actions, and an ACK no pairs. pairs has room for pairs_len / 6 pairs, and actions for actions_len / 8 actions, rounded
  * down. */
-uint64_t spop_read_agent_frame(const uint8_t *input, size_t input_len, uint32_t limit,
-                               uint64_t *pairs, size_t pairs_len, uint64_t *actions, size_t actions_len,
-                               uint64_t head[6], uint64_t *at);
+uint64_t spop_read_agent_frame(const uint8_t *input, size_t input_len, uint32_t limit, uint64_t *pairs, size_t pairs_len,
+                               uint64_t *actions, size_t actions_len, uint64_t head[6], uint64_t *at);
 
 /* The writers of frames take records in a table of numbers, so many of them, whose starts count in buffer; and a limit for the
  * frame's length without its four length bytes. They answer, the first of these that holds: 14 for the metadata (type, flags and
@@ -443,6 +443,8 @@ uint64_t spop_negotiate_max_frame_size(uint32_t theirs, uint32_t ours, uint64_t 
  * True where one of them has the major number 2 and does not rank below 2.0.0, as 2.0.0-rc.1 does: its last number is 0, or its
  * minor or patch is above 0. Then version is set to 2, 0, 0; else it stays. */
 bool spop_negotiate_version(const uint64_t *versions, size_t versions_len, uint64_t version[3]);
+
+/* Made until here. */
 
 /* The helpers. Each is one of the calls above, with its answer, and takes the structs: bytes have their length with them, and a
  * table its count of records, from which the count of its numbers is made. They are named get where the call reads and put where

@@ -1,5 +1,7 @@
-"""What tests/haproxy shows, in its six points: checks.py FOLDER [long]. The folder has the agent, and is removed at the end."""
+"""What tests/haproxy shows, in its six points: checks.py FOLDER LIBRARY [long]. The folder has the agent, and is removed at the
+end; LIBRARY is a folder with libspop.a and libspop.so."""
 import http.client
+import os
 import random
 import re
 import shutil
@@ -13,7 +15,7 @@ from pathlib import Path
 import listing
 import load
 import wire
-from running import TOP, Agent, Failed, HAProxy, Raw, Relay, announcing, end_all, until
+from running import TOP, Agent, Failed, HAProxy, Raw, Relay, Stand, announcing, end_all, repeating, until
 
 COUNTS = {"pass": 0, "fail": 0}
 SLOTS = range(28)
@@ -104,6 +106,55 @@ def each_pair_of_slots(scratch):
     relay.close()
     same("the agent's frames", agent.stats()[0], turn)
     return f"{turn} uploads, each delay beside its own slot, with names that sorting would exchange"
+
+
+def answering():
+    """The examples that read frames from standard input and write ACKs. The agent, which does both on a port, has its own point."""
+    sources = [path for path in sorted((TOP / "examples").iterdir()) if path.suffix in (".c", ".py", ".rs")]
+    return [path for path in sources
+            if re.search(r"\bstdin\b", path.read_text()) and re.search(r"_ack\(|SPOP_ACK|\bAck::", path.read_text())]
+
+
+def started_by(source, scratch, library):
+    """The words that run an example, compiled where need be, and what they need in the environment."""
+    program = scratch / f"{source.stem}_{source.suffix[1:]}"
+    if source.suffix == ".py":
+        return [sys.executable, source], {"PYTHONPATH": str(TOP / "bindings/python"), "PYTHONDONTWRITEBYTECODE": "1",
+                                          "SPOP_LIBRARY": str(library / "libspop.so")}
+    words = ["cc", "-std=c99", "-O2", f"-I{TOP}/include", source, library / "libspop.a", "-o", program]
+    if source.suffix == ".rs":
+        words = ["cargo", "build", "--quiet", "--offline", "--manifest-path", TOP / "bindings/rust/Cargo.toml", "--target-dir",
+                 scratch / "cargo", "--example", source.stem]
+        program = scratch / "cargo/debug/examples" / source.stem
+    if not shutil.which(words[0]):
+        raise Failed(f"the command {words[0]} is not on the PATH")
+    done = subprocess.run(words, capture_output=True, text=True, env={**os.environ, "SPOP_LIB_DIR": str(library)})
+    if done.returncode:
+        raise Failed(f"{source.name} does not compile: {done.stderr[:500]}")
+    return [program], {}
+
+
+def each_answering_example(scratch, library):
+    """HAProxy sends slot, delay, slot, delay, so what an example sets is to have names of its own for each."""
+    turns = [((3, 17), (1250, -730)), ((17, 3), (-730, 1250)), ((0, 27), (0, -9_000_000_000)), ((27, 0), (2**63 - 1, -2**63))]
+    names = []
+    for source in answering():
+        stand = Stand(*started_by(source, scratch, library))
+        haproxy = HAProxy(scratch, stand.port, folder=repeating(scratch))
+        web = Web(haproxy.port)
+        for slots, delays in turns:
+            same(f"{source.name}, slots {slots}", web.upload(slots, delays), right(slots, delays))
+        keys = [[key for key, _, _ in pairs] for frame in map(wire.read, stand.asked) for _, pairs in frame.messages]
+        same(f"the arguments' names for {source.name}", keys, [[b"slot", b"delay", b"slot", b"delay", b"data"]] * len(turns))
+        no_errors(haproxy, len(turns), len(turns))
+        haproxy.end()
+        stand.close()
+        hello = subprocess.run(stand.words, input=wire.hello(), capture_output=True, env=stand.env)
+        same(f"what {source.name} answers to a HELLO", hello.stdout, b"")
+        names.append(source.name)
+    if not names:
+        raise Failed("there is no such example")
+    return f"{', '.join(names)}: each delay beside its own slot, where both names repeat, and no answer to a HELLO"
 
 
 # ---- 2. kinds of values
@@ -629,12 +680,13 @@ def garbage(scratch):
             "beside them are right")
 
 
-def main(folder, long):
+def main(folder, library, long):
     scratch = Path(folder)
     for number in (signal.SIGTERM, signal.SIGINT):
         signal.signal(number, lambda got, _: sys.exit(128 + got))       # by way of what ends all that was started
     points = [
-        ("1. slots and delays", each_pair_of_slots), ("2. kinds of values", each_kind),
+        ("1. slots and delays", each_pair_of_slots),
+        ("1. examples that answer", lambda s: each_answering_example(s, Path(library))), ("2. kinds of values", each_kind),
         ("2. other kinds", other_kinds), ("2. kinds by hand", each_kind_by_hand),
         ("2. frames that are kept", kept_frames), ("2. frames in pieces", any_cut),
         ("2. greetings", greetings), ("2. a slow reader", slow_reader), ("2. many connections", many_connections),
@@ -661,4 +713,4 @@ def main(folder, long):
 
 
 if __name__ == "__main__":
-    sys.exit(main(sys.argv[1], sys.argv[2:] == ["long"]))
+    sys.exit(main(sys.argv[1], sys.argv[2], sys.argv[3:] == ["long"]))

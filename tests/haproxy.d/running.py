@@ -102,16 +102,26 @@ class Agent(Process):
         return tuple(int(n) for n in line.groups())
 
 
-def announcing(scratch, size):
-    """The folder of a configuration in which HAProxy has another max-frame-size."""
-    folder = scratch / "configuration"
+def configured(scratch, name, pattern, other, times):
+    """A folder with the configuration of examples/haproxy, of which something in spoe.cfg, so many times, is changed."""
+    folder = scratch / name
     folder.mkdir(exist_ok=True)
     shutil.copy(TOP / "examples/haproxy/haproxy.cfg", folder)
-    text, count = re.subn(r"^( +max-frame-size) \d+$", rf"\1 {size}", (TOP / "examples/haproxy/spoe.cfg").read_text(), flags=re.M)
-    if count != 1:
-        raise Failed(f"spoe.cfg has {count} lines with a max-frame-size")
+    text, count = re.subn(pattern, other, (TOP / "examples/haproxy/spoe.cfg").read_text(), flags=re.M)
+    if count != times:
+        raise Failed(f"spoe.cfg has {count} times what {times} times should be there: {pattern}")
     (folder / "spoe.cfg").write_text(text)
     return folder
+
+
+def announcing(scratch, size):
+    """HAProxy has another max-frame-size."""
+    return configured(scratch, "announcing", r"^( +max-frame-size) \d+$", rf"\1 {size}", 1)
+
+
+def repeating(scratch):
+    """The arguments of an upload are slot, delay, slot, delay and data."""
+    return configured(scratch, "repeating", r"\b(slot|delay)_[ab]=", r"\1=", 4)
 
 
 class HAProxy(Process):
@@ -183,6 +193,50 @@ class Relay:
             target.shutdown(socket.SHUT_WR)
         except OSError:
             pass
+
+    def close(self):
+        self.listener.close()
+
+
+class Stand:
+    """Serves HAProxy in the place of an agent: it greets by itself, and each NOTIFY is handed to a program, which answers it."""
+
+    def __init__(self, words, env):
+        self.words, self.env, self.asked, self.said = words, {**os.environ, **env}, [], []
+        self.listener = socket.create_server(("127.0.0.1", 0))
+        self.port = self.listener.getsockname()[1]
+        threading.Thread(target=self._accept, daemon=True).start()
+
+    def _accept(self):
+        while True:
+            try:
+                connection, _ = self.listener.accept()
+            except OSError:
+                return
+            threading.Thread(target=self._serve, args=(connection,), daemon=True).start()
+
+    def _serve(self, connection):
+        rest = b""
+        with connection:
+            while got := connection.recv(65536):
+                frames, rest = wire.split(rest + got)
+                for raw in frames:
+                    frame = wire.read(raw)
+                    if frame.kind == wire.GOODBYE:
+                        return
+                    connection.sendall(wire.agent_hello(16384) if frame.kind == wire.HELLO else self.answer(raw))
+                    if (b"healthcheck", wire.BOOL, True) in frame.pairs:
+                        return
+
+    def answer(self, raw):
+        """The program's answer, which is bytes or their hex."""
+        done = subprocess.run(self.words, input=raw, capture_output=True, env=self.env)
+        self.asked.append(raw)
+        self.said.append(done.stderr.decode(errors="replace"))
+        try:
+            return bytes.fromhex(done.stdout.decode())
+        except ValueError:
+            return done.stdout
 
     def close(self):
         self.listener.close()

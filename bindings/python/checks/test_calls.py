@@ -42,7 +42,7 @@ def parameter(text, widths):
 class Table(unittest.TestCase):
     def test_it_has_each_call_of_the_header_with_its_parameters_in_order(self):
         found = list(prototypes())
-        self.assertEqual(20, len(found))
+        self.assertTrue(found)
         self.assertEqual(found, list(_calls.CALLS.items()))
 
     def test_the_pair_by_name(self):

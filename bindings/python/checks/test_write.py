@@ -1,4 +1,9 @@
+import os
+import subprocess
+import sys
 import unittest
+from collections import OrderedDict
+from pathlib import Path
 
 import spop
 from spop import I64, U32, Kind, Message, Pair, Scope, SetVar, Text, UnsetVar, Value
@@ -6,6 +11,7 @@ from spop import I64, U32, Kind, Message, Pair, Scope, SetVar, Text, UnsetVar, V
 from . import plain
 from .test_read import UPLOAD
 
+PACKAGE = Path(spop.__file__).resolve().parent.parent
 SLOTS = [("slot", U32(3)), ("delay", I64(1250)), ("slot", U32(17)), ("delay", I64(-730))]
 
 
@@ -60,7 +66,7 @@ class Writers(unittest.TestCase):
         payload = plain.pair(b"version", 8, b"2.0"), plain.pair(b"healthcheck", 1, 0)
         self.assertEqual(plain.frame(1, 0, 0, *payload), spop.write_kv(spop.FrameType.HAPROXY_HELLO, pairs))
         self.assertEqual(plain.frame(2, 3, 4, *payload, flags=2), spop.write_kv(2, pairs, 3, 4, fin=False, abort=True))
-        self.assertEqual(plain.frame(2, 3, 4, flags=0), spop.write_kv(2, {}.items(), 3, 4, fin=False))
+        self.assertEqual(plain.frame(2, 3, 4, flags=0), spop.write_kv(2, [], 3, 4, fin=False))
 
     def test_a_frame_as_long_as_the_limit(self):
         self.assertEqual(UPLOAD, spop.write_notify(1, 1, [("upload", SLOTS)], 55))
@@ -136,11 +142,42 @@ class WrongWays(unittest.TestCase):
         with self.assertRaises(ValueError):
             spop.write_kv(2**64 + 1, [])
 
-    def test_a_mapping_has_lost_what_repeats(self):
-        for call in (lambda: spop.write_notify(0, 0, {"m": []}), lambda: spop.write_notify(0, 0, [("m", {"slot": 1})]),
-                     lambda: spop.write_kv(1, {"slot": 1}), lambda: spop.write_ack(0, 0, {})):
-            with self.assertRaisesRegex(TypeError, "are a list, in which one may repeat, and not dict"):
-                call()
+    def test_a_mapping_or_a_set_is_no_list(self):
+        """What repeats is lost in them, and the order of a set is any. Each is of items that a list of them may have."""
+        messages = {("m", ()): None}
+        arguments = {("slot", 3): None, ("delay", 1250): None}
+        actions = {UnsetVar(2, "slot"): None, UnsetVar(2, "delay"): None}
+        versions = {(2, 0, 0, 0): None, (1, 0, 0, 0): None}
+        for name, items, call in (("messages", messages, lambda items: spop.write_notify(0, 0, items)),
+                                  ("arguments", arguments, lambda items: spop.write_notify(0, 0, [("m", items)])),
+                                  ("arguments", arguments, lambda items: spop.write_notify(0, 0, [Message("m", items)])),
+                                  ("arguments", arguments, lambda items: spop.write_kv(1, items)),
+                                  ("actions", actions, lambda items: spop.write_ack(0, 0, items)),
+                                  ("versions", versions, spop.negotiate_version)):
+            by_value = dict(enumerate(items))
+            call(list(items))
+            for wrong in (items, OrderedDict(items), set(items), frozenset(items), items.keys(), by_value.values(), items.items(),
+                          OrderedDict(by_value).values(), {}, {}.keys(), {}.values(), {}.items(), set(),
+                          iter(set(items)), iter(items), iter(by_value.values()), iter(items.items())):
+                said = f"{name} are a list, in its own order, in which one may repeat, and not {type(wrong).__name__}"
+                with self.subTest(name, wrong=type(wrong).__name__), self.assertRaisesRegex(TypeError, said):
+                    call(wrong)
+
+    def test_a_set_is_refused_in_whatever_order_it_stands(self):
+        """The order of a set of texts is drawn anew for each process, by PYTHONHASHSEED."""
+        program = """import spop
+for write in (lambda: spop.write_notify(1, 1, [("upload", {("slot", 3), ("delay", 1250), ("slot", 17), ("delay", -730)})]),
+              lambda: spop.write_ack(1, 1, {spop.SetVar(2, "slot0", 3), spop.SetVar(2, "delay0", 1250)})):
+    try:
+        print(write().hex())
+    except TypeError as error:
+        print(error)
+"""
+        for seed in range(4):
+            done = subprocess.run([sys.executable, "-c", program], capture_output=True, text=True, cwd=PACKAGE,
+                                  env={**os.environ, "PYTHONHASHSEED": str(seed)})
+            said = [f"{name} are a list, in its own order, in which one may repeat, and not set" for name in ("arguments", "actions")]
+            self.assertEqual((said, ""), (done.stdout.splitlines(), done.stderr))
 
     def test_what_is_no_message(self):
         for messages, said in ((("upload", SLOTS), "a message is .*, and not str"), ([("upload",)], "not of 1 parts"),

@@ -11,6 +11,7 @@ TypeError or a ValueError. No call keeps any state, so threads need no lock.
 """
 import io
 import operator
+from collections.abc import MappingView, Set
 from ctypes import c_bool, c_uint8, c_uint64, string_at
 from enum import IntEnum
 from ipaddress import IPv4Address, IPv6Address
@@ -280,6 +281,8 @@ def kind_of(value: Plain) -> Kind:
 
 
 _BUFFER = (bytes, bytearray, memoryview)
+# What walks over a set or a dict: it gives what they have kept, in their order.
+_WALKS = tuple(type(iter(x)) for x in (set(), {}.keys(), {}.values(), {}.items()))
 _KINDS_OF_TYPES: Tuple[Tuple[Any, Kind], ...] = (
     (str, Kind.STRING), (_BUFFER, Kind.BINARY), (IPv4Address, Kind.IPV4), (IPv6Address, Kind.IPV6))
 
@@ -726,9 +729,9 @@ def _action(action: Union[SetVar, UnsetVar], pool: bytearray) -> List[int]:
 
 
 def _items(name: str, items: Iterable[Any]) -> Iterable[Any]:
-    """A mapping has lost what repeats, and is no list."""
-    if isinstance(items, (Mapping, str, *_BUFFER)):
-        raise TypeError(f"{name} are a list, in which one may repeat, and not {type(items).__name__}")
+    """A mapping and a set have lost what repeats, and a set its order too: neither is a list, and no view of them or walk over them is."""
+    if isinstance(items, (Mapping, MappingView, Set, str, *_WALKS, *_BUFFER)):
+        raise TypeError(f"{name} are a list, in its own order, in which one may repeat, and not {type(items).__name__}")
     return items
 
 

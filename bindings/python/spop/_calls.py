@@ -1,8 +1,8 @@
 """The library's calls as ctypes has them, and the library.
 
-CALLS has an entry for each prototype of include/spop.h, in the header's order and with its names. `const uint8_t *` is c_char_p,
-which lends a bytes object as it is; an array of fixed width is a pointer to that array, so that one of another width is no
-argument.
+CALLS has an entry for each prototype of include/spop.h, in the header's order and with its names; tools/boundary makes it, and the
+fields of spop_pair. `const uint8_t *` is c_char_p, which lends a bytes object as it is; an array of fixed width is a pointer to that
+array, so that one of another width is no argument.
 """
 import os
 from ctypes import CDLL, POINTER, Structure, c_bool, c_char_p, c_size_t, c_uint8, c_uint32, c_uint64

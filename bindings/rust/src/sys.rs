@@ -1,4 +1,4 @@
-//! The calls under their C names, as `include/spop.h` has them, and the records of their tables.
+//! The calls under their C names, as `include/spop.h` has them, and the records of their tables. `tools/boundary` makes both.
 //!
 //! A slice is lent as its pointer and how many elements it has. No pointer may be null, which the pointer of an empty slice is not,
 //! and what a call may change must not overlap what else is lent to it. Every call answers a number, 0 for done, unless its line in
