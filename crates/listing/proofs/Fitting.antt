@@ -1,17 +1,17 @@
--- Laws about lines that are not refused: of an accepted frame, with its records at the front of tables, none is where 2n + 128 bytes are lent; and the
--- lines that speak of no record fit into as few.
+-- Laws about lines that are not refused: none is of an accepted frame of n bytes, with its records at the front of tables, where 2n + 128 bytes are
+-- lent; nor is a frame's own line or the last one where 132 are.
 use mathlib.Core.Path.{_≡_, refl, sym, ap, _∙_}
 use mathlib.Core.Logic.{⊎-elim}
-use mathlib.Core.List.{List, [], _∷_, _++_}
+use mathlib.Core.List.{List, _++_}
 use Prim.Native.Nat.{ℕ, _+_, _*_, _^_, _≤_, _<_}
 use native.Mathlib.Omega.{arith}
+use lib.Dec.{ltb}
 use lib.ListN.{length, length-append}
 use borrow.Author.Tests.{le-leb, ltb-true}
-use lib.Dec.{ltb}
 use Rattle.answer.specs.declared.Refusal.{Refusal}
 use Rattle.answer.specs.declared.Written.{Written}
 use Rattle.answer.specs.declared.Written.the-variants as w
-use Rattle.answer.specs.Answer.{Answer, done, refused, written, tells, within}
+use Rattle.answer.specs.Answer.{Answer, done, written}
 use Rattle.answer.specs.Table.{joined}
 use Rattle.answer.specs.Writes.{said, Writes}
 use Rattle.answer.proofs.Answers.{done-same}
@@ -31,7 +31,7 @@ use Rattle.listing.specs.declared.Step.the-variants as s
 use Rattle.listing.specs.Digits.{decimal}
 use Rattle.listing.specs.Lines.{filled, messageLine, pairLine, actionLine, frameLine, endLine}
 use Rattle.listing.specs.Check.{messageAnswer, pairAnswer, actionAnswer}
-use Rattle.listing.specs.Order.{pairNext, inTable, Coming, line, none, coming, stepOf, Comes}
+use Rattle.listing.specs.Order.{pairNext, inTable, line, coming, stepOf, Comes}
 use Rattle.listing.proofs.Coming.{coming-pair, coming-message, coming-none}
 use Rattle.listing.proofs.Decimal.{decimal-most}
 use Rattle.listing.proofs.Tables.{each-there, messages-stand, message-stands, pairs-stand, pair-stands, actions-stand, action-stands}
