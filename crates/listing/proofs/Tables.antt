@@ -24,14 +24,15 @@ use Rattle.frame.specs.declared.Pair.{Pair}
 use Rattle.frame.specs.declared.Message.{Message}
 use Rattle.frame.specs.declared.Action.{Action}
 use Rattle.frame.specs.declared.Side.{Side}
-use Rattle.frame.specs.Read.{answered, sender}
+use Rattle.frame.specs.Read.{Sender, answered, sender}
 use Rattle.frame.proofs.Rows.{table-messages, table-pairs, table-actions}
 use Rattle.frame.specs.Records.{messageWidth, messageAt, messageNumbers, pairWidth, pairAt, pairNumbers, actionWidth, actionAt, actionNumbers}
+use Rattle.payload.specs.declared.Counts.{Counts}
 use Rattle.payload.specs.Payload.{Contents}
 use Rattle.payload.specs.Promise.{roomsOf, Fills}
 use Rattle.payload.proofs.Filling.{joined-width}
 use Rattle.payload.proofs.Standing.{by-verb}
-use Rattle.parser.specs.Frame.{frameRead}
+use Rattle.parser.specs.Frame.{framed, frameRead}
 use Rattle.parser.specs.Promise.{contentsRead}
 use Rattle.parser.proofs.Frames.{Cut, frame-cut}
 use Rattle.listing.specs.Lines.{frameLine, messageLine, pairLine, actionLine}
@@ -67,6 +68,10 @@ action-passes f x a = (known, pair-passes f (x .pair) (a .whole))
         let flags : x .pair .value .flags ≡ 0 = cc in
         rw (scope, ne-eqb (x .verb) 1 (λ z. omega arith), eq-eqb (x .verb) 2 two, eq-eqb (x .pair .value .kind) 0 kind, eq-eqb (x .pair .value .flags) 0 flags))
 
+-- what holds of each of some records holds of record i of a table that has them at its front
+pub each-there : {A : Type 0} (at : ℕ → A) (P : A → Type 0) (xs : List A) → records at 0 (length xs) ≡ xs → Each P xs → (i : ℕ) → i < length xs → P (at i)
+each-there at P xs these each i h = let here : 0 + i ≡ i = omega arith in rw here at (each-at P at (length xs) 0 (rw these each) i h)
+
 -- A table with these records at its front: whatever holds of each of them, and lets its checks pass, record i is there and has its line.
 answers : {A : Type 0} (numbers : A → List ℕ) (width : ℕ) → ((x : A) → length (numbers x) ≡ width) → (at : List ℕ → ℕ → A) (P : A → Type 0)
     → (checks : A → List Check) → ((x : A) → P x → Passes (checks x)) → (line : ℕ → List ℕ → A → List ℕ) (f table : List ℕ) (xs : List A) (behind : List ℕ)
@@ -77,9 +82,42 @@ answers numbers width wide at P checks passes line f table xs behind is these ea
     let few : i + 1 ≤ length xs = omega arith in
     let more = mul-le-mul-right width few in
     let room : (i + 1) * width ≤ length table = omega (arith, ap length is, length-append (joined numbers xs) behind) in
-    let here : 0 + i ≡ i = omega arith in
-    let there : P (at table i) = rw here at (each-at P (at table) (length xs) 0 (rw these each) i h) in
+    let there = each-there (at table) P xs these each i h in
     rw (le-leb ((i + 1) * width) (length table) room) (lines-pass (checks (at table i)) (passes (at table i) there) 0 (written (line i f (at table i))))
+
+-- ---- tables with an accepted frame's records at their front
+
+-- Laws: a table with the frame's records of a sort in front holds them, and each of them is answered with its line.
+module _ (sent : Sender) (rooms : Counts) (f : List ℕ) (m : Head) (c : Contents) (used : ℕ) (e : framed sent rooms f ≡ done (m, c) used) (table behind : List ℕ) where
+  held : Held (length f) c
+  held = whole-held sent rooms f m c used e
+
+  module _ (is : table ≡ joined messageNumbers (c .messages) ++ behind) where
+    pub messages-stand : records (messageAt table) 0 (length (c .messages)) ≡ c .messages
+    messages-stand = rw is (table-messages (c .messages) behind)
+
+    pub message-stands : (i : ℕ) → i < length (c .messages) → inTable messageWidth messageAt messageAnswer f table i ≡ written (messageLine i f (messageAt table i))
+    message-stands =
+        answers messageNumbers messageWidth (λ x. refl) messageAt (Named (length f)) (λ x. (16, inside f (x .start) (x .len)) ∷ []) (message-passes f) messageLine f table (c .messages) behind is
+        messages-stand (held .messages)
+
+  module _ (is : table ≡ joined pairNumbers (c .pairs) ++ behind) where
+    pub pairs-stand : records (pairAt table) 0 (length (c .pairs)) ≡ c .pairs
+    pairs-stand = rw is (table-pairs (c .pairs) behind)
+
+    pub pair-stands : (k : ℕ) → k < length (c .pairs) → inTable pairWidth pairAt pairAnswer f table k ≡ written (pairLine k f (pairAt table k))
+    pair-stands =
+        answers pairNumbers pairWidth (λ x. refl) pairAt (Whole (length f)) (pairLineChecks f) (pair-passes f) pairLine f table (c .pairs) behind is
+        pairs-stand (held .pairs)
+
+  module _ (is : table ≡ joined actionNumbers (c .actions) ++ behind) where
+    pub actions-stand : records (actionAt table) 0 (length (c .actions)) ≡ c .actions
+    actions-stand = rw is (table-actions (c .actions) behind)
+
+    pub action-stands : (k : ℕ) → k < length (c .actions) → inTable actionWidth actionAt actionAnswer f table k ≡ written (actionLine k f (actionAt table k))
+    action-stands =
+        answers actionNumbers actionWidth (λ x. refl) actionAt (Acts (length f)) (λ x. (14, isAction x) ∷ pairLineChecks f (x .pair)) (action-passes f) actionLine f table (c .actions) behind is
+        actions-stand (held .actions)
 
 -- ---- the lines of the actions of a table
 
@@ -108,9 +146,6 @@ module _ (side : Side) (limit : ℕ) (s oldMessages newMessages oldPairs newPair
   cut : Cut side limit (roomsOf oldMessages oldPairs oldActions) s m c used
   cut = frame-cut side limit (roomsOf oldMessages oldPairs oldActions) s m c used e
 
-  held : Held (length f) c
-  held = whole-held (sender side) (roomsOf oldMessages oldPairs oldActions) f m c used (cut .is)
-
   inMessages : (t : List ℕ) × (newMessages ≡ joined messageNumbers (c .messages) ++ t)
   inMessages = (_, rw e at (fills .messages))
 
@@ -120,31 +155,24 @@ module _ (side : Side) (limit : ℕ) (s oldMessages newMessages oldPairs newPair
   inActions : (t : List ℕ) × (newActions ≡ joined actionNumbers (c .actions) ++ t)
   inActions = (_, rw e at (fills .actions))
 
-  -- Laws: each table holds the frame's records of its sort.
+  -- Laws: each table holds the frame's records of its sort, and each of them is answered with its line.
   pub messages-held : records (messageAt newMessages) 0 (length (c .messages)) ≡ c .messages
-  messages-held = rw (inMessages .1) (table-messages (c .messages) (inMessages .0))
+  messages-held = messages-stand (sender side) _ f m c used (cut .is) newMessages _ (inMessages .1)
 
   pub pairs-held : records (pairAt newPairs) 0 (length (c .pairs)) ≡ c .pairs
-  pairs-held = rw (inPairs .1) (table-pairs (c .pairs) (inPairs .0))
+  pairs-held = pairs-stand (sender side) _ f m c used (cut .is) newPairs _ (inPairs .1)
 
   pub actions-held : records (actionAt newActions) 0 (length (c .actions)) ≡ c .actions
-  actions-held = rw (inActions .1) (table-actions (c .actions) (inActions .0))
+  actions-held = actions-stand (sender side) _ f m c used (cut .is) newActions _ (inActions .1)
 
-  -- Laws: and each of them is answered with its line.
   pub message-answered : (i : ℕ) → i < length (c .messages) → inTable messageWidth messageAt messageAnswer f newMessages i ≡ written (messageLine i f (messageAt newMessages i))
-  message-answered i h =
-      answers messageNumbers messageWidth (λ x. refl) messageAt (Named (length f)) (λ x. (16, inside f (x .start) (x .len)) ∷ []) (message-passes f) messageLine f newMessages (c .messages) (inMessages .0) (inMessages .1)
-      messages-held (held .messages) i h
+  message-answered = message-stands (sender side) _ f m c used (cut .is) newMessages _ (inMessages .1)
 
   pub pair-answered : (k : ℕ) → k < length (c .pairs) → inTable pairWidth pairAt pairAnswer f newPairs k ≡ written (pairLine k f (pairAt newPairs k))
-  pair-answered k h =
-      answers pairNumbers pairWidth (λ x. refl) pairAt (Whole (length f)) (pairLineChecks f) (pair-passes f) pairLine f newPairs (c .pairs) (inPairs .0) (inPairs .1)
-      pairs-held (held .pairs) k h
+  pair-answered = pair-stands (sender side) _ f m c used (cut .is) newPairs _ (inPairs .1)
 
   pub action-answered : (k : ℕ) → k < length (c .actions) → inTable actionWidth actionAt actionAnswer f newActions k ≡ written (actionLine k f (actionAt newActions k))
-  action-answered k h =
-      answers actionNumbers actionWidth (λ x. refl) actionAt (Acts (length f)) (λ x. (14, isAction x) ∷ pairLineChecks f (x .pair)) (action-passes f) actionLine f newActions (c .actions) (inActions .0) (inActions .1)
-      actions-held (held .actions) k h
+  action-answered = action-stands (sender side) _ f m c used (cut .is) newActions _ (inActions .1)
 
   -- Law: so the steps from the first place on, and then the actions one by one, are the frame's lines, in order, behind its own.
   pub accepted-lines : (index : ℕ)

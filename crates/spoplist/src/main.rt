@@ -14,12 +14,9 @@ use libc::STDOUT_FILENO;
 use listing::Place;
 use listing::Step;
 use parser::FrameRead;
-ghost use mathlib.Core.Path.{_≡_};
-ghost use Prim.Native.Nat.{_≤_};
+ghost use Prim.Native.Nat.{_+_, _*_, _≤_};
 ghost use lib.ListN.{length};
-ghost use Rattle.answer.specs.Writes.{counted};
-ghost use Rattle.parser.specs.Promise.{frameSaid, frameTells};
-ghost use Rattle.spoplist.specs.Inner.{readIn, sideIn, Takes, Ends};
+ghost use Rattle.spoplist.specs.Inner.{lineRoom, ReadsIn, sideIn, Takes, Ends, StandMessages, StandPairs, StandActions, Lies};
 
 // The longest frame that is read, its length bytes aside.
 const LIMIT: u32 = 65_532;
@@ -103,6 +100,7 @@ fn list_all(
     actions: &mut [u64],
     out: &mut [u8],
 ) -> Ended
+    requires { ⌜ lineRoom ≤ length (now out) ⌝ }
     ensures { λ r. ⌜ Ends (now (input .entry)) (sideIn agents (now (messages .entry)) (now (pairs .entry)) (now (actions .entry))) r ⌝ }
 {
     let mut at = 0;
@@ -141,6 +139,7 @@ fn list_one(
     actions: &mut [u64],
     out: &mut [u8],
 ) -> Listed
+    requires { ⌜ lineRoom ≤ length (now out) ⌝ }
     ensures { λ r. ⌜ Takes (now (rest .entry)) (sideIn agents (now (messages .entry)) (now (pairs .entry)) (now (actions .entry)) (now (rest .entry))) r ⌝ }
 {
     match read_one(agents, rest, messages, pairs, actions) {
@@ -176,7 +175,7 @@ fn read_one(
     pairs: &mut [u64],
     actions: &mut [u64],
 ) -> FrameRead
-    ensures { λ r. ⌜ frameSaid r ≡ frameTells (readIn agents (now (messages .entry)) (now (pairs .entry)) (now (actions .entry)) (now (rest .entry))) ⌝ }
+    ensures { λ r. ⌜ ReadsIn agents (now (rest .entry)) r (now (messages .entry)) (now (messages .exit)) (now (pairs .entry)) (now (pairs .exit)) (now (actions .entry)) (now (actions .exit)) ⌝ }
 {
     if agents {
         return parser::read_agent_frame(rest, LIMIT, pairs, actions);
@@ -184,9 +183,11 @@ fn read_one(
     parser::read_frame(rest, LIMIT, messages, pairs)
 }
 
-// Lists the actions of a frame, line by line. Of a frame that was accepted none is refused where LINE bytes are lent: the library's laws
-// `action-answered` and `accepted-room`.
-fn list_actions(frame: &[u8], actions: &[u64], count: usize, out: &mut [u8]) -> bool {
+// Lists the actions of a frame that was accepted, line by line.
+fn list_actions(frame: &[u8], actions: &[u64], count: usize, out: &mut [u8]) -> bool
+    requires { ⌜ StandActions (now frame) (now actions) count ⌝ }
+    requires { ⌜ 2 * length (now frame) + 128 ≤ length (now out) ⌝ }
+{
     let mut k = 0;
     while k < count {
         if !print(listing::write_action_at(frame, actions, k, out), out) {
@@ -197,7 +198,7 @@ fn list_actions(frame: &[u8], actions: &[u64], count: usize, out: &mut [u8]) -> 
     true
 }
 
-// Lists what a frame holds, line by line.
+// Lists the messages and pairs of a frame that was accepted, line by line.
 fn list_records(
     frame: &[u8],
     messages: &[u64],
@@ -205,7 +206,11 @@ fn list_records(
     pairs: &[u64],
     total: usize,
     out: &mut [u8],
-) -> bool {
+) -> bool
+    requires { ⌜ StandMessages (now frame) (now messages) count ⌝ }
+    requires { ⌜ StandPairs (now frame) (now pairs) total ⌝ }
+    requires { ⌜ 2 * length (now frame) + 128 ≤ length (now out) ⌝ }
+{
     let mut place = Place {
         messages: 0,
         pairs: 0,
@@ -222,8 +227,9 @@ fn list_records(
             Step::End => {
                 return true;
             },
-            // No line of a frame that was accepted is refused where LINE bytes are lent: the library's law `accepted-room`.
+            // Never: of an accepted frame no line is refused where there is room. What nothing can meet is expected, so the proof shows that this is not reached.
             Step::Refused(_) => {
+                check::expect(false);
                 return true;
             },
         }
@@ -231,16 +237,18 @@ fn list_records(
 }
 
 // Writes the last line: how many bytes accepted frames took, and why there is no frame behind them.
-fn end(used: usize, r: Refusal, out: &mut [u8]) {
+fn end(used: usize, r: Refusal, out: &mut [u8])
+    requires { ⌜ lineRoom ≤ length (now out) ⌝ }
+{
     print(
         listing::write_end_line(used as u64, r.number, r.place as u64, out),
         out,
     );
 }
 
-// Writes a line out; whether there was somebody to write to.
+// Writes out a line that was not refused; whether there was somebody to write to.
 fn print(answer: Written, out: &[u8]) -> bool
-    requires { ⌜ counted answer ≤ length (now out) ⌝ }
+    requires { ⌜ Lies answer (now out) ⌝ }
 {
     let n = answer::wrote(answer);
     io::write_all(STDOUT_FILENO, &out[0..n])

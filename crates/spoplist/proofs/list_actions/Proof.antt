@@ -5,7 +5,7 @@ use mathlib.Core.Path.{_≡_, _∙_}
 use native.Mathlib.Omega.{arith}
 use lib.ListN.{length}
 use borrow.Author.Needs.{needs}
-use Rattle.listing.proofs.Coming.{writes-fit}
+use Rattle.spoplist.proofs.Standing.{action-stood, fits-lies}
 use Rattle.spoplist.proofs.list_actions.Statement.{statement}
 use Rattle.spoplist.proofs.list_actions.Tie as tie
 
@@ -22,7 +22,13 @@ kept-length c = c .write-action-at .kept .1 .1 .1 .0 ∙ c .before .before .befo
 print-requires : tie.Need-print-requires Inv-loop μ-loop
 print-requires c κs =
     let w = c .before .before .before .write-action-at in
-    omega (arith, writes-fit (w .ensures), w .kept .1 .1 .1 .0)
+    let l = c .before .before .before .before .before .before .loop in
+    let z = c .before .before .before .before .before .before .before .before .before .before in
+    let a = z .args in
+    fits-lies
+    (action-stood (a .frame .now) (a .actions .now) (a .count) _ (omega (arith, z .pre .1, l .inv)) (z .fits .count .fits) (l .k) (c .before .before .before .before .before .loop-test .taken)
+    (z .pre .0))
+    (w .ensures) (w .kept .1 .1 .1 .0)
 
 same-length : tie.Need-same-length Inv-loop μ-loop
 same-length c = kept-length (c .before .before .before .before .before)

@@ -67,6 +67,9 @@ loop-holds c =
 part-list-one-start : tie.Need-part-list-one-start Inv-loop μ-loop
 part-list-one-start c = c .before .loop .inv .0
 
+list-one-requires : tie.Need-list-one-requires Inv-loop μ-loop
+list-one-requires c κs = omega (arith, c .before .before .before .before .before .before .before .before .before .before .before .before .pre, c .before .before .before .before .before .before .loop .inv .5)
+
 -- a frame that was taken ends within the input
 ends : (c : tie.After-used Inv-loop μ-loop) → let l = c .before .before .before .before .before .before .before .before .before .before .before .before .before .before .before .before .before .loop in (l .at + c .used .given .0 .0 ≤ length (c .before .before .before .before .before .before .before .before .before .before .before .before .before .before .before .before .before .before .before .before .before .before .before .args .input .now)) × (1 ≤ c .used .given .0 .0)
 ends c =
@@ -135,7 +138,7 @@ returns-3 c = stopping-over (c .before .loop .inv .6) (c .loop-test .left)
 
 pub list-all-spec : {M : Type 1} → statement M
 list-all-spec =
-    tie.close (tie.spec Inv-loop μ-loop loop-holds (λ c. omega arith) part-list-one-start (λ c. search needs) (λ c κs. search needs)
+    tie.close (tie.spec Inv-loop μ-loop loop-holds (λ c. omega arith) part-list-one-start (λ c. search needs) list-one-requires
     (λ c. search needs) add-at add-index loop-less loop-again (λ c. search needs) same-length same-length-2 same-length-3 same-length-4 returns
     (λ c. search needs) same-length-5 same-length-6 same-length-7 same-length-8 (λ c. search needs) same-length-9 same-length-10 same-length-11
     same-length-12 returns-3)
