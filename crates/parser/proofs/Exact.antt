@@ -1,5 +1,5 @@
--- Laws about a frame's two numbers: each took exactly the bytes that it is written as, so different bytes never give one stream id, nor one frame id, whichever
--- side sent them.
+-- Laws about a frame's numbers, its two ids and those inside its payload: each took exactly the bytes that it is written as, so different bytes never give one stream
+-- id, nor one frame id, whichever side sent them.
 use mathlib.Core.Path.{_≡_, sym, ap, ap₂, subst, _∙_}
 use mathlib.Core.List.{List, _++_}
 use Prim.Native.Nat.{ℕ, _+_}
@@ -15,8 +15,8 @@ use Rattle.frame.specs.Read.{answered, sender}
 use Rattle.frame.proofs.Heads.{HeadSays, head-says, head-longer}
 use Rattle.payload.specs.declared.Counts.{Counts}
 use Rattle.payload.specs.Payload.{Contents}
-use Rattle.payload.proofs.Exact.{bytes-drop}
-use Rattle.parser.specs.Frame.{frameRead}
+use Rattle.payload.proofs.Exact.{bytes-drop, NumbersExact, payload-exact}
+use Rattle.parser.specs.Frame.{payloadOf, frameRead}
 use Rattle.parser.proofs.Frames.{frame-cut}
 
 -- a number that was read took as many bytes as it is written as
@@ -52,6 +52,14 @@ module _ (x : Side) (limit : ℕ) (rooms : Counts) (s : List ℕ) (h : Head) (c 
       let first = length (numberBytes (h .stream)) in
       let second = length (numberBytes (h .frame)) in
       (first + second, take-add first second (drop 9 s) ∙ ap₂ _++_ stream-exact (ap (take second) (drop-drop first 9 s) ∙ frame-exact))
+
+  -- Law: and in its payload, whatever its values are, exactly those that its keys', names' and texts' length numbers and its integers are written as.
+  pub numbers-exact : NumbersExact s c
+  numbers-exact =
+      let q = frame-cut x limit rooms s h c used e .held in
+      let whole = take-append-drop used s in
+      subst (λ (l : List ℕ). NumbersExact l c) whole
+      (payload-exact (take used s) (drop used s) (subst Bytes (sym whole) small) (payloadOf (h .«frame_type»)) rooms (q .start) c used (q .holds))
 
 -- Law: so of two accepted frames with one stream id the bytes of the id are the same, whichever side sent each; and so it is with one frame id.
 module _ (x y : Side) (limit other : ℕ) (rooms others : Counts) (s t : List ℕ) (h k : Head) (c d : Contents) (used taken : ℕ) (small : Bytes s) (smalls : Bytes t)

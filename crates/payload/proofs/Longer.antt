@@ -20,7 +20,7 @@ use Rattle.payload.proofs.Steps.{count-there, string-next, message-says
 use Rattle.answer.proofs.Row.{Row, row-as, Found, found-row, row-found}
 use Rattle.payload.proofs.Accepted.{Group}
 
--- Law: a pair at the front.
+-- Law: a pair at the front, and a string.
 pub pair-longer : (s t : List ℕ) (p : Pair) (used : ℕ) → pair s ≡ done p used → pair (s ++ t) ≡ done p used
 pair-longer s t p used e =
     pair-cases s
@@ -33,7 +33,7 @@ pair-longer s t p used e =
     ∙ sym (pair-whole s start len u key v n d)
     ∙ e)
 
-string-longer : (s t : List ℕ) (x : Span) (used : ℕ) → string s ≡ done x used → string (s ++ t) ≡ done x used
+pub string-longer : (s t : List ℕ) (x : Span) (used : ℕ) → string s ≡ done x used → string (s ++ t) ≡ done x used
 string-longer s t (span start len) used e = string-accepted-kept s t start len used e
 
 -- Law: what a reader finds at a place, where it does so at the front.

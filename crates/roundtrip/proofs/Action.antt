@@ -22,7 +22,8 @@ use Rattle.listing.proofs.Accepted.{action-acts}
 use Rattle.writer.specs.Action.{actionWritable, actionBytes, actionChecks}
 use Rattle.writer.proofs.Actions.{writable-set, writable-unset, action-pair, set-bytes, unset-bytes}
 use Rattle.roundtrip.proofs.Plain.{plainPair, plainAction, wellPair, wellAction}
-use Rattle.roundtrip.proofs.Rows.{row-each, row-form, row-only}
+use Rattle.payload.proofs.Exact.{row-each}
+use Rattle.roundtrip.proofs.Rows.{row-form, row-only}
 use Rattle.roundtrip.proofs.Pair.{pair-at-form, pair-at-only, string-at-form, pair-refuses}
 
 module _ (f : List ℕ) (at : ℕ) (x : Action) (next : ℕ) (small : Bytes f) (e : actionFrom at f ≡ done x next) where

@@ -36,6 +36,7 @@ use Rattle.payload.specs.Promise.{countsOf}
 use Rattle.payload.specs.Inner.{Run}
 use Rattle.payload.proofs.Filling.{joined-width}
 use Rattle.answer.proofs.Row.{Found, row-found}
+use Rattle.payload.proofs.Exact.{row-each}
 use Rattle.payload.proofs.Accepted.{KvHeld, kv-run, MessagesHeld, messages-run, actions-run, Once, pairsOf}
 use Rattle.parser.specs.declared.FrameRead.{FrameRead}
 use Rattle.parser.specs.declared.FrameRead.the-variants as v
@@ -54,7 +55,6 @@ use Rattle.writer.proofs.Answers.{kv-haproxy-hello, kv-haproxy-disconnect, kv-a
 use Rattle.roundtrip.proofs.Plain.{plainPair, plainAction, wellPair, wellName, wellAction, WellNames}
 use Rattle.listing.proofs.Accepted.{Whole, pair-there}
 use Rattle.frame.proofs.Rows.{table-messages, table-pairs, table-actions}
-use Rattle.roundtrip.proofs.Rows.{row-each}
 use Rattle.roundtrip.proofs.Pair.{Plain, run-form, run-only, pair-refuses}
 use Rattle.roundtrip.proofs.Action.{RefusesText, actions-form, actions-only, actions-refuse}
 use Rattle.roundtrip.proofs.Groups.{groupBytes, groups-parts, groups-all, groups-form, groups-only, groups-bytes, Runs, runs-stand, no-stray}

@@ -13,11 +13,6 @@ use Rattle.answer.proofs.Row.{Row}
 pub cancel : (form t r : List ℕ) → form ++ t ≡ form ++ r → t ≡ r
 cancel form t r e = sym (drop-at form t (length form) refl) ∙ ap (drop (length form)) e ∙ drop-at form r (length form) refl
 
--- Law: what holds of each that stands somewhere holds of each in a row.
-pub row-each : {P X : Type 0} {Here : P → X → P → Type 0} (Q : X → Type 0) → ((p : P) (x : X) (q : P) → Here p x q → Q x) → (p : P) (xs : List X) (q : P) → Row Here p xs q → Each Q xs
-row-each Q each p [] q r = tt
-row-each Q each p (x ∷ xs) q r = (each p x (r .0) (r .1), row-each Q each (r .0) xs q (r .2))
-
 module _ {P X : Type 0} {Here : P → X → P → Type 0} (place : P → ℕ) (f : List ℕ) (bytes : X → List ℕ) (Plain : X → Type 0)
     (form : (p : P) (x : X) (q : P) → Here p x q → Plain x → drop (place p) f ≡ bytes x ++ drop (place q) f) where
   -- Law: from the place of plain ones on stand the bytes that they are written as, and then what comes next.
