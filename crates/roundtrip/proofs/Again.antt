@@ -70,7 +70,7 @@ pub record Table {A : Type 0} (at : List ℕ → ℕ → A) (width : ℕ) (table
   pub room : n * width ≤ length table
 
 -- the records' numbers at its front make such a table
-in-table : {A : Type 0} (numbers : A → List ℕ) (at : List ℕ → ℕ → A) (width : ℕ) → ((x : A) → length (numbers x) ≡ width)
+pub in-table : {A : Type 0} (numbers : A → List ℕ) (at : List ℕ → ℕ → A) (width : ℕ) → ((x : A) → length (numbers x) ≡ width)
     → ((xs : List A) (t : List ℕ) → records (at (joined numbers xs ++ t)) 0 (length xs) ≡ xs) → (xs : List A) (table t : List ℕ) → table ≡ joined numbers xs ++ t
     → (n : ℕ) → length xs ≡ n → Table at width table n xs
 in-table numbers at width each holds xs table t is n many =

@@ -1,4 +1,4 @@
--- What is read is written back, byte for byte: the conditions, and the laws from a value up to a frame. And what is written is read back.
+-- What is read is written back, byte for byte: the conditions, and the laws from a value up to a frame. And what is written is read back, also by calls.
 pub mod Plain
 pub mod Rows
 pub mod Value
@@ -14,5 +14,7 @@ pub mod Agents
 pub mod Apart
 pub mod Standing
 pub mod ReadBack
+pub mod Calls
+pub mod CallsBack
 pub mod Examples
 pub mod Marked

@@ -74,16 +74,16 @@ arguments-same input buffer pairs (g ∷ gs) (m ∷ ms) e =
 
 -- A frame of n bytes with this head and this payload, which is read under a limit with t behind it: where its payload stands, and that the frame is read where the
 -- payload is.
-record Placed (x : Side) (h : Head) (p bytes : List ℕ) (n limit : ℕ) (rooms : Counts) (t : List ℕ) : Type 0 where
-  start : ℕ
-  stands : drop start bytes ≡ p ++ []
-  long : start + length (p ++ []) ≡ length bytes
-  short : length bytes < 2 ^ 64
-  reads : (kind : Payload) (c : Contents) → payloadOf (h .«frame_type») ≡ kind → payload kind rooms start bytes ≡ done c (length bytes)
+pub record Placed (x : Side) (h : Head) (p bytes : List ℕ) (n limit : ℕ) (rooms : Counts) (t : List ℕ) : Type 0 where
+  pub start : ℕ
+  pub stands : drop start bytes ≡ p ++ []
+  pub long : start + length (p ++ []) ≡ length bytes
+  pub short : length bytes < 2 ^ 64
+  pub reads : (kind : Payload) (c : Contents) → payloadOf (h .«frame_type») ≡ kind → payload kind rooms start bytes ≡ done c (length bytes)
       → frameRead x limit rooms (bytes ++ t) ≡ answered (done (h, c) n)
 
 -- Law: a frame that was written is so, with any bytes behind it and under a limit no lower.
-placed : (x : Side) (h : Head) (limit : ℕ) (p bytes : List ℕ) (n : ℕ) → Wrote h limit p bytes n → limit < 2 ^ 32 → Sendable (sender x) h
+pub placed : (x : Side) (h : Head) (limit : ℕ) (p bytes : List ℕ) (n : ℕ) → Wrote h limit p bytes n → limit < 2 ^ 32 → Sendable (sender x) h
     → (higher : ℕ) → limit ≤ higher → (rooms : Counts) (t : List ℕ) → Placed x h p bytes n higher rooms t
 placed x h limit p bytes n w small ok higher up rooms t =
     let f = w .parts small in
@@ -101,7 +101,7 @@ placed x h limit p bytes n w small ok higher up rooms t =
 
 module _ (x : Side) (h : Head) (bytes : List ℕ) (n limit : ℕ) (rooms : Counts) (t buffer : List ℕ) where
   -- pairs with keys that are met once
-  kv-reads : (pairs : List ℕ) (count : ℕ) → Placed x h (pairsBytes buffer pairs count) bytes n limit rooms t → payloadOf (h .«frame_type») ≡ k.KvList → inner.Sound (kvChecks buffer pairs) count → count ≤ rooms .pairs
+  pub kv-reads : (pairs : List ℕ) (count : ℕ) → Placed x h (pairsBytes buffer pairs count) bytes n limit rooms t → payloadOf (h .«frame_type») ≡ k.KvList → inner.Sound (kvChecks buffer pairs) count → count ≤ rooms .pairs
       → ReadBack x h n buffer [] (records (pairAt pairs) 0 count) [] limit rooms (bytes ++ t)
   kv-reads pairs count z kv passed room =
       let formed : (i : ℕ) → i < count → Formed buffer (pairAt pairs i) = λ i l. formed-passed buffer (pairAt pairs i) (kv-passed buffer pairs i (passed .each i l)) in
@@ -120,7 +120,7 @@ module _ (x : Side) (h : Head) (bytes : List ℕ) (n limit : ℕ) (rooms : Count
       }
 
   -- actions
-  actions-read : (rows : List ℕ) (count : ℕ) → Placed x h (actionsBytes buffer rows count) bytes n limit rooms t → h .«frame_type» ≡ 103 → inner.Sound (actionOrder buffer rows) count → count ≤ rooms .actions
+  pub actions-read : (rows : List ℕ) (count : ℕ) → Placed x h (actionsBytes buffer rows count) bytes n limit rooms t → payloadOf (h .«frame_type») ≡ k.Actions → inner.Sound (actionOrder buffer rows) count → count ≤ rooms .actions
       → ReadBack x h n buffer [] [] (records (actionAt rows) 0 count) limit rooms (bytes ++ t)
   actions-read rows count z ack passed room =
       let m = actions-back bytes t buffer (z .short) rows count passed (z .start) (z .stands) (z .long) in
@@ -129,14 +129,14 @@ module _ (x : Side) (h : Head) (bytes : List ℕ) (n limit : ℕ) (rooms : Count
       let many = as-many (actionMeaning (bytes ++ t)) (actionMeaning buffer) (actionAt rows) 0 count xs (m .same) in
       record {
         contents = record { messages = []; pairs = []; actions = xs };
-        accepted = z .reads k.Actions _ (ap payloadOf ack) (actions-so rooms bytes (z .start) xs (rw end at (found-row (λ i. actionFrom i bytes) (z .start) xs (m .to) (m .row))) (omega (arith, many)));
+        accepted = z .reads k.Actions _ ack (actions-so rooms bytes (z .start) xs (rw end at (found-row (λ i. actionFrom i bytes) (z .start) xs (m .to) (m .row))) (omega (arith, many)));
         messages-same = refl;
         pairs-same = refl;
         actions-same = m .same;
       }
 
   -- messages, whose runs stand one behind the other among the pairs
-  messages-read : (messages : List ℕ) (count : ℕ) (pairs : List ℕ) (total : ℕ) → Placed x h (messagesBytes buffer messages count pairs) bytes n limit rooms t → h .«frame_type» ≡ 3
+  pub messages-read : (messages : List ℕ) (count : ℕ) (pairs : List ℕ) (total : ℕ) → Placed x h (messagesBytes buffer messages count pairs) bytes n limit rooms t → payloadOf (h .«frame_type») ≡ k.Messages
       → inner.Sound (messageOrder buffer total messages count) count → inner.Sound (pairOrder buffer pairs) total → not (eqb count 0) || eqb total 0 ≡ true
       → count ≤ rooms .messages → total ≤ rooms .pairs → ReadBack x h n buffer (records (messageAt messages) 0 count) (records (pairAt pairs) 0 total) [] limit rooms (bytes ++ t)
   messages-read messages count pairs total z notify ms ps stray rows room =
@@ -156,7 +156,7 @@ module _ (x : Side) (h : Head) (bytes : List ℕ) (n limit : ℕ) (rooms : Count
       let row : Row (Group bytes) (z .start, 0) gs (length bytes, m .to .1) = subst (λ (i : ℕ). Row (Group bytes) (z .start, 0) gs (i, m .to .1)) end (m .row) in
       record {
         contents = record { messages = messagesOf gs; pairs = pairsOf gs; actions = [] };
-        accepted = z .reads k.Messages _ (ap payloadOf notify) (messages-so rooms bytes (z .start) gs (m .to .1) row (omega (arith, few)) (omega (arith, many)));
+        accepted = z .reads k.Messages _ notify (messages-so rooms bytes (z .start) gs (m .to .1) row (omega (arith, few)) (omega (arith, many)));
         messages-same = map-map (messageMeaning (bytes ++ t)) (λ (g : Message × List Pair). g .0) gs ∙ same .0;
         pairs-same = arguments;
         actions-same = refl;
@@ -255,7 +255,7 @@ module _ (h : Head) (limit : ℕ) (buffer bytes : List ℕ) (n : ℕ) (stream : 
       let o = actions-accepted h limit buffer rows j bytes n is in
       actions-read side.Agents h bytes n higher rooms t buffer rows j
       (placed side.Agents h limit (actionsBytes buffer rows j) bytes n (actions-wrote h limit buffer rows j bytes n is) small (by-agent (o .0) (omega (arith, ack)) (omega (arith, ack))) higher up rooms t)
-      ack (o .2) room
+      (ap payloadOf ack) (o .2) room
 
   -- Law: each frame that `write_kv` writes with type 101 or 102, and each that `write_actions` writes, reads back, with room for its records.
   pub agent-read-back : 101 ≤ h .«frame_type» → (pairs : List ℕ) (i : ℕ) (rows : List ℕ) (j : ℕ) → h .«frame_type» ≤ 103 → agentAnswer h limit buffer pairs i rows j ≡ done bytes n
@@ -282,7 +282,7 @@ module _ (h : Head) (limit : ℕ) (buffer bytes : List ℕ) (n : ℕ) (stream : 
         messages-read side.HAProxy h bytes n higher rooms t buffer messages count pairs total
         (placed side.HAProxy h limit (messagesBytes buffer messages count pairs) bytes n (notify-wrote h limit buffer messages count pairs total bytes n is) small
         (by-haproxy (o .0) (omega (arith, notify)) (omega (arith, notify))) higher up rooms t)
-        notify messages-passed
+        (ap payloadOf notify) messages-passed
         (notify-passed-records h limit buffer messages count pairs total bytes n is .1) (o .3) rows room
 
     -- Law: argument j of message i of what was written is argument j of message i of what is read, and the message has its name, its first pair and its

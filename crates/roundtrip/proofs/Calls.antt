@@ -1,7 +1,7 @@
 -- A writer under a C name that answers 0 is an accepted call of the writer that it wraps: so what is proved of that one's calls holds of what it
 -- leaves. It goes by the answer, of which no refusal has the number 0.
 use mathlib.Core.Path.{_≡_, sym, ap}
-use mathlib.Core.Bool.{Bool, not, _||_}
+use mathlib.Core.Bool.{not, _||_}
 use mathlib.Core.List.{List, [], _∷_, _++_}
 use Prim.Native.Nat.{ℕ, zero, suc}
 use native.Mathlib.Omega.{arith}
@@ -19,8 +19,8 @@ use Rattle.frame.specs.Head.{headBytes, frameBytes}
 use Rattle.frame.specs.Records.{messageWidth, pairWidth, actionWidth}
 use Rattle.writer.specs.Pair.{kvChecks}
 use Rattle.writer.specs.Inner.{pairOrder, actionOrder, messageOrder}
-use Rattle.writer.specs.Frame.{headOf, limited, finAlone, kvAllowed, pairsBytes, kvAnswer, actionsBytes, actionsAnswer, messagesBytes, notifyAnswer}
+use Rattle.writer.specs.Frame.{limited, finAlone, kvAllowed, pairsBytes, kvAnswer, actionsBytes, actionsAnswer, messagesBytes, notifyAnswer}
 use Rattle.spop.specs.Told.{Told, Left}
 
 -- ---- no refusal has the number 0
 
@@ -77,21 +77,13 @@ zero-writes a {at} {old} h t = record { says = by-answer (within (length old) a)
     by-answer (done bytes n) h t = ap (done tt) (t .where-at)
     by-answer (refused number place) h t = absurd (h (sym (t .says)))
 
-module _ (fin abort : Bool) (stream frame limit : ℕ) (buffer : List ℕ) (at : ℕ) (old new : List ℕ) where
-  pub actions-call : (actions : List ℕ) (count : ℕ) → Left (actionsAnswer (headOf 103 fin abort stream frame) limit buffer actions count) 0 at old new
-      → Writes (actionsAnswer (headOf 103 fin abort stream frame) limit buffer actions count) (w.Done at) old new
-  actions-call actions count p =
-      let h = headOf 103 fin abort stream frame in
-      zero-writes (actionsAnswer h limit buffer actions count) (actions-numbered h limit buffer actions count) p
+module _ (h : Head) (limit : ℕ) (buffer : List ℕ) (at : ℕ) (old new : List ℕ) where
+  pub kv-call : (pairs : List ℕ) (count : ℕ) → Left (kvAnswer h limit buffer pairs count) 0 at old new → Writes (kvAnswer h limit buffer pairs count) (w.Done at) old new
+  kv-call pairs count = zero-writes (kvAnswer h limit buffer pairs count) (kv-numbered h limit buffer pairs count)
 
-  pub kv-call : (type : ℕ) (pairs : List ℕ) (count : ℕ) → Left (kvAnswer (headOf type fin abort stream frame) limit buffer pairs count) 0 at old new
-      → Writes (kvAnswer (headOf type fin abort stream frame) limit buffer pairs count) (w.Done at) old new
-  kv-call type pairs count p =
-      let h = headOf type fin abort stream frame in
-      zero-writes (kvAnswer h limit buffer pairs count) (kv-numbered h limit buffer pairs count) p
+  pub actions-call : (actions : List ℕ) (count : ℕ) → Left (actionsAnswer h limit buffer actions count) 0 at old new → Writes (actionsAnswer h limit buffer actions count) (w.Done at) old new
+  actions-call actions count = zero-writes (actionsAnswer h limit buffer actions count) (actions-numbered h limit buffer actions count)
 
-  pub notify-call : (messages : List ℕ) (count : ℕ) (pairs : List ℕ) (total : ℕ) → Left (notifyAnswer (headOf 3 fin abort stream frame) limit buffer messages count pairs total) 0 at old new
-      → Writes (notifyAnswer (headOf 3 fin abort stream frame) limit buffer messages count pairs total) (w.Done at) old new
-  notify-call messages count pairs total p =
-      let h = headOf 3 fin abort stream frame in
-      zero-writes (notifyAnswer h limit buffer messages count pairs total) (notify-numbered h limit buffer messages count pairs total) p
+  pub notify-call : (messages : List ℕ) (count : ℕ) (pairs : List ℕ) (total : ℕ) → Left (notifyAnswer h limit buffer messages count pairs total) 0 at old new
+      → Writes (notifyAnswer h limit buffer messages count pairs total) (w.Done at) old new
+  notify-call messages count pairs total = zero-writes (notifyAnswer h limit buffer messages count pairs total) (notify-numbered h limit buffer messages count pairs total)
