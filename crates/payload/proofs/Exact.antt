@@ -9,7 +9,7 @@ use lib.Seq.{drop-cons, drop-drop, getD-drop}
 use Rattle.answer.specs.Answer.{Answer, done, refused, behind}
 use Rattle.answer.proofs.Cases.{answer-cases, not-both}
 use Rattle.answer.proofs.Each.{Each, each-both}
-use Rattle.answer.proofs.Row.{Row, Found, row-found}
+use Rattle.answer.proofs.Row.{Row, row-found}
 use Rattle.varint.specs.Number.{numberBytes}
 use Rattle.varint.proofs.Reading.{Bytes}
 use Rattle.types.specs.Value.{Span, span, string, value, points, shape, moved, typed}
@@ -114,14 +114,14 @@ string-from-exact s at start len end small e = go (string (drop at s)) refl
 
 -- ---- a payload
 
--- It stands somewhere in these bytes, so that all of its numbers are exact: a name's one, and those of a pair.
+-- A name, and a pair, that stands somewhere in these bytes with exact numbers.
 abbrev pub NameIn : List ℕ → ℕ → ℕ → Type 0
 NameIn s start len = (at : ℕ) × LengthExact s at start len
 
 abbrev pub PairIn : List ℕ → Pair → Type 0
 PairIn s p = (at end : ℕ) × PairExact s at p end
 
--- So are those of each message, each pair and each action that was read.
+-- So does each message's name, each pair and each action's variable that was read.
 pub record NumbersExact (s : List ℕ) (c : Contents) : Type 0 where
   pub messages : Each (λ (m : Message). NameIn s (m .start) (m .len)) (c .messages)
   pub pairs : Each (PairIn s) (c .pairs)

@@ -26,7 +26,6 @@ use Rattle.frame.proofs.Rows.{table-messages, table-pairs, table-actions}
 use Rattle.payload.specs.declared.Counts.{Counts}
 use Rattle.payload.specs.declared.Payload.{Payload}
 use Rattle.payload.specs.declared.Payload.the-variants as k
-use Rattle.payload.specs.Payload.{Contents}
 use Rattle.payload.specs.Promise.{countsOf, roomsOf, Fills}
 use Rattle.payload.proofs.Kept.{Within}
 use Rattle.parser.specs.declared.FrameRead.{FrameRead}
