@@ -1,11 +1,12 @@
 //! Frames that a writer of the port made, read by the port.
 
 use super::{
-    lent::{Reading, keys_rise, stays},
+    lent::{Reading, keys_rise, stays, untouched},
     model::{ABORTED, AGENTS, UNKNOWN},
 };
 use crate::{
-    answers::Answer,
+    answers::{Answer, DONE},
+    both,
     port::{MESSAGE_WIDTH, PAIR_WIDTH},
     records::{self, Wrote, flags_of},
     shrink::{Call, Fields},
@@ -48,13 +49,35 @@ impl Written<'_> {
             self.pairs.len() + self.spare[1],
         ];
         let reading = Reading::by_port(area, self.limit, lengths);
-        if self.is_right(&reading, area, length) {
-            return Ok(());
+        let rows = |call_of: &str| {
+            Difference::in_call(call_of)
+                .row("written", format!("{call:?}"))
+                .row("frame", hex(&area[..length]))
+        };
+        if !self.is_right(&reading, area, length) {
+            return Err(rows("read_frame of a written frame").row("read", reading));
         }
-        Err(Difference::in_call("read_frame of a written frame")
-            .row("written", format!("{call:?}"))
-            .row("frame", hex(&area[..length]))
-            .row("read", reading))
+        match self.kind {
+            101..=102 if !self.is_read_as_agents(area, length) => {
+                Err(rows("read_agent_frame of a written frame"))
+            }
+            _ => Ok(()),
+        }
+    }
+
+    /// A KV list of an agent's, by the reader of what agents send: all its pairs, and no action.
+    fn is_read_as_agents(&self, area: &[u8], length: usize) -> bool {
+        let mut pairs: Vec<u64> = (0..self.pairs.len() + self.spare[1]).map(untouched).collect();
+        let (mut head, mut at) = ([0; 6], 0);
+        let number =
+            both::read_agent_frame(area, self.limit, &mut pairs, &mut [], &mut head, &mut at);
+        let count = (self.pairs.len() / PAIR_WIDTH) as u64;
+        number == DONE
+            && at == length as u64
+            && head == [self.kind, 1, self.ids[0], self.ids[1], count, 0]
+            && self.same_pairs(&pairs, area)
+            && stays(&pairs, self.pairs.len())
+            && keys_rise(&pairs[..self.pairs.len()])
     }
 
     fn is_right(&self, reading: &Reading, area: &[u8], length: usize) -> bool {

@@ -12,7 +12,7 @@ use std::fmt;
 const BEHIND: usize = 3;
 
 /// What memory is filled with. No two places have the same, so that a number that is copied shows too.
-fn untouched(place: usize) -> u64 {
+pub fn untouched(place: usize) -> u64 {
     0xa5c3_96e1_5a3c_691e + place as u64
 }
 
