@@ -65,6 +65,8 @@ proving() { # CRATE LOG COMMAND..
     done
     mkdir -p "$top/target/log"
     mark=$(mktemp "$top/target/log/.proving.XXXXXX")
+    # A file's time goes in steps of some milliseconds: what the prover leaves is to be newer than the mark.
+    rest 0.05
     start_child "$@" >"$log" 2>&1 </dev/null
     while kill -0 "$child" 2>/dev/null; do
         look_at_crates
