@@ -16,10 +16,12 @@ use Rattle.payload.specs.declared.Counts.{Counts}
 use Rattle.payload.specs.Payload.{Contents}
 use Rattle.payload.specs.Promise.{countsOf}
 use Rattle.parser.specs.Promise.{frameTells}
+use Rattle.buffer.specs.declared.FramesRead.{FramesRead}
+use Rattle.buffer.specs.Promise.{ReadFrames}
 use Rattle.parser.proofs.Entries.{said-done}
 use Rattle.spop.specs.Told.{numberOf, atOf, valueOr, Told, Left}
-use Rattle.spop.specs.Values.{headNumbers}
-use Rattle.spop.specs.Promise.{HeadTold}
+use Rattle.spop.specs.Values.{headNumbers, totalNumbers, stopSaid}
+use Rattle.spop.specs.Promise.{HeadTold, SpopReadFrames}
 
 -- a reader was told a value, or a refusal
 module _ {A B : Type 0} {a : Answer A} (form : A → B) (before : B) where
@@ -79,3 +81,16 @@ module _ (side : Side) (before : List ℕ) (x : Reading (Head × Contents)) wher
 
   pub head-refused : (number place : ℕ) {r at : ℕ} → answered (refused number place) ≡ frameTells x → (r ≡ number) × (at ≡ place) → HeadTold side x r at before before
   head-refused number place e t = told-refused form before (said-refused x number place e) t
+
+-- ---- what the reader of a buffer said
+
+pub frames-told : {input : List ℕ} {limit : ℕ} {x : FramesRead} {oldRows newRows oldMessages newMessages oldPairs newPairs : List ℕ} {n place r at : ℕ}
+    → ReadFrames input limit x oldRows newRows oldMessages newMessages oldPairs newPairs → stopSaid (x .stop) ≡ refused n place → (r ≡ n) × (at ≡ place)
+    → SpopReadFrames input limit r at (totalNumbers (x .totals)) oldRows newRows oldMessages newMessages oldPairs newPairs
+frames-told e is t =
+    let stop = ap (λ (y : FramesRead). stopSaid (y .stop)) (sym (e .says)) ∙ is in
+    record {
+      told = record { says = t .0 ∙ sym (ap numberOf stop); where-at = t .1 ∙ sym (ap atOf stop) };
+      sums = ap (λ (y : FramesRead). totalNumbers (y .totals)) (e .says);
+      fills = record { says = refl; rows = e .rows; messages = e .messages; pairs = e .pairs };
+    }

@@ -15,7 +15,7 @@ use Rattle.frame.specs.declared.Side.{Side}
 use Rattle.frame.specs.Read.{Reading}
 use Rattle.payload.specs.Payload.{Contents}
 use Rattle.spop.specs.Told.{numberOf, atOf, valueOr, Told, Left}
-use Rattle.spop.specs.Promise.{FrameTold, SpopDecodeVarint, SpopSameTextPlain, SpopTypedData, SpopReadPair, SpopReadFrame, SpopReadFrameRecords, SpopReadAgentFrame, SpopNegotiateVersion}
+use Rattle.spop.specs.Promise.{FrameTold, SpopDecodeVarint, SpopSameTextPlain, SpopTypedData, SpopReadPair, SpopReadFrame, SpopReadFrameRecords, SpopReadAgentFrame, SpopReadFrames, SpopNegotiateVersion}
 
 -- of a call that tells an answer
 pub told-unique : {A : Type 0} {a : Answer A} {r q at also : ℕ} → Told a r at → Told a q also → (r ≡ q) × (at ≡ also)
@@ -98,3 +98,15 @@ module _ (r q at also : ℕ) where
   spop-read-agent-frame-unique input limit before head other oldPairs newPairs otherPairs oldActions newActions otherActions p s =
       let u = frame-unique p s in
       (u .0 .0, u .0 .1, u .0 .2, u .2, u .3)
+
+  pub spop-read-frames-unique : (input : List ℕ) (limit : ℕ) (counts other oldRows newRows otherRows oldMessages newMessages otherMessages oldPairs newPairs otherPairs : List ℕ)
+      → SpopReadFrames input limit r at counts oldRows newRows oldMessages newMessages oldPairs newPairs
+      → SpopReadFrames input limit q also other oldRows otherRows oldMessages otherMessages oldPairs otherPairs
+      → ((r ≡ q) × (at ≡ also)) × (counts ≡ other) × (newRows ≡ otherRows) × (newMessages ≡ otherMessages) × (newPairs ≡ otherPairs)
+  spop-read-frames-unique input limit counts other oldRows newRows otherRows oldMessages newMessages otherMessages oldPairs newPairs otherPairs p s = (
+    told-unique (p .told) (s .told),
+    one-only (p .sums) (s .sums),
+    one-only (p .fills .rows) (s .fills .rows),
+    one-only (p .fills .messages) (s .fills .messages),
+    one-only (p .fills .pairs) (s .fills .pairs),
+  )

@@ -18,10 +18,11 @@ use Rattle.payload.specs.Payload.{Contents}
 use Rattle.payload.specs.Promise.{countsOf, roomsOf, Fills}
 use Rattle.parser.specs.Frame.{frameRead}
 use Rattle.parser.specs.Promise.{contentsRead}
+use Rattle.buffer.specs.Promise.{framesIn, ReadFrames}
 use Rattle.records.specs.Promise.{roomsFor, FillsRecords}
 use Rattle.hello.specs.Hello.{announced, choice}
 use Rattle.spop.specs.Told.{Told, valueOr, chosenOf}
-use Rattle.spop.specs.Values.{recordNumbers, headNumbers}
+use Rattle.spop.specs.Values.{recordNumbers, headNumbers, totalNumbers, stopSaid}
 
 abbrev pub SpopDecodeVarint : List ℕ → ℕ → ℕ → ℕ → ℕ → Type 0
 SpopDecodeVarint input r at before value = (Told (number input) r at × (value ≡ valueOr (λ n. n) (number input) before)) × exactly input (number input)
@@ -58,6 +59,12 @@ SpopReadAgentFrame input limit r at before head oldPairs newPairs oldActions new
 pub record SpopReadFrameRecords (input : List ℕ) (limit r at : ℕ) (before head oldMessages newMessages : List ℕ) (oldPairs newPairs : List Pair) : Type 0 where
   pub told : HeadTold side.HAProxy (frameRead side.HAProxy limit (roomsFor oldMessages oldPairs) input) r at before head
   pub fills : FillsRecords (contentsRead (frameRead side.HAProxy limit (roomsFor oldMessages oldPairs) input)) oldMessages newMessages oldPairs newPairs
+
+-- All frames of a receive buffer: what stopped it is told, and `counts` and the tables take what was read.
+pub record SpopReadFrames (input : List ℕ) (limit r at : ℕ) (counts oldRows newRows oldMessages newMessages oldPairs newPairs : List ℕ) : Type 0 where
+  pub told : Told (stopSaid (framesIn input limit oldRows oldMessages oldPairs .told .stop)) r at
+  pub sums : counts ≡ totalNumbers (framesIn input limit oldRows oldMessages oldPairs .told .totals)
+  pub fills : ReadFrames input limit (framesIn input limit oldRows oldMessages oldPairs .told) oldRows newRows oldMessages newMessages oldPairs newPairs
 
 abbrev pub SpopNegotiateVersion : List ℕ → Bool → List ℕ → List ℕ → Type 0
 SpopNegotiateVersion versions r before version = (r ≡ announced versions) × (version ≡ chosenOf (choice versions) before)

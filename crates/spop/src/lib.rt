@@ -6,6 +6,7 @@
 use answer::Refusal;
 use answer::WAIT;
 use answer::Written;
+use buffer::Stop;
 use frame::Head;
 use frame::PAIR_WIDTH;
 use frame::Pair;
@@ -28,7 +29,7 @@ ghost use Rattle.payload.specs.Payload.{Contents};
 ghost use Rattle.parser.specs.Promise.{frameSaid, frameTells};
 ghost use Rattle.spop.specs.Told.{Told, Left};
 ghost use Rattle.spop.specs.Values.{recordIn, headNumbers};
-ghost use Rattle.spop.specs.Promise.{HeadTold, SpopDecodeVarint, SpopSameTextPlain, SpopTypedData, SpopReadPair, SpopReadFrame, SpopReadFrameRecords, SpopReadAgentFrame, SpopNegotiateVersion};
+ghost use Rattle.spop.specs.Promise.{HeadTold, SpopDecodeVarint, SpopSameTextPlain, SpopTypedData, SpopReadPair, SpopReadFrame, SpopReadFrameRecords, SpopReadAgentFrame, SpopReadFrames, SpopNegotiateVersion};
 ghost use Rattle.types.specs.Form.{valueAnswer, lengthOf};
 ghost use Rattle.utf8.specs.Text.{isUtf8, sameText, lossy};
 ghost use Rattle.hello.specs.Hello.{frameSize};
@@ -232,6 +233,37 @@ pub extern "C" fn spop_read_agent_frame(
 {
     let answer = parser::read_agent_frame(input, limit, pairs, actions);
     tell_side(answer, Side::Agents, head, at)
+}
+
+// All frames of a receive buffer. It answers what stopped it, so never 0, and `counts` is always set.
+#[no_mangle]
+pub extern "C" fn spop_read_frames(
+    input: &[u8],
+    limit: u32,
+    rows: &mut [u64],
+    messages: &mut [u64],
+    pairs: &mut [u64],
+    counts: &mut [u64; 4],
+    at: &mut u64,
+) -> u64
+    ensures { λ r. ⌜ SpopReadFrames (now (input .entry)) limit r (now (at .exit)) (now (counts .exit)) (now (rows .entry)) (now (rows .exit)) (now (messages .entry)) (now (messages .exit)) (now (pairs .entry)) (now (pairs .exit)) ⌝ }
+{
+    let read = buffer::read_frames(input, limit, rows, messages, pairs);
+    let t = read.totals;
+    *counts = [
+        t.frames as u64,
+        t.messages as u64,
+        t.pairs as u64,
+        t.bytes as u64,
+    ];
+    let stop = read.stop;
+    match stop {
+        Stop::Wait(missing) => {
+            *at = missing as u64;
+            WAIT
+        },
+        Stop::Refused(r) => refuse(r, at),
+    }
 }
 
 #[no_mangle]
