@@ -18,7 +18,8 @@
  *    7  too large       a number over 2^64-1; *at: right after the byte that broke it
  *    8  no such type    a data type from 10 to 15; *at: right after the type byte
  *    9  repeated        a key that an earlier pair has; *at: read, right after the second pair; written, the record's index
- *   10  table full      a table has no room for a record; *at: right after the pair or action, or for a message right after its count byte
+ *   10  table full      a table has no room for a record; *at: right after the pair or action, for a message right after its count byte,
+ *                       and for a row right after its frame
  *   11  no room         the output is too short; *at: 0
  *   12  over the limit  the frame to be written is longer than the limit allows; *at: 0
  *   13  size too small  a frame size is under 256; *at: 0
@@ -31,7 +32,7 @@
  *   19  not fitting     a number whose tenth byte is above 15; *at: right after that byte
  *
  * *at is always set. Whatever else is lent changes only after 0: of an output the bytes that are written, and of a table the
- * numbers of the records that were read.
+ * numbers of the records that were read. spop_read_frames never answers 0, and says itself what changes.
  *
  * No pointer may be null, also where its length is 0 (it need not point at anything then), and what a call may change must not
  * overlap what else is lent to it. Lengths are counted in elements. Calls keep no state, so threads need no lock. The helpers take
@@ -133,6 +134,7 @@ enum {
     SPOP_MESSAGE_WIDTH = 4,
     SPOP_PAIR_WIDTH = 6,
     SPOP_ACTION_WIDTH = 8,
+    SPOP_ROW_WIDTH = 7,
     SPOP_VERSION_WIDTH = 4
 };
 
@@ -178,6 +180,18 @@ struct spop_action {
     uint64_t flags;
 };
 
+/* The seven numbers of a row, which is a frame among those of a buffer: where it starts there, its bytes, and its records. first is
+ * an index into the table of messages for a NOTIFY, and else into that of pairs, and count says how many it has there. */
+struct spop_row {
+    uint64_t start;
+    uint64_t used;
+    uint64_t type;
+    uint64_t stream_id;
+    uint64_t frame_id;
+    uint64_t first;
+    uint64_t count;
+};
+
 /* The six numbers of a frame's head. */
 struct spop_head {
     uint64_t type;
@@ -196,6 +210,14 @@ struct spop_agent_head {
     uint64_t frame_id;
     uint64_t pair_count;
     uint64_t action_count;
+};
+
+/* The four counts of a buffer that was read: its frames, their messages, their pairs, and the bytes that they took together. */
+struct spop_counts {
+    uint64_t frames;
+    uint64_t messages;
+    uint64_t pairs;
+    uint64_t used;
 };
 
 /* An announced version's four numbers. The last is 0 exactly where it has no pre-release part: of 2.0.0-rc.1 it is any other. */
@@ -224,6 +246,8 @@ SPOP_HOLDS(spop_value_is_four_numbers, sizeof(struct spop_value) == SPOP_VALUE_W
 SPOP_HOLDS(spop_message_is_four_numbers, sizeof(struct spop_message) == SPOP_MESSAGE_WIDTH * sizeof(uint64_t));
 SPOP_HOLDS(spop_pair_is_six_numbers, sizeof(struct spop_pair) == SPOP_PAIR_WIDTH * sizeof(uint64_t));
 SPOP_HOLDS(spop_action_is_eight_numbers, sizeof(struct spop_action) == SPOP_ACTION_WIDTH * sizeof(uint64_t));
+SPOP_HOLDS(spop_row_is_seven_numbers, sizeof(struct spop_row) == SPOP_ROW_WIDTH * sizeof(uint64_t));
+SPOP_HOLDS(spop_counts_are_four_numbers, sizeof(struct spop_counts) == 4 * sizeof(uint64_t));
 SPOP_HOLDS(spop_head_is_six_numbers, sizeof(struct spop_head) == 6 * sizeof(uint64_t));
 SPOP_HOLDS(spop_announced_is_four_numbers, sizeof(struct spop_announced) == SPOP_VERSION_WIDTH * sizeof(uint64_t));
 SPOP_HOLDS(spop_agent_head_is_six_numbers, sizeof(struct spop_agent_head) == 6 * sizeof(uint64_t));
@@ -373,6 +397,36 @@ uint64_t spop_read_frame(const uint8_t *input, size_t input_len, uint32_t limit,
  * at the front of pairs, with the numbers that it gives, and those behind them stay. After any other number none has changed. */
 uint64_t spop_read_frame_records(const uint8_t *input, size_t input_len, uint32_t limit, uint64_t *messages, size_t messages_len,
                                  struct spop_pair *pairs, size_t pairs_len, uint64_t head[6], uint64_t *at);
+
+/* Reads all frames at the front of input, a receive buffer in one call: one after the other as spop_read_frame does, each from where
+ * the one before it ended, with the same limit and with the room that is left in the tables. It ends at the frame that is not read,
+ * if only since there is no byte left, and answers what stopped it, so never 0:
+ *
+ *     1              that frame is not whole yet; *at: how many bytes are missing, 4 where there is none
+ *     2 to 10, 19    spop_read_frame refuses it so, with the room that is left in messages and pairs
+ *    10              it would be read, and rows has no room for it; *at: right after it
+ *
+ * So a frame that is waited for or refused is answered so too where rows is full. Places count from that frame's own first length
+ * byte, which is input[counts[3]].
+ *
+ * counts is always set: how many frames were read, how many messages and pairs they have together, and how many bytes they took. Each
+ * frame that was read has a row: its start in input, its bytes with the length bytes, its type, stream id, frame id, the index of its
+ * first message in messages (type 3) or of its first pair in pairs (types 1 and 2), and how many of these it has; where it has none,
+ * the first is how many the frames before it have. The first row starts at 0, and each other where the one before it ends. The
+ * records are those of spop_read_frame, those of each frame behind those of the frames before it: starts count from the frame's own
+ * first length byte, and a message's first pair from its frame's first pair, which is how many pairs the frames before it have.
+ *
+ * The frame that stopped it changes nothing, and all numbers behind the rows and records that are counted stay. rows has room for
+ * rows_len / 7 frames, messages for messages_len / 4 messages and pairs for pairs_len / 6 pairs, rounded down; each may have none. A
+ * frame takes 11 bytes or more and a record two, so with room for input_len / 11 rows and input_len / 2 records the answer is
+ * never 10.
+ *
+ * To go on: after 1, call again with the bytes from input[counts[3]] on and *at more behind them. After a 10 with a frame read, call
+ * again with the bytes from there on, once the tables are free; without one the tables are too small for it. Any other refusal is that
+ * frame's, as after spop_read_frame. */
+uint64_t spop_read_frames(const uint8_t *input, size_t input_len, uint32_t limit, uint64_t *rows, size_t rows_len,
+                          uint64_t *messages, size_t messages_len, uint64_t *pairs, size_t pairs_len, uint64_t counts[4],
+                          uint64_t *at);
 
 /* Reads the frame at the front of input, one that an agent sends: an AGENT-HELLO (type 101) or an AGENT-DISCONNECT (102), which hold
  * a KV list, or an ACK (103), which holds actions. It answers as spop_read_frame does, with these changes: 6 is for types 1 to 3, and
@@ -676,6 +730,19 @@ static inline uint64_t spop_get_frame(struct spop_bytes input, uint32_t limit, s
                            spop_inner_numbers(messages), spop_inner_len(messages, message_room, SPOP_MESSAGE_WIDTH),
                            spop_inner_numbers(pairs), spop_inner_len(pairs, pair_room, SPOP_PAIR_WIDTH),
                            (uint64_t *)(void *)head, at);
+}
+
+/* spop_read_frames, with tables that have room for so many rows and records. */
+static inline uint64_t spop_get_frames(struct spop_bytes input, uint32_t limit, struct spop_row *rows, size_t row_room,
+                                       struct spop_message *messages, size_t message_room, struct spop_pair *pairs,
+                                       size_t pair_room, struct spop_counts *counts, uint64_t *at)
+{
+    struct spop_bytes i = spop_inner_bytes(input);
+
+    return spop_read_frames(i.start, i.len, limit, spop_inner_numbers(rows), spop_inner_len(rows, row_room, SPOP_ROW_WIDTH),
+                            spop_inner_numbers(messages), spop_inner_len(messages, message_room, SPOP_MESSAGE_WIDTH),
+                            spop_inner_numbers(pairs), spop_inner_len(pairs, pair_room, SPOP_PAIR_WIDTH),
+                            (uint64_t *)(void *)counts, at);
 }
 
 /* spop_read_agent_frame, with tables that have room for so many records. */

@@ -693,6 +693,102 @@ static inline struct spop_data spop_frame_get(const struct spop_frame *f, const 
     return spop_data_null();
 }
 
+/* All frames of a buffer, with the tables that they are read into, and the one that the walk over them is at:
+ *
+ *     uint64_t number = spop_frames_read(&frames, input, limit, &at);
+ *
+ *     while (spop_next_frame(&frames)) {
+ *         struct spop_walk w = spop_walk_over(&frames.frame);
+ *         .. frames.frame.head, and its messages and arguments as above ..
+ *     }
+ *     .. number and at say why it ended, and spop_frames_rest(&frames) is what is left .. */
+struct spop_frames {
+    struct spop_row *rows;
+    size_t row_room;
+    struct spop_message *messages;
+    size_t message_room;
+    struct spop_pair *pairs;
+    size_t pair_room;
+    struct spop_bytes input;
+    struct spop_counts counts;
+    uint64_t next_row;
+    uint64_t next_message;      /* the first record of the next frame, in each table */
+    uint64_t next_pair;
+    struct spop_frame frame;    /* its tables and bytes are parts of those that were lent here */
+};
+
+/* Begins with no frame, and with tables that have room for so many rows and records. */
+static inline void spop_frames_init(struct spop_frames *f, struct spop_row *rows, size_t row_room, struct spop_message *messages,
+                                    size_t message_room, struct spop_pair *pairs, size_t pair_room)
+{
+    static const struct spop_counts none = {0, 0, 0, 0};
+
+    f->rows = rows;
+    f->row_room = row_room;
+    f->messages = messages;
+    f->message_room = message_room;
+    f->pairs = pairs;
+    f->pair_room = pair_room;
+    f->input = spop_bytes_of(NULL, 0);
+    f->counts = none;
+    f->next_row = 0;
+    f->next_message = 0;
+    f->next_pair = 0;
+    spop_frame_init(&f->frame, NULL, 0, NULL, 0);
+}
+
+/* Reads all frames at the front of input, and answers what stopped it, as spop_read_frames does. The walk begins anew, before the first
+ * frame. Frames point into the input: its bytes have to stay as long as they are walked over. */
+static inline uint64_t spop_frames_read(struct spop_frames *f, struct spop_bytes input, uint32_t limit, uint64_t *at)
+{
+    struct spop_counts counts;
+    uint64_t number = spop_get_frames(input, limit, f->rows, f->row_room, f->messages, f->message_room, f->pairs, f->pair_room,
+                                      &counts, at);
+
+    spop_frames_init(f, f->rows, f->row_room, f->messages, f->message_room, f->pairs, f->pair_room);
+    f->input = input;
+    f->counts = counts;
+    return number;
+}
+
+/* The bytes behind the frames that were read: from the frame on that stopped the reading. */
+static inline struct spop_bytes spop_frames_rest(const struct spop_frames *f)
+{
+    return spop_bytes_behind(f->input, f->counts.used);
+}
+
+/* How many pairs the arguments of so many messages are: where those of the last one end. */
+static inline uint64_t spop_inner_pairs_of(const struct spop_message *messages, uint64_t count)
+{
+    return count > 0 ? messages[count - 1].first_pair + messages[count - 1].pair_count : 0;
+}
+
+/* Goes on to the next frame. False at the end, and then the frame is as it was. */
+static inline bool spop_next_frame(struct spop_frames *f)
+{
+    const struct spop_row *row;
+    uint64_t message_count, pair_count;
+
+    if (f->next_row >= f->counts.frames)
+        return false;
+    row = &f->rows[f->next_row++];
+    message_count = row->type == SPOP_NOTIFY ? row->count : 0;
+    spop_frame_init(&f->frame, message_count > 0 ? f->messages + f->next_message : NULL, (size_t)message_count, NULL, 0);
+    pair_count = row->type == SPOP_NOTIFY ? spop_inner_pairs_of(f->frame.messages, message_count) : row->count;
+    f->frame.pairs = pair_count > 0 ? f->pairs + f->next_pair : NULL;
+    f->frame.pair_room = (size_t)pair_count;
+    f->frame.head.type = row->type;
+    f->frame.head.flags = SPOP_FIN;
+    f->frame.head.stream_id = row->stream_id;
+    f->frame.head.frame_id = row->frame_id;
+    f->frame.head.message_count = message_count;
+    f->frame.head.pair_count = pair_count;
+    f->frame.bytes = spop_bytes_at(f->input, row->start, row->used);
+    f->next_message += message_count;
+    f->next_pair += pair_count;
+    return true;
+}
+
 #ifdef __cplusplus
 }
 #endif

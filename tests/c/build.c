@@ -556,6 +556,74 @@ static void too_many(void)
     give_back(&l);
 }
 
+/* Puts the arguments that are next behind a text. */
+static void put_arguments(struct spop_walk *w, char *text, size_t room)
+{
+    while (spop_next_argument(w))
+        snprintf(text + strlen(text), room - strlen(text), "%.*s%u ", (int)w->key.len, (const char *)w->key.start,
+                 (unsigned)w->value.number);
+}
+
+/* A frame that the walk over a buffer is at: its head and bytes, and its arguments as text. */
+static void walked(struct spop_frames *f, uint64_t type, uint64_t frame_id, uint64_t start, uint64_t len, const char *should)
+{
+    char text[64] = "";
+    struct spop_walk w;
+
+    check("next_frame", spop_next_frame(f) && f->frame.head.type == type && f->frame.head.flags == SPOP_FIN &&
+          f->frame.head.stream_id == 0 && f->frame.head.frame_id == frame_id);
+    check("next_frame's bytes", f->frame.bytes.start == f->input.start + start && f->frame.bytes.len == len);
+    w = spop_walk_over(&f->frame);
+    while (spop_next_message(&w)) {
+        snprintf(text + strlen(text), sizeof text - strlen(text), "%.*s:", (int)w.name.len, (const char *)w.name.start);
+        put_arguments(&w, text, sizeof text);
+    }
+    put_arguments(&w, text, sizeof text);
+    check(should, strcmp(text, should) == 0);
+}
+
+/* Frames of all sorts between each other: a NOTIFY of three messages, of which the last has no argument, a KV list, one without a
+ * message, one more KV list, and a NOTIFY again. */
+static void walk_over_a_buffer(void)
+{
+    static const char hex[] = "0000001c 03 00000001 00 01 0161 01 01700301 0162 02 01710302 01720303 0163 00"
+                              "0000000f 01 00000001 00 00 01730304 01740305" "00000007 03 00000001 00 02"
+                              "00000007 02 00000001 00 00" "0000000e 03 00000001 00 03 0164 01 01750306" "000000";
+    uint8_t input[128];
+    struct spop_row rows[5];
+    struct spop_message messages[4];
+    struct spop_pair pairs[6];
+    struct spop_frames f;
+    uint64_t at, number;
+    size_t len = from_hex(hex, input);
+
+    spop_frames_init(&f, rows, SPOP_COUNT(rows), messages, SPOP_COUNT(messages), pairs, SPOP_COUNT(pairs));
+    check("no frames", !spop_next_frame(&f) && spop_frames_rest(&f).len == 0);
+    for (int again = 0; again < 2; again++) {
+        number = spop_frames_read(&f, spop_bytes_of(input, len), 64, &at);
+        answered("frames_read", number, at, SPOP_WAIT, 1);
+        check("frames_read counts", f.counts.frames == 5 && f.counts.messages == 4 && f.counts.pairs == 6 && f.counts.used == len - 3);
+        check("frames_rest", spop_frames_rest(&f).start == input + len - 3 && spop_frames_rest(&f).len == 3);
+        walked(&f, SPOP_NOTIFY, 1, 0, 32, "a:p1 b:q2 r3 c:");
+        walked(&f, SPOP_HAPROXY_HELLO, 0, 32, 19, "s4 t5 ");
+        walked(&f, SPOP_NOTIFY, 2, 51, 11, "");
+        walked(&f, SPOP_HAPROXY_DISCONNECT, 0, 62, 11, "");
+        walked(&f, SPOP_NOTIFY, 3, 73, 18, "d:u6 ");
+        check("the last frame is the last", !spop_next_frame(&f) && f.frame.head.frame_id == 3);
+    }
+    spop_frames_init(&f, rows, 1, messages, SPOP_COUNT(messages), pairs, SPOP_COUNT(pairs));
+    number = spop_frames_read(&f, spop_bytes_of(input, len), 64, &at);
+    answered("frames_read with a row", number, at, SPOP_TABLE_FULL, 19);
+    walked(&f, SPOP_NOTIFY, 1, 0, 32, "a:p1 b:q2 r3 c:");
+    check("frames_read with a row reads one", !spop_next_frame(&f) && spop_frames_rest(&f).start == input + 32);
+    number = spop_frames_read(&f, spop_frames_rest(&f), 64, &at);
+    answered("frames_read of the rest", number, at, SPOP_TABLE_FULL, 11);
+    walked(&f, SPOP_HAPROXY_HELLO, 0, 0, 19, "s4 t5 ");
+    spop_frames_init(&f, NULL, 1, NULL, 1, NULL, 1);
+    number = spop_frames_read(&f, spop_bytes_of(input, len), 64, &at);
+    answered("frames_read into null", number, at, SPOP_TABLE_FULL, 14);
+}
+
 int main(void)
 {
     data();
@@ -577,5 +645,6 @@ int main(void)
     wrong_bytes();
     out_of_place();
     too_many();
+    walk_over_a_buffer();
     return checked();
 }

@@ -217,6 +217,85 @@ static void read_one(const struct reading *r)
               is_all(records, sizeof records, MARK));
 }
 
+/* A buffer of four frames: a hello with a pair, the upload, a NOTIFY without a message, and a disconnect without a pair. */
+#define BUFFER "0000000a 01 00000001 00 00 01 41 00" UPLOAD "00000007 03 00000001 02 03" "00000007 02 00000001 00 00"
+enum { BUFFER_LEN = 95, LAST_TYPE = 88, FRAMES = 4 };
+
+/* So many of its bytes, with another type for the last frame, a limit and rooms; the answer, and how many frames are read. */
+static const struct {
+    const char *what;
+    size_t len;
+    uint8_t last_type;
+    uint32_t limit;
+    size_t rows, messages, pairs;
+    uint64_t number, at, frames;
+} buffers[] = {
+    {"a whole buffer", 95, 2, 55, 4, 1, 5, SPOP_WAIT, 4, 4},
+    {"a buffer with more room", 95, 2, 55, 5, 2, 6, SPOP_WAIT, 4, 4},
+    {"no byte in a buffer", 0, 2, 55, 0, 0, 0, SPOP_WAIT, 4, 0},
+    {"a buffer that is cut in its last frame", 94, 2, 55, 4, 1, 5, SPOP_WAIT, 1, 3},
+    {"a buffer that is cut where there is no row", 94, 2, 55, 3, 1, 5, SPOP_WAIT, 1, 3},
+    {"a buffer that is cut in its first length bytes", 3, 2, 55, 4, 1, 5, SPOP_WAIT, 1, 0},
+    {"a buffer without its last row", 95, 2, 55, 3, 1, 5, SPOP_TABLE_FULL, 11, 3},
+    {"a buffer with a row", 95, 2, 55, 1, 1, 5, SPOP_TABLE_FULL, 59, 1},
+    {"a buffer without a row", 95, 2, 55, 0, 1, 5, SPOP_TABLE_FULL, 14, 0},
+    {"a buffer without room for the message", 95, 2, 55, 4, 0, 5, SPOP_TABLE_FULL, 19, 1},
+    {"a buffer without room for the message or its row", 95, 2, 55, 1, 0, 5, SPOP_TABLE_FULL, 19, 1},
+    {"a buffer without room for the last pair", 95, 2, 55, 4, 1, 4, SPOP_TABLE_FULL, 59, 1},
+    {"a buffer without room for a pair", 95, 2, 55, 4, 1, 0, SPOP_TABLE_FULL, 14, 0},
+    {"a buffer with a frame over the limit", 95, 2, 54, 4, 1, 5, SPOP_OVERSIZE, 4, 1},
+    {"a buffer with a refused frame", 95, 4, 55, 4, 1, 5, SPOP_UNKNOWN, 4, 3},
+    {"a buffer with a refused frame where there is no row", 95, 4, 55, 3, 1, 5, SPOP_UNKNOWN, 4, 3},
+    {"a buffer with an agent's frame", 95, 102, 55, 4, 1, 5, SPOP_AGENTS, 4, 3}
+};
+
+/* Whether a table begins with these numbers, and what is behind them stays. */
+static bool begins(const uint64_t *table, size_t len, const uint64_t *should, size_t count)
+{
+    return memcmp(table, should, count * sizeof *table) == 0 && is_all(table + count, (len - count) * sizeof *table, MARK);
+}
+
+static void read_buffers(void)
+{
+    static const uint64_t should_rows[FRAMES * SPOP_ROW_WIDTH] = {
+        0, 14, SPOP_HAPROXY_HELLO, 0, 0, 0, 1,
+        14, 59, SPOP_NOTIFY, 1, 1, 0, 1,
+        73, 11, SPOP_NOTIFY, 2, 3, 1, 0,
+        84, 11, SPOP_HAPROXY_DISCONNECT, 0, 0, 5, 0
+    };
+    static const uint64_t should_messages[] = {12, 6, 0, 4};
+    static const uint64_t should_pairs[] = {
+        12, 1, SPOP_KIND_NULL, 0, 0, 0,
+        20, 4, SPOP_KIND_U32, 3, 0, 0,
+        27, 5, SPOP_KIND_I64, 1250, 0, 0,
+        36, 4, SPOP_KIND_U32, 17, 0, 0,
+        43, 5, SPOP_KIND_I64, (uint64_t)INT64_C(-730), 0, 0
+    };
+    /* By the frames that are read. */
+    static const uint64_t should_counts[FRAMES + 1][4] = {{0, 0, 0, 0}, {1, 0, 1, 14}, {2, 1, 5, 73}, {3, 1, 5, 84}, {4, 1, 5, 95}};
+    uint8_t input[BUFFER_LEN];
+    uint64_t rows[5 * SPOP_ROW_WIDTH], messages[2 * SPOP_MESSAGE_WIDTH], records[6 * SPOP_PAIR_WIDTH], counts[4], at, number;
+
+    check("the buffer's length", from_hex(BUFFER, input) == BUFFER_LEN);
+    for (size_t i = 0; i < SPOP_COUNT(buffers); i++) {
+        const uint64_t *should = should_counts[buffers[i].frames];
+
+        memset(rows, MARK, sizeof rows);
+        memset(messages, MARK, sizeof messages);
+        memset(records, MARK, sizeof records);
+        memset(counts, MARK, sizeof counts);
+        input[LAST_TYPE] = buffers[i].last_type;
+        number = spop_read_frames(input, buffers[i].len, buffers[i].limit, rows, SPOP_ROW_WIDTH * buffers[i].rows,
+                                  messages, SPOP_MESSAGE_WIDTH * buffers[i].messages, records, SPOP_PAIR_WIDTH * buffers[i].pairs,
+                                  counts, &at);
+        answered(buffers[i].what, number, at, buffers[i].number, buffers[i].at);
+        check(buffers[i].what, memcmp(counts, should, sizeof counts) == 0);
+        check(buffers[i].what, begins(rows, SPOP_COUNT(rows), should_rows, SPOP_ROW_WIDTH * should[0]));
+        check(buffers[i].what, begins(messages, SPOP_COUNT(messages), should_messages, SPOP_MESSAGE_WIDTH * should[1]));
+        check(buffers[i].what, begins(records, SPOP_COUNT(records), should_pairs, SPOP_PAIR_WIDTH * should[2]));
+    }
+}
+
 /* Of an ACK with these bytes behind its ids, in tables for two pairs and two actions. */
 static const struct {
     const char *what, *hex;
@@ -393,6 +472,7 @@ int main(void)
     pairs();
     for (size_t i = 0; i < SPOP_COUNT(readings); i++)
         read_one(&readings[i]);
+    read_buffers();
     agents();
     kv();
     actions();

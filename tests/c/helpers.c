@@ -21,6 +21,11 @@ static void layout(void)
     check("a head", PLACE(spop_head, type) == 0 && PLACE(spop_head, flags) == 1 && PLACE(spop_head, stream_id) == 2 &&
           PLACE(spop_head, frame_id) == 3 && PLACE(spop_head, message_count) == 4 && PLACE(spop_head, pair_count) == 5 &&
           sizeof(struct spop_head) == 48);
+    check("a row", PLACE(spop_row, start) == 0 && PLACE(spop_row, used) == 1 && PLACE(spop_row, type) == 2 &&
+          PLACE(spop_row, stream_id) == 3 && PLACE(spop_row, frame_id) == 4 && PLACE(spop_row, first) == 5 &&
+          PLACE(spop_row, count) == 6 && sizeof(struct spop_row) == 56);
+    check("counts", PLACE(spop_counts, frames) == 0 && PLACE(spop_counts, messages) == 1 && PLACE(spop_counts, pairs) == 2 &&
+          PLACE(spop_counts, used) == 3 && sizeof(struct spop_counts) == 32);
     check("an announced version", PLACE(spop_announced, major) == 0 && PLACE(spop_announced, minor) == 1 &&
           PLACE(spop_announced, patch) == 2 && PLACE(spop_announced, pre_release) == 3 && sizeof(struct spop_announced) == 32);
     check("a version", PLACE(spop_version, major) == 0 && PLACE(spop_version, minor) == 1 && PLACE(spop_version, patch) == 2 &&
@@ -170,6 +175,48 @@ static void read_with_null(void)
     answered("get_frame into null that is said to have room", number, at, SPOP_TABLE_FULL, 14);
 }
 
+/* Two uploads, in tables for so many rows and for all of their records. */
+static void read_all(size_t row_room, uint64_t should, uint64_t should_at)
+{
+    uint8_t input[2 * 59];
+    struct spop_row *rows = (struct spop_row *)exactly(row_room * sizeof *rows);
+    struct spop_message *messages = (struct spop_message *)exactly(2 * sizeof *messages);
+    struct spop_pair *pairs = (struct spop_pair *)exactly(8 * sizeof *pairs);
+    struct spop_counts counts;
+    uint64_t at, number;
+    size_t read = row_room < 2 ? row_room : 2;
+
+    from_hex(UPLOAD UPLOAD, input);
+    number = spop_get_frames(spop_bytes_of(input, sizeof input), 55, rows, row_room, messages, 2, pairs, 8, &counts, &at);
+    answered("get_frames", number, at, should, should_at);
+    check("get_frames counts", counts.frames == read && counts.messages == read && counts.pairs == 4 * read &&
+          counts.used == 59 * read);
+    for (size_t i = 0; i < read; i++) {
+        check("get_frames gives the row", rows[i].start == 59 * i && rows[i].used == 59 && rows[i].type == SPOP_NOTIFY &&
+              rows[i].stream_id == 1 && rows[i].frame_id == 1 && rows[i].first == i && rows[i].count == 1);
+        check("get_frames gives the message", messages[i].name_start == 12 && messages[i].first_pair == 0 &&
+              messages[i].pair_count == 4);
+        check("get_frames gives the pairs", pairs[4 * i].a == 3 && pairs[4 * i + 2].a == 17);
+    }
+    check("get_frames leaves the room behind", is_all(rows + read, (row_room - read) * sizeof *rows, MARK) &&
+          is_all(messages + read, (2 - read) * sizeof *messages, MARK) && is_all(pairs + 4 * read, (8 - 4 * read) * sizeof *pairs, MARK));
+    free(rows);
+    free(messages);
+    free(pairs);
+}
+
+static void read_all_with_null(void)
+{
+    struct spop_counts counts;
+    uint64_t at, number;
+
+    number = spop_get_frames(spop_bytes_of(NULL, 0), 55, NULL, 0, NULL, 0, NULL, 0, &counts, &at);
+    answered("get_frames of null", number, at, SPOP_WAIT, 4);
+    number = spop_get_frames(spop_bytes_of("\0\0\0\7\1\0\0\0\1\0\0", 11), 7, NULL, 9, NULL, 9, NULL, 9, &counts, &at);
+    answered("get_frames into null that is said to have room", number, at, SPOP_TABLE_FULL, 11);
+    check("get_frames into null has read none", counts.frames == 0 && counts.used == 0);
+}
+
 static void write_frames(void)
 {
     static const char names[] = "slotupload";
@@ -238,6 +285,11 @@ int main(void)
     read_into(0, 4, SPOP_TABLE_FULL, 19);
     read_into(1, 3, SPOP_TABLE_FULL, 59);
     read_with_null();
+    read_all(3, SPOP_WAIT, 4);
+    read_all(2, SPOP_WAIT, 4);
+    read_all(1, SPOP_TABLE_FULL, 59);
+    read_all(0, SPOP_TABLE_FULL, 59);
+    read_all_with_null();
     write_frames();
     versions();
     return checked();

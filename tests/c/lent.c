@@ -138,6 +138,21 @@ uint64_t spop_read_frame(const uint8_t *input, size_t input_len, uint32_t limit,
     return 49;
 }
 
+uint64_t spop_read_frames(const uint8_t *input, size_t input_len, uint32_t limit, uint64_t *rows, size_t rows_len,
+                          uint64_t *messages, size_t messages_len, uint64_t *pairs, size_t pairs_len, uint64_t counts[4],
+                          uint64_t *at)
+{
+    begin();
+    look(input, input_len);
+    count(limit);
+    look(rows, rows_len);
+    look(messages, messages_len);
+    look(pairs, pairs_len);
+    look(counts, 1);
+    look(at, 1);
+    return 56;
+}
+
 uint64_t spop_read_agent_frame(const uint8_t *input, size_t input_len, uint32_t limit, uint64_t *pairs, size_t pairs_len,
                                uint64_t *actions, size_t actions_len, uint64_t head[6], uint64_t *at)
 {
@@ -215,10 +230,10 @@ static void lent(const char *what, uint64_t answer, uint64_t should, uint64_t a,
 }
 
 /* Each helper, with bytes of 5, room of 6 and tables of so many records. */
-static void lend(struct spop_bytes bytes, struct spop_room room, struct spop_message *messages, struct spop_pair *pairs,
-                 struct spop_action *actions, struct spop_announced *versions, bool null)
+static void lend(struct spop_bytes bytes, struct spop_room room, struct spop_row *rows, struct spop_message *messages,
+                 struct spop_pair *pairs, struct spop_action *actions, struct spop_announced *versions, bool null)
 {
-    uint64_t b = null ? 0 : 5, r = null ? 0 : 6;
+    uint64_t b = null ? 0 : 5, r = null ? 0 : 6, f = null ? 0 : 5 * 7;
     uint64_t m = null ? 0 : 2 * 4, p = null ? 0 : 3 * 6, a = null ? 0 : 4 * 8, v = null ? 0 : 2 * 4;
     struct spop_ids ids = spop_ids_of(81, 82);
     struct spop_value value = {0, 0, 0, 0};
@@ -227,6 +242,7 @@ static void lend(struct spop_bytes bytes, struct spop_room room, struct spop_mes
     struct spop_head head;
     uint8_t other[2];
     struct spop_agent_head agent_head;
+    struct spop_counts counts;
     uint64_t n, at;
     bool same;
 
@@ -246,6 +262,7 @@ static void lend(struct spop_bytes bytes, struct spop_room room, struct spop_mes
     lent("put_value", spop_put_value(&value, bytes, room, &at), 47, 1, b, r, 1, 0, 0, 0, 0);
     lent("get_pair", spop_get_pair(bytes, &pair, &at), 48, b, 1, 1, 0, 0, 0, 0, 0);
     lent("get_frame", spop_get_frame(bytes, 99, messages, 2, pairs, 3, &head, &at), 49, b, 99, m, p, 1, 1, 0, 0);
+    lent("get_frames", spop_get_frames(bytes, 99, rows, 5, messages, 2, pairs, 3, &counts, &at), 56, b, 99, f, m, p, 1, 1, 0);
     lent("get_agent_frame", spop_get_agent_frame(bytes, 99, pairs, 3, actions, 4, &agent_head, &at), 55, b, 99, p, a, 1, 1, 0, 0);
     lent("put_kv", spop_put_kv(SPOP_AGENT_HELLO, bytes, pairs, 3, room, 99, &at), 50, 101, 99, b, p, 3, r, 1, 0);
     lent("put_ack", spop_put_ack(ids, bytes, actions, 4, room, 99, &at), 51, 99, b, a, 4, r, 1, 0, 0);
@@ -256,13 +273,14 @@ static void lend(struct spop_bytes bytes, struct spop_room room, struct spop_mes
 int main(void)
 {
     static uint8_t memory[6];
+    static struct spop_row rows[5];
     static struct spop_message messages[2];
     static struct spop_pair pairs[3];
     static struct spop_action actions[4];
     static struct spop_announced versions[2];
 
-    lend(spop_bytes_of(memory, 5), spop_room_of(memory, 6), messages, pairs, actions, versions, false);
-    lend(spop_bytes_of(NULL, 0), spop_room_of(NULL, 0), NULL, NULL, NULL, NULL, true);
-    lend(spop_bytes_of(NULL, 5), spop_room_of(NULL, 6), NULL, NULL, NULL, NULL, true);
+    lend(spop_bytes_of(memory, 5), spop_room_of(memory, 6), rows, messages, pairs, actions, versions, false);
+    lend(spop_bytes_of(NULL, 0), spop_room_of(NULL, 0), NULL, NULL, NULL, NULL, NULL, true);
+    lend(spop_bytes_of(NULL, 5), spop_room_of(NULL, 6), NULL, NULL, NULL, NULL, NULL, true);
     return checked();
 }

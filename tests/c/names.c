@@ -63,6 +63,7 @@ int main(void)
     SHOW(MESSAGE_WIDTH);
     SHOW(PAIR_WIDTH);
     SHOW(ACTION_WIDTH);
+    SHOW(ROW_WIDTH);
     SHOW(VERSION_WIDTH);
     return 0;
 }

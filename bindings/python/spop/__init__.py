@@ -22,13 +22,12 @@ from . import _calls
 
 __version__ = "0.1.0"
 __all__ = [
-    "AGREED_FRAME", "Action", "AgentFrame", "Error", "Flag", "Frame", "FrameType", "Frames", "I32", "I64", "Incomplete", "Kind",
-    "MAX_FRAME",
-    "Message", "MessageRecord", "Pair", "PairRecord", "Records", "Refusal", "Refused", "Scope", "SetVar", "Text", "U32", "U64",
-    "UnsetVar", "Value", "check_value", "decode_varint", "encode_varint", "frames", "is_utf8", "kind_of", "lossy_text",
-    "negotiate_max_frame_size", "negotiate_version", "read_agent_frame", "read_frame", "read_frame_records", "read_pair",
-    "refusal_text", "same_text", "same_text_plain", "typed_data", "value_len", "varint_len", "write_ack", "write_disconnect",
-    "write_hello", "write_kv", "write_notify", "write_value",
+    "AGREED_FRAME", "Action", "AgentFrame", "Error", "Flag", "Frame", "FrameType", "Frames", "FramesRead", "I32", "I64", "Incomplete",
+    "Kind", "MAX_FRAME", "Message", "MessageRecord", "Pair", "PairRecord", "Records", "Refusal", "Refused", "Scope", "SetVar", "Text",
+    "U32", "U64", "UnsetVar", "Value", "check_value", "decode_varint", "encode_varint", "frames", "is_utf8", "kind_of", "lossy_text",
+    "negotiate_max_frame_size", "negotiate_version", "read_agent_frame", "read_frame", "read_frame_records", "read_frames",
+    "read_pair", "refusal_text", "same_text", "same_text_plain", "typed_data", "value_len", "varint_len", "write_ack",
+    "write_disconnect", "write_hello", "write_kv", "write_notify", "write_value",
 ]
 
 _lib = _calls.load()
@@ -339,6 +338,7 @@ def _pair(lent: bytes, start: int, length: int, kind: int, a: int, b: int, flags
 # What is lent to the library. Arrays are of a few sizes, since ctypes makes a type for each.
 
 _Head = c_uint64 * 6
+_Counts = c_uint64 * 4
 _ValueNumbers = c_uint64 * 4
 _PairNumbers = c_uint64 * 6
 _NUMBERS = tuple(c_uint64 * (64 << step) for step in range(22))
@@ -432,7 +432,12 @@ def read_frame(data: Buffer, limit: int = MAX_FRAME, *, max_messages: Optional[i
     """
     lent = _lent(data)
     head, messages, numbers, used = _read(_lib.spop_read_frame, lent, limit, max_messages, max_pairs, _NUMBERS, 6)
-    pairs = [_pair(lent, *numbers[k:k + 6]) for k in range(0, 6 * head[5], 6)]
+    return _frame(lent, head, used, messages, numbers[:6 * head[5]])
+
+
+def _frame(lent: bytes, head: Sequence[int], used: int, messages: List[MessageRecord], numbers: List[int]) -> Frame:
+    """The frame at the front of the bytes, of its type, flags and ids, its messages, and the numbers of its pairs."""
+    pairs = [_pair(lent, *numbers[k:k + 6]) for k in range(0, len(numbers), 6)]
     of_messages = [Message(Text(lent[record.name_start:record.name_start + record.name_len]),
                            pairs[record.first_pair:record.first_pair + record.pair_count]) for record in messages]
     return Frame(FrameType(head[0]), head[1], head[2], head[3], used, of_messages, pairs)
@@ -489,13 +494,79 @@ def _tables(call: Any, lent: bytes, limit: int, first: Tuple[Sequence[Any], int,
         if number != Refusal.TABLE_FULL or room >= max(first[2], second[2]):
             break
         room *= 8
-    if number == Refusal.WAIT:
-        raise Incomplete(at.value)
     if number != Refusal.DONE:
-        refused = Refused(number, at.value)
-        refused.skip = 4 + int.from_bytes(lent[:4], "big")
-        raise refused
+        raise _stopped(lent, number, at.value)
     return head[:], tables[0], tables[1], at.value
+
+
+def _stopped(lent: bytes, number: int, at: int) -> Error:
+    """What the frame at the front of the bytes is answered with, where it is not read."""
+    if number == Refusal.WAIT:
+        return Incomplete(at)
+    refused = Refused(number, at)
+    refused.skip = 4 + int.from_bytes(lent[:4], "big")
+    return refused
+
+
+class FramesRead(NamedTuple):
+    """The frames at the front of some bytes, in their order, and what stopped the reading there.
+
+    `rest` is what is left: it begins with the frame that `stopped` speaks of, an Incomplete (where no byte is left four are missing)
+    or a Refused, which is not raised.
+    """
+
+    frames: List[Frame]
+    rest: bytes
+    stopped: Error
+
+
+# The most rows of one call, and the least bytes of a frame. Of records there are no more than a KV list may have keys.
+_MOST_ROWS = 1024
+_LEAST_FRAME = 11
+
+
+def read_frames(data: Buffer, limit: int = MAX_FRAME) -> FramesRead:
+    """Reads all frames at the front of the bytes, many by each call of the library. Each is read or refused as read_frame does it."""
+    lent, limit, frames = _lent(data), _whole("limit", limit, 32), []
+    while True:
+        read, stopped = _frames_at(lent, limit)
+        frames += read
+        lent = lent[sum(frame.used for frame in read):]
+        if isinstance(stopped, Refused) and stopped.number == Refusal.TABLE_FULL:
+            # No room is left in these tables, which are free again for what is behind the next frame.
+            try:
+                frames.append(read_frame(lent, limit))
+            except Refused as refused:
+                return FramesRead(frames, lent, refused)
+            lent = lent[frames[-1].used:]
+        else:
+            return FramesRead(frames, lent, stopped)
+
+
+def _frames_at(lent: bytes, limit: int) -> Tuple[List[Frame], Error]:
+    """What one call reads, and what stopped it."""
+    room = min(len(lent) // 2, _MOST_KEYS)
+    lengths = [7 * min(len(lent) // _LEAST_FRAME, _MOST_ROWS), 4 * room, 6 * room]
+    rows, messages, pairs = (_array(_NUMBERS, length)() for length in lengths)
+    counts, at = _Counts(), c_uint64()
+    number = _lib.spop_read_frames(lent, len(lent), limit, rows, lengths[0], messages, lengths[1], pairs, lengths[2], counts, at)
+    numbers = [table[:width * count] for table, width, count in zip((rows, messages, pairs), (7, 4, 6), counts)]
+    return _frames_of(lent, *numbers), _stopped(lent[counts[3]:], number, at.value)
+
+
+def _frames_of(lent: bytes, rows: List[int], messages: List[int], pairs: List[int]) -> List[Frame]:
+    """The frames of the rows. A frame's first record is behind those of the frames before it, in each table."""
+    frames, next_message, next_pair = [], 0, 0
+    for k in range(0, len(rows), 7):
+        start, used, type, stream_id, frame_id, _, count = rows[k:k + 7]
+        message_count = count if type == FrameType.NOTIFY else 0
+        records = [MessageRecord(*messages[4 * m:4 * m + 4]) for m in range(next_message, next_message + message_count)]
+        pair_count = sum(record.pair_count for record in records) if type == FrameType.NOTIFY else count
+        frames.append(_frame(lent[start:start + used], (type, Flag.FIN.value, stream_id, frame_id), used, records,
+                             pairs[6 * next_pair:6 * (next_pair + pair_count)]))
+        next_message += message_count
+        next_pair += pair_count
+    return frames
 
 
 class Frames(Iterator[Frame]):

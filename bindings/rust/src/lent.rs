@@ -1,11 +1,13 @@
-//! The calls over lent memory, without allocation. Whatever is lent changes only where the call is done.
+//! The calls over lent memory, without allocation. Whatever is lent changes only where the call is done; of [`read_frames`] by the
+//! frames that are read.
 //!
 //! What each promises and refuses stands in `include/spop.h` and `docs/RULES.md`.
 
 pub use crate::{
     agent::{read_agent_frame, AgentFrame},
+    buffer::{read_frames, Frames, FramesRead},
     records::Data,
-    sys::{Action, Message, Pair},
+    sys::{Action, Message, Pair, Row},
 };
 use crate::{sys, Answer, Argument, FrameType, Metadata, Refusal, Text, ABORT, FIN};
 use core::slice;
@@ -153,11 +155,11 @@ pub fn read_pair(input: &[u8]) -> Result<(Pair, usize), Refusal> {
 /// A frame that was read: its bytes, and its records at the front of the tables that were lent for them.
 #[derive(Clone, Copy, Debug)]
 pub struct Frame<'a> {
-    bytes: &'a [u8],
-    kind: FrameType,
-    metadata: Metadata,
-    messages: &'a [Message],
-    pairs: &'a [Pair],
+    pub(crate) bytes: &'a [u8],
+    pub(crate) kind: FrameType,
+    pub(crate) metadata: Metadata,
+    pub(crate) messages: &'a [Message],
+    pub(crate) pairs: &'a [Pair],
 }
 
 /// What a reader says of a frame besides its records.

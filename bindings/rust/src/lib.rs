@@ -8,6 +8,7 @@ extern crate alloc;
 extern crate std;
 
 mod agent;
+mod buffer;
 #[cfg(feature = "std")]
 mod frames;
 pub mod lent;

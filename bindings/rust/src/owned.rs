@@ -117,6 +117,54 @@ pub fn read_frame(input: &[u8], limit: u32) -> Result<Frame, Answer> {
     Tables::default().read(input, limit).map(Frame::from)
 }
 
+/// The frames at the front of a buffer that were read, and what stopped the reading there.
+#[derive(Clone, Debug, PartialEq, Eq)]
+pub struct FramesRead {
+    /// The frames in the order of the bytes.
+    pub frames: Vec<Frame>,
+    /// How many bytes they have together. What is behind these is the frame that stopped the reading, from where its place counts.
+    pub used: usize,
+    /// What that frame is answered with. Where no byte is left, four are missing.
+    pub stopped: Answer,
+}
+
+/// Reads all frames at the front of `input`, many by each call of [`lent::read_frames`], and one that is too long for its tables as
+/// [`read_frame`] does. So it answers as that does, one frame after the other.
+///
+/// ```
+/// use muleflurry::{owned, Answer, AGREED_FRAME};
+///
+/// let input = b"\0\0\0\x19\x03\0\0\0\x01\x01\x02\x05delay\x02\x04slot\x03\x07\x02ok\x11".repeat(2);
+/// let read = owned::read_frames(&input, AGREED_FRAME);
+/// assert_eq!(read.frames[1].messages[0].name, "delay");
+/// assert_eq!((read.used, read.stopped), (58, Answer::Wait { missing: 4 }));
+/// ```
+pub fn read_frames(input: &[u8], limit: u32) -> FramesRead {
+    let mut tables = Tables::default();
+    // A frame has eleven bytes or more, and a record two.
+    let mut rows = vec![sys::Row::default(); (input.len() / 11).min(256)];
+    let mut messages = vec![sys::Message::default(); (input.len() / 2).min(1024)];
+    let mut pairs = vec![Pair::default(); (input.len() / 2).min(2048)];
+    let (mut frames, mut used) = (Vec::new(), 0);
+    loop {
+        let read = lent::read_frames(&input[used..], limit, &mut rows, &mut messages, &mut pairs);
+        frames.extend(read.frames().map(Frame::from));
+        used += read.used();
+        let mut stopped = read.stopped();
+        if matches!(stopped, Answer::Refused(Refusal { number: Refusal::TABLE_FULL, .. })) {
+            match tables.read(&input[used..], limit) {
+                Ok(frame) => {
+                    used += frame.used();
+                    frames.push(frame.into());
+                    continue;
+                }
+                Err(answer) => stopped = answer,
+            }
+        }
+        return FramesRead { frames, used, stopped };
+    }
+}
+
 /// Tables for the frames that are read one after the other. They grow as a frame needs, and stay so for the next.
 #[derive(Clone, Debug, Default)]
 pub struct Tables {

@@ -1,7 +1,7 @@
 //! Records: how they are made, what they stand for, and tables of them as the numbers that the calls take.
 
 use crate::{
-    sys::{Action, Message, Pair, ACTION_WIDTH, MESSAGE_WIDTH, PAIR_WIDTH, VALUE_WIDTH},
+    sys::{Action, Message, Pair, Row, ACTION_WIDTH, MESSAGE_WIDTH, PAIR_WIDTH, ROW_WIDTH, VALUE_WIDTH},
     ActionType, Argument, Kind, Scope, Text, Value,
 };
 use core::{mem, ops::Range, slice};
@@ -47,6 +47,7 @@ macro_rules! table {
 table!(Pair, PAIR_WIDTH);
 table!(Message, MESSAGE_WIDTH);
 table!(Action, ACTION_WIDTH);
+table!(Row, ROW_WIDTH);
 
 /// A value's four numbers. Of an address, a string and what is binary, `a` is where it starts in a buffer and `b` how many bytes it
 /// has; of any other value `a` is the number and `b` is 0.

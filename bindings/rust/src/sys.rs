@@ -9,6 +9,7 @@ pub const VALUE_WIDTH: usize = 4;
 pub const MESSAGE_WIDTH: usize = 4;
 pub const PAIR_WIDTH: usize = 6;
 pub const ACTION_WIDTH: usize = 8;
+pub const ROW_WIDTH: usize = 7;
 pub const VERSION_WIDTH: usize = 4;
 
 /// A pair's six numbers. `kind`, `a`, `b` and `flags` are its value's, as in [`crate::lent::Data`].
@@ -45,6 +46,20 @@ pub struct Action {
     pub a: u64,
     pub b: u64,
     pub flags: u64,
+}
+
+/// A row's seven numbers: a frame of a buffer, by where it starts there, its bytes, and its records. `first` is an index into the table
+/// of messages for a NOTIFY, and else into that of pairs, and `count` says how many it has there.
+#[repr(C)]
+#[derive(Clone, Copy, Debug, Default, PartialEq, Eq)]
+pub struct Row {
+    pub start: u64,
+    pub used: u64,
+    pub kind: u64,
+    pub stream_id: u64,
+    pub frame_id: u64,
+    pub first: u64,
+    pub count: u64,
 }
 
 extern "C" {
@@ -111,6 +126,20 @@ extern "C" {
         pairs: *mut Pair,
         pairs_len: usize,
         head: *mut [u64; 6],
+        at: *mut u64,
+    ) -> u64;
+
+    pub fn spop_read_frames(
+        input: *const u8,
+        input_len: usize,
+        limit: u32,
+        rows: *mut u64,
+        rows_len: usize,
+        messages: *mut u64,
+        messages_len: usize,
+        pairs: *mut u64,
+        pairs_len: usize,
+        counts: *mut [u64; 4],
         at: *mut u64,
     ) -> u64;
 

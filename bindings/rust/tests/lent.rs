@@ -1,7 +1,7 @@
 //! Every call over lent memory, with bytes that are worked out by hand from docs/RULES.md.
 
 use muleflurry::{
-    lent::{self, Action, Data, Message, Pair},
+    lent::{self, Action, Data, Message, Pair, Row},
     refusal_text, Answer, FrameType, Kind, Metadata, Refusal, Scope, Text, Value, AGREED_FRAME, MAX_FRAME,
 };
 
@@ -384,6 +384,60 @@ fn a_notify_is_read_in_order() {
         assert_eq!(frame.pair_records()[0], Pair::new(15..19, Data::u32(17)));
         assert_eq!((messages[3], pairs[4]), (UNTOUCHED, UNTOUCHED_PAIR));
     }
+}
+
+/// A hello of a pair, a NOTIFY of two messages, one without any, and a disconnect without a pair.
+fn buffer() -> Vec<u8> {
+    [frame(1, b"\x01k\x00"), frame(3, b"\x01m\x02\x01a\x03\x07\x01b\x11\x01n\x00"), frame(3, b""), frame(2, b"")].concat()
+}
+
+#[test]
+fn a_buffer_is_read_in_order() {
+    let input = [buffer(), vec![0; 3]].concat();
+    let (mut rows, mut messages, mut pairs) = ([Row::default(); 5], [Message::default(); 3], [Pair::default(); 4]);
+    let read = lent::read_frames(&input, 20, &mut rows, &mut messages, &mut pairs);
+    assert_eq!((read.used(), read.rest(), read.stopped()), (60, &[0; 3][..], Answer::Wait { missing: 1 }));
+    let row = |start, used, kind, first, count| Row { start, used, kind, stream_id: 1, frame_id: 2, first, count };
+    assert_eq!(read.rows(), [row(0, 14, 1, 0, 1), row(14, 24, 3, 0, 2), row(38, 11, 3, 2, 0), row(49, 11, 2, 3, 0)]);
+    assert_eq!(read.message_records(), [Message::new(12..13, 0..2), Message::new(22..23, 2..2)]);
+    assert_eq!((read.pair_records().len(), read.frames().len()), (3, 4));
+    let mut rest = &input[..];
+    for frame in read.frames() {
+        let (mut messages, mut pairs) = ([Message::default(); 2], [Pair::default(); 2]);
+        let alone = lent::read_frame(rest, 20, &mut messages, &mut pairs).unwrap();
+        assert_eq!((frame.kind(), frame.metadata(), frame.bytes()), (alone.kind(), alone.metadata(), alone.bytes()));
+        assert_eq!((frame.message_records(), frame.pair_records()), (alone.message_records(), alone.pair_records()));
+        rest = &rest[frame.used()..];
+    }
+    let names: Vec<_> =
+        read.frames().flat_map(|frame| frame.messages()).map(|(name, arguments)| (name, arguments.len())).collect();
+    assert_eq!(names, [(Text(&b"m"[..]), 2), (Text(&b"n"[..]), 0)]);
+}
+
+#[test]
+fn a_buffer_stops_where_there_is_no_room_or_a_frame_is_refused() {
+    let full = |place| Answer::Refused(refused(Refusal::TABLE_FULL, place));
+    let read = |input: &[u8], rooms: [usize; 3]| {
+        let (mut rows, mut messages, mut pairs) = ([Row::default(); 4], [Message::default(); 2], [Pair::default(); 3]);
+        let tables = (&mut rows[..rooms[0]], &mut messages[..rooms[1]], &mut pairs[..rooms[2]]);
+        let read = lent::read_frames(input, 20, tables.0, tables.1, tables.2);
+        let left = (read.frames().len(), read.used(), read.stopped());
+        let (frames, of_messages, of_pairs) = (left.0, read.message_records().len(), read.pair_records().len());
+        assert!(rows[frames..].iter().all(|row| *row == Row::default()));
+        assert!(messages[of_messages..].iter().all(|message| *message == Message::default()));
+        assert!(pairs[of_pairs..].iter().all(|pair| *pair == Pair::default()));
+        left
+    };
+    let mut input = buffer();
+    assert_eq!(read(&input, [4, 2, 3]), (4, 60, Answer::Wait { missing: 4 }));
+    assert_eq!(read(&input, [3, 2, 3]), (3, 49, full(11)));
+    assert_eq!(read(&input, [0, 2, 3]), (0, 0, full(14)));
+    assert_eq!(read(&input, [4, 1, 3]), (1, 14, full(24)));
+    assert_eq!(read(&input, [4, 2, 2]), (1, 14, full(21)));
+    assert_eq!(read(&input[..59], [3, 2, 3]), (3, 49, Answer::Wait { missing: 1 }));
+    assert_eq!(read(&[], [0, 0, 0]), (0, 0, Answer::Wait { missing: 4 }));
+    input[53] = 4;
+    assert_eq!(read(&input, [3, 2, 3]), (3, 49, Answer::Refused(refused(Refusal::UNKNOWN, 4))));
 }
 
 #[test]

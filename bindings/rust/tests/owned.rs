@@ -1,7 +1,10 @@
 //! Frames that own their bytes, builders, and the frames of a stream.
 
 use muleflurry::{
-    owned::{frames, read_frame, Ack, Action, Argument, Frame, Kv, Message, Notify, StreamError, Tables, Text, Value},
+    owned::{
+        frames, read_frame, read_frames, Ack, Action, Argument, Frame, FramesRead, Kv, Message, Notify, StreamError, Tables,
+        Text, Value,
+    },
     Answer, FrameType, Metadata, Refusal, Scope, AGREED_FRAME, MAX_FRAME,
 };
 use std::io::{self, Read};
@@ -189,6 +192,35 @@ fn a_kv_list_of_the_agreed_size_has_room() {
     let payload: Vec<u8> = pairs.take(AGREED_FRAME as usize - 7).collect();
     let read = read_frame(&frame(1, &payload), AGREED_FRAME).unwrap();
     assert_eq!((read.pairs.len(), read.used), (1 + 129 + 3997, AGREED_FRAME as usize + 4));
+}
+
+#[test]
+fn a_buffer_is_read_as_its_frames_are() {
+    let many = frame(3, &[&[0, 255][..], &b"\x00\x00".repeat(255)].concat().repeat(20));
+    let sorts = [
+        frame(3, b"\x01m\x02\x01a\x03\x07\x01b\x11\x01n\x00"),
+        frame(3, b""),
+        frame(1, b"\x01a\x00\x01b\x00"),
+        frame(2, b""),
+        many,
+    ];
+    let most = Tables::MOST_KEYS;
+    // Of the short ones more than a call has room for; all of them in turn; and a list of as many keys as there may be.
+    let mut buffers: Vec<Vec<Vec<u8>>> = sorts[..4].iter().map(|sort| vec![sort.clone(); 1100]).collect();
+    buffers.push(sorts.iter().cloned().cycle().take(23).collect());
+    buffers.push(vec![sorts[0].clone(), keys(most), sorts[0].clone()]);
+    for frames in buffers {
+        let input = [frames.concat(), sorts[0][..9].to_vec()].concat();
+        let read = read_frames(&input, MAX_FRAME);
+        let one_by_one: Vec<Frame> = frames.iter().map(|frame| read_frame(frame, MAX_FRAME).unwrap()).collect();
+        assert!(read.frames == one_by_one);
+        assert_eq!((read.used, read.stopped), (input.len() - 9, Answer::Wait { missing: sorts[0].len() - 9 }));
+    }
+    let input = [sorts[0].clone(), keys(most + 1), sorts[0].clone()].concat();
+    let read = read_frames(&input, MAX_FRAME);
+    let full = Answer::Refused(refused(Refusal::TABLE_FULL, 11 + 5 * (most + 1)));
+    assert_eq!((read.frames.len(), read.used, read.stopped), (1, sorts[0].len(), full));
+    assert_eq!(read_frames(&[], MAX_FRAME), FramesRead { frames: vec![], used: 0, stopped: Answer::Wait { missing: 4 } });
 }
 
 #[test]

@@ -213,6 +213,26 @@ calls! {
         agreed(number, same && some.is(messages) && others.is(pairs))
     }
 
+    pub fn read_frames(
+        input: &[u8],
+        limit: u32,
+        rows: &mut [u64],
+        messages: &mut [u64],
+        pairs: &mut [u64],
+        counts: &mut [u64; 4],
+        at: &mut u64,
+    ) -> u64 {
+        let mut copies = [Copied::of(rows), Copied::of(messages), Copied::of(pairs)];
+        let number = port::read_frames(input, limit, rows, messages, pairs, counts, at);
+        let [some, others, more] = copies.each_mut().map(Copied::lent);
+        let tables = (Row::table_mut(some), Message::table_mut(others), Pair::table_mut(more));
+        let safe = lent::read_frames(input, limit, tables.0, tables.1, tables.2);
+        let same = told_of_frames(&safe) == (number, *at, *counts)
+            && safe.frames().all(|frame| walked(&frame))
+            && owned_frames_so(input, limit, &safe);
+        agreed(number, same && copies[0].is(rows) && copies[1].is(messages) && copies[2].is(pairs))
+    }
+
     pub fn read_agent_frame(
         input: &[u8],
         limit: u32,
@@ -254,7 +274,7 @@ mod with_the_crate {
     use muleflurry::{ABORT, Answer, Argument, FIN, Metadata, Scope, Value};
     pub use muleflurry::{
         FrameType, Refusal, Text,
-        lent::{self, Action, Data, Message, Pair},
+        lent::{self, Action, Data, Message, Pair, Row},
         owned,
     };
 
@@ -301,6 +321,13 @@ mod with_the_crate {
         let counts = |frame: &lent::AgentFrame| [frame.pair_records().len(), frame.action_records().len()];
         let read = answer.map(|frame| (frame.used(), head(frame.kind(), frame.metadata(), counts(&frame))));
         told_of_head(read, before)
+    }
+
+    /// What stopped the reading of a buffer, and the four counts.
+    pub fn told_of_frames(read: &lent::FramesRead) -> (u64, u64, [u64; 4]) {
+        let counts = [read.frames().len(), read.message_records().len(), read.pair_records().len(), read.used()];
+        let (number, at, _) = told_of_head(Err(read.stopped()), [0; 6]);
+        (number, at, counts.map(|count| count as u64))
     }
 
     fn told_of_head(read: Result<(usize, [u64; 6]), Answer>, before: [u64; 6]) -> (u64, u64, [u64; 6]) {
@@ -416,6 +443,18 @@ mod with_the_crate {
             (Err(owned), Err(answer)) => owned == answer,
             _ => false,
         }
+    }
+
+    /// Whether the crate reads the same frames of a buffer into tables of its own, and goes on where these had no room.
+    pub fn owned_frames_so(input: &[u8], limit: u32, safe: &lent::FramesRead) -> bool {
+        let owned = owned::read_frames(input, limit);
+        let full = matches!(safe.stopped(), Answer::Refused(refusal) if refusal.number == Refusal::TABLE_FULL);
+        let all = owned.frames.len() == safe.frames().len();
+        owned.frames.iter().zip(safe.frames()).all(|(owned, frame)| is_owned(owned, &frame))
+            && match full {
+                true => owned.frames.len() > safe.frames().len() || all && owned.stopped != safe.stopped(),
+                false => all && (owned.used, owned.stopped) == (safe.used(), safe.stopped()),
+            }
     }
 
     fn is_owned(owned: &owned::Frame, frame: &lent::Frame) -> bool {

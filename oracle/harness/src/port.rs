@@ -9,6 +9,7 @@ pub const VALUE_WIDTH: usize = 4;
 pub const MESSAGE_WIDTH: usize = 4;
 pub const PAIR_WIDTH: usize = 6;
 pub const ACTION_WIDTH: usize = 8;
+pub const ROW_WIDTH: usize = 7;
 pub const VERSION_WIDTH: usize = 4;
 
 /// Gives each call its body. A build without the library gets calls that are never to be reached.
@@ -252,6 +253,33 @@ calls! {
                 pairs.as_mut_ptr(),
                 pairs.len(),
                 head,
+                at,
+            )
+        }
+    }
+
+    pub fn read_frames(
+        input: &[u8],
+        limit: u32,
+        rows: &mut [u64],
+        messages: &mut [u64],
+        pairs: &mut [u64],
+        counts: &mut [u64; 4],
+        at: &mut u64,
+    ) -> u64 {
+        // SAFETY: each slice is lent with its length, there are four counts, and nothing lent overlaps.
+        unsafe {
+            sys::spop_read_frames(
+                input.as_ptr(),
+                input.len(),
+                limit,
+                rows.as_mut_ptr(),
+                rows.len(),
+                messages.as_mut_ptr(),
+                messages.len(),
+                pairs.as_mut_ptr(),
+                pairs.len(),
+                counts,
                 at,
             )
         }

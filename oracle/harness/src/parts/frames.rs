@@ -113,7 +113,7 @@ fn examples(met: &mut Met) -> Result<(), Difference> {
 }
 
 /// Frames that a HAProxy sent, all of them whole.
-const FROM_HAPROXY: &[u8] = include_bytes!("../../../../examples/haproxy/frames.bin");
+pub const FROM_HAPROXY: &[u8] = include_bytes!("../../../../examples/haproxy/frames.bin");
 
 /// These read one after the other, with what stands behind them, and each in tables that are just enough and too small.
 fn from_haproxy(met: &mut Met) -> Result<(), Difference> {
@@ -354,7 +354,7 @@ fn at_an_edge(random: &mut Random, call: &Call, read: &Read) -> Call {
 // ---------------------------------------------------------------- timing
 
 /// The limit of the Rust's `parse_frame`.
-const LIMIT: u32 = 1_048_576;
+pub const LIMIT: u32 = 1_048_576;
 
 pub fn bench(_: &mut Random) {
     time("read_frame, upload", &upload(1));
@@ -448,7 +448,7 @@ pub fn port_reads(buffer: &[u8], frames: usize) -> impl FnMut() {
     }
 }
 
-fn rust_reads(buffer: &[u8], frames: usize) -> impl FnMut() {
+pub fn rust_reads(buffer: &[u8], frames: usize) -> impl FnMut() {
     let rust_read: fn(&[u8]) -> IResult<&[u8], Box<dyn SpopFrame>> = black_box(rust_read);
     move || {
         let mut rest = black_box(buffer);

@@ -40,6 +40,7 @@ parts! {
     agent,
     notify,
     frames,
+    buffer,
     laws,
     inverse,
     listing at most 1_000,

@@ -20,7 +20,7 @@ pub fn pattern<const N: usize>() -> [u64; N] {
     std::array::from_fn(untouched)
 }
 
-fn table(length: usize) -> Vec<u64> {
+pub fn table(length: usize) -> Vec<u64> {
     (0..length + BEHIND).map(untouched).collect()
 }
 
@@ -123,7 +123,7 @@ pub fn keys_rise(pairs: &[u64]) -> bool {
         .is_sorted_by(|one, next| one[0] < next[0])
 }
 
-fn put(table: &mut [u64], records: &[u64]) {
+pub fn put(table: &mut [u64], records: &[u64]) {
     table[..records.len()].copy_from_slice(records);
 }
 

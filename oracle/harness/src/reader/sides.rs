@@ -51,12 +51,17 @@ fn compare(call: &Call) -> Result<Read, Difference> {
         let rows = call.difference().row("port, as records", records);
         return Err(rows.row("paper", expected));
     }
-    let endless = (paper.number == TABLE_FULL).then(|| call.by_paper_without_end());
-    match endless.as_ref().unwrap_or(&paper) {
-        read if read.number == NOT_FITTING => compare_before_tenth(call, read)?,
-        read => compare_with_rust(call, read)?,
-    }
+    compare_paper(call, &paper)?;
     Ok(paper)
+}
+
+/// Holds what the paper reads to the Rust.
+pub fn compare_paper(call: &Call, paper: &Read) -> Result<(), Difference> {
+    let endless = (paper.number == TABLE_FULL).then(|| call.by_paper_without_end());
+    match endless.as_ref().unwrap_or(paper) {
+        read if read.number == NOT_FITTING => compare_before_tenth(call, read),
+        read => compare_with_rust(call, read),
+    }
 }
 
 fn compare_with_rust(call: &Call, read: &Read) -> Result<(), Difference> {
