@@ -398,6 +398,23 @@ uint64_t spop_read_frame(const uint8_t *input, size_t input_len, uint32_t limit,
 uint64_t spop_read_frame_records(const uint8_t *input, size_t input_len, uint32_t limit, uint64_t *messages, size_t messages_len,
                                  struct spop_pair *pairs, size_t pairs_len, uint64_t head[6], uint64_t *at);
 
+/* Reads the frame at the front of input, one that an agent sends: an AGENT-HELLO (type 101) or an AGENT-DISCONNECT (102), which hold
+ * a KV list, or an ACK (103), which holds actions. It answers as spop_read_frame does, with these changes: 6 is for types 1 to 3, and
+ * where spop_read_frame has messages, in an ACK there is for each action in turn:
+ *
+ *     3              its action byte, its argument count or its scope is missing; *at: the frame's end
+ *    18              its action byte is neither 1 nor 2, its argument count is not 3 for a set and 2 for an unset, or its scope is above
+ *                    4: each byte is tested before the next is asked for; *at: right after it
+ *     3, 7, 8, 19    its name, or then a set's value, cannot be read
+ *    10              actions has no room for it; *at: right after it
+ *
+ * After 0, head is the type, the flags, the stream id, the frame id, how many pairs there are, and how many actions. An action has eight
+ * numbers: 1 for set or 2 for unset, scope, name start, name length, and a value's kind, a, b and flags, which are 0 for unset. A KV
+ * list has no actions, and an ACK no pairs. pairs has room for pairs_len / 6 pairs, and actions for actions_len / 8 actions, rounded
+ * down. */
+uint64_t spop_read_agent_frame(const uint8_t *input, size_t input_len, uint32_t limit, uint64_t *pairs, size_t pairs_len,
+                               uint64_t *actions, size_t actions_len, uint64_t head[6], uint64_t *at);
+
 /* Reads all frames at the front of input, a receive buffer in one call: one after the other as spop_read_frame does, each from where
  * the one before it ended, with the same limit and with the room that is left in the tables. It ends at the frame that is not read,
  * if only since there is no byte left, and answers what stopped it, so never 0:
@@ -427,23 +444,6 @@ uint64_t spop_read_frame_records(const uint8_t *input, size_t input_len, uint32_
 uint64_t spop_read_frames(const uint8_t *input, size_t input_len, uint32_t limit, uint64_t *rows, size_t rows_len,
                           uint64_t *messages, size_t messages_len, uint64_t *pairs, size_t pairs_len, uint64_t counts[4],
                           uint64_t *at);
-
-/* Reads the frame at the front of input, one that an agent sends: an AGENT-HELLO (type 101) or an AGENT-DISCONNECT (102), which hold
- * a KV list, or an ACK (103), which holds actions. It answers as spop_read_frame does, with these changes: 6 is for types 1 to 3, and
- * where spop_read_frame has messages, in an ACK there is for each action in turn:
- *
- *     3              its action byte, its argument count or its scope is missing; *at: the frame's end
- *    18              its action byte is neither 1 nor 2, its argument count is not 3 for a set and 2 for an unset, or its scope is above
- *                    4: each byte is tested before the next is asked for; *at: right after it
- *     3, 7, 8, 19    its name, or then a set's value, cannot be read
- *    10              actions has no room for it; *at: right after it
- *
- * After 0, head is the type, the flags, the stream id, the frame id, how many pairs there are, and how many actions. An action has eight
- * numbers: 1 for set or 2 for unset, scope, name start, name length, and a value's kind, a, b and flags, which are 0 for unset. A KV
- * list has no actions, and an ACK no pairs. pairs has room for pairs_len / 6 pairs, and actions for actions_len / 8 actions, rounded
- * down. */
-uint64_t spop_read_agent_frame(const uint8_t *input, size_t input_len, uint32_t limit, uint64_t *pairs, size_t pairs_len,
-                               uint64_t *actions, size_t actions_len, uint64_t head[6], uint64_t *at);
 
 /* The writers of frames take records in a table of numbers, so many of them, whose starts count in buffer; and a limit for the
  * frame's length without its four length bytes. They answer, the first of these that holds: 14 for the metadata (type, flags and

@@ -129,6 +129,18 @@ extern "C" {
         at: *mut u64,
     ) -> u64;
 
+    pub fn spop_read_agent_frame(
+        input: *const u8,
+        input_len: usize,
+        limit: u32,
+        pairs: *mut u64,
+        pairs_len: usize,
+        actions: *mut u64,
+        actions_len: usize,
+        head: *mut [u64; 6],
+        at: *mut u64,
+    ) -> u64;
+
     pub fn spop_read_frames(
         input: *const u8,
         input_len: usize,
@@ -140,18 +152,6 @@ extern "C" {
         pairs: *mut u64,
         pairs_len: usize,
         counts: *mut [u64; 4],
-        at: *mut u64,
-    ) -> u64;
-
-    pub fn spop_read_agent_frame(
-        input: *const u8,
-        input_len: usize,
-        limit: u32,
-        pairs: *mut u64,
-        pairs_len: usize,
-        actions: *mut u64,
-        actions_len: usize,
-        head: *mut [u64; 6],
         at: *mut u64,
     ) -> u64;
 
