@@ -4,7 +4,7 @@ use mathlib.Core.Path.{_≡_, refl, sym, ap, ap₂, subst, _∙_}
 use mathlib.Core.List.{List, [], _∷_, _++_, append-assoc}
 use Prim.Native.Nat.{ℕ, suc, _+_, _-_, _*_, _/_}
 use native.Mathlib.Omega.{arith}
-use lib.ListN.{length, take, drop, length-drop}
+use lib.ListN.{length, take, drop, length-append, length-drop}
 use lib.Seq.{take-at, drop-at}
 use Rattle.answer.specs.Answer.{done, refused}
 use Rattle.answer.specs.Table.{joined}
@@ -20,14 +20,16 @@ use Rattle.payload.specs.Promise.{roomsOf, countsOf, tableLeft}
 use Rattle.parser.specs.declared.FrameRead.{FrameRead}
 use Rattle.parser.specs.declared.FrameRead.the-variants as f
 use Rattle.parser.specs.Frame.{frameRead}
-use Rattle.parser.specs.Promise.{frameTells, contentsRead, ReadFrame}
+use Rattle.parser.specs.Promise.{frameSaid, frameTells, contentsRead, ReadFrame}
 use Rattle.parser.proofs.Unique.{frame-same}
+use Rattle.parser.proofs.Entries.{said-done}
 use Rattle.buffer.specs.declared.Totals.{Totals}
 use Rattle.buffer.specs.declared.Stop.{Stop}
 use Rattle.buffer.specs.declared.Stop.the-variants as stop
 use Rattle.buffer.specs.declared.FramesRead.{FramesRead}
-use Rattle.buffer.specs.Buffer.{FrameIn, FramesIn, noneRead, withRead, roomBehind, readBehind, framesFrom, rowWidth}
+use Rattle.buffer.specs.Buffer.{FrameIn, FramesIn, noneRead, withRead, roomBehind, readBehind, framesFrom, rowWidth, rowNumbers}
 use Rattle.buffer.specs.Promise.{framesIn, messagesIn, pairsIn, ReadFrames}
+use Rattle.buffer.specs.Inner.{stopOf}
 use Rattle.buffer.proofs.From.{by-frames}
 use Rattle.buffer.proofs.Going.{longer, messages-long, pairs-long}
 
@@ -99,12 +101,28 @@ module _ (numbers : FrameIn → List ℕ) (width : ℕ) (count : FrameIn → ℕ
       ∙ ap (λ (l : List ℕ). front ++ l) (append-assoc (numbers y) (joined numbers ys) rest) in
       let next = withRead x (y .contents) (y .used) in (
         ap₂ (λ (n : ℕ) (l : List ℕ). take (count y * width) (drop (n * width) l)) (ap read e) parts
-        ∙ ap (take (count y * width)) (drop-at front (numbers y ++ (joined numbers ys ++ rest)) (read x * width) many)
-        ∙ take-at (numbers y) (joined numbers ys ++ rest) (count y * width) (long y),
+            ∙ ap (take (count y * width)) (drop-at front (numbers y ++ (joined numbers ys ++ rest)) (read x * width) many)
+            ∙ take-at (numbers y) (joined numbers ys ++ rest) (count y * width) (long y),
         subst (λ (l : List FrameIn). Each (Stands numbers width count read (joined numbers l ++ rest)) ys) (append-assoc before (y ∷ []) ys)
-        (stand next ys end more (before ++ (y ∷ []))
-        (longer numbers before y ∙ ap₂ _+_ many (long y) ∙ sum (read x) (count y) ∙ ap (λ (n : ℕ). n * width) (sym (on x y))) rest),
+            (stand next ys end more (before ++ (y ∷ []))
+            (longer numbers before y ∙ ap₂ _+_ many (long y) ∙ sum (read x) (count y) ∙ ap (λ (n : ℕ). n * width) (sym (on x y))) rest),
       )
+
+  -- and how many numbers all have, by how much was read
+  pub follow-long : (x : Totals) (ys : List FrameIn) (end : Totals) → Follow x ys end → read x * width + length (joined numbers ys) ≡ read end * width
+  follow-long x [] end e = plus (read x * width) (length (joined numbers [])) (ap length (joined-none numbers)) ∙ ap (λ (z : Totals). read z * width) e
+    where
+      plus : (a b : ℕ) → b ≡ 0 → a + b ≡ a
+      plus a b e = omega arith
+  follow-long x (y ∷ ys) end (e, more) =
+      let l = length (joined numbers ys) in
+      ap (λ (n : ℕ). read x * width + n) (ap length (joined-on numbers y ys) ∙ length-append (numbers y) (joined numbers ys) ∙ ap (λ (n : ℕ). n + l) (long y))
+      ∙ three (read x * width) (count y * width) l
+      ∙ ap (λ (n : ℕ). n + l) (sum (read x) (count y) ∙ ap (λ (n : ℕ). n * width) (sym (on x y)))
+      ∙ follow-long (withRead x (y .contents) (y .used)) ys end more
+    where
+      three : (a b c : ℕ) → a + (b + c) ≡ a + b + c
+      three a b c = omega arith
 
 module _ (input : List ℕ) (limit : ℕ) (r : FramesRead) (oldRows newRows oldMessages newMessages oldPairs newPairs : List ℕ)
     (p : ReadFrames input limit r oldRows newRows oldMessages newMessages oldPairs newPairs) where
@@ -138,6 +156,13 @@ module _ (input : List ℕ) (limit : ℕ) (r : FramesRead) (oldRows newRows oldM
   abbrev manyPairs : FrameIn → ℕ
   manyPairs y = length (y .contents .pairs)
 
+  -- Law: each frame's row stands in its table behind those of the frames before it.
+  pub rows-stand : Each (Stands rowNumbers rowWidth (λ y. 1) (λ x. x .frames) newRows) framesOf
+  rows-stand =
+      subst (λ (l : List ℕ). Each (Stands rowNumbers rowWidth (λ y. 1) (λ x. x .frames) l) framesOf) (sym (p .rows))
+      (stand rowNumbers rowWidth (λ y. 1) (λ x. x .frames) (λ y. refl) (λ x y. refl) (λ a b. omega arith) noneRead framesOf _
+      (frames-follow limit rooms input (length oldRows / rowWidth) noneRead) [] (ap length (joined-none rowNumbers)) _)
+
   messages-stand : Each (Stands messagesIn messageWidth manyMessages (λ x. x .messages) newMessages) framesOf
   messages-stand =
       subst (λ (l : List ℕ). Each (Stands messagesIn messageWidth manyMessages (λ x. x .messages) l) framesOf) (sym (p .messages))
@@ -149,6 +174,35 @@ module _ (input : List ℕ) (limit : ℕ) (r : FramesRead) (oldRows newRows oldM
       subst (λ (l : List ℕ). Each (Stands pairsIn pairWidth manyPairs (λ x. x .pairs) l) framesOf) (sym (p .pairs))
       (stand pairsIn pairWidth manyPairs (λ x. x .pairs) pairs-long (λ x y. refl) (λ a b. omega arith) noneRead framesOf _
       (frames-follow limit rooms input (length oldRows / rowWidth) noneRead) [] (ap length (joined-none pairsIn)) _)
+
+  -- what the single reader gives behind what was read, lent the tables from there on
+  lent-read : (b : Totals)
+      → frameRead side.HAProxy limit (roomsOf (drop (b .messages * messageWidth) oldMessages) (drop (b .pairs * pairWidth) oldPairs) []) (drop (b .bytes) input) ≡ readBehind limit rooms input b
+  lent-read b =
+      let m : length (drop (b .messages * messageWidth) oldMessages) / messageWidth ≡ length oldMessages / messageWidth - b .messages =
+      omega (arith, length-drop (b .messages * messageWidth) oldMessages) in
+      let n : length (drop (b .pairs * pairWidth) oldPairs) / pairWidth ≡ length oldPairs / pairWidth - b .pairs = omega (arith, length-drop (b .pairs * pairWidth) oldPairs) in
+      ap (λ (k : Counts). frameRead side.HAProxy limit k (drop (b .bytes) input)) (ap₂ (λ (i j : ℕ). record { messages = i; pairs = j; actions = 0 }) m n)
+
+  -- Law: the same of the calls. What stopped it is what `read_frame` says where the last row ended, lent the tables from where the records end; where that accepts a
+  -- frame, it is 10 behind the frame, and no row is left.
+  pub stop-call : (q : FrameRead) (nextMessages nextPairs : List ℕ)
+      → ReadFrame (drop (r .totals .bytes) input) limit q (drop (r .totals .messages * messageWidth) oldMessages) nextMessages (drop (r .totals .pairs * pairWidth) oldPairs) nextPairs
+      → (r .stop ≡ stopOf q) × ((h : Head) (k : Counts) (used : ℕ) → q ≡ f.Done h k used → r .totals .frames ≡ length oldRows / rowWidth)
+  stop-call q nextMessages nextPairs call =
+      let x = readBehind limit rooms input (r .totals) in
+      let says : frameSaid q ≡ frameTells x = call .says ∙ ap frameTells (lent-read (r .totals)) in
+      (stops-as x q says stop-single, λ h k used is. stops-full x (said-done x h k used (ap frameSaid (sym is) ∙ says)) stop-single)
+    where
+      stops-as : (x : Reading (Head × Contents)) (q : FrameRead) → frameSaid q ≡ frameTells x
+          → StopsBy (r .totals .frames ≡ length oldRows / rowWidth) x (r .stop) → r .stop ≡ stopOf q
+      stops-as (wait missing) q e h = h ∙ ap stopOf (sym (frame-same q (f.Wait missing) e))
+      stops-as (answered (refused number place)) q e h = h ∙ ap stopOf (sym (frame-same q (f.Refused (record { number = number; place = place })) e))
+      stops-as (answered (done (g, c) used)) q e h = h .0 ∙ ap stopOf (sym (frame-same q (f.Done g (countsOf c) used) e))
+
+      stops-full : (x : Reading (Head × Contents)) {g : Head} {k : Counts} {used : ℕ} → (c : Contents) × (x ≡ answered (done (g, c) used)) × (countsOf c ≡ k)
+          → StopsBy (r .totals .frames ≡ length oldRows / rowWidth) x (r .stop) → r .totals .frames ≡ length oldRows / rowWidth
+      stops-full x (c, e, same) h = (rw e at h) .1
 
   -- The single call where a frame starts, lent the tables from where the earlier records end: it says what the row does, and leaves the same numbers.
   abbrev pub SameCall : FrameIn → Type 0
@@ -165,20 +219,16 @@ module _ (input : List ℕ) (limit : ℕ) (r : FramesRead) (oldRows newRows oldM
       let b = y .before in
       let lentMessages = drop (b .messages * messageWidth) oldMessages in
       let lentPairs = drop (b .pairs * pairWidth) oldPairs in
-      let m : length lentMessages / messageWidth ≡ length oldMessages / messageWidth - b .messages = omega (arith, length-drop (b .messages * messageWidth) oldMessages) in
-      let n : length lentPairs / pairWidth ≡ length oldPairs / pairWidth - b .pairs = omega (arith, length-drop (b .pairs * pairWidth) oldPairs) in
-      let same : roomsOf lentMessages lentPairs [] ≡ roomBehind rooms b = ap₂ (λ (i j : ℕ). record { messages = i; pairs = j; actions = 0 }) m n in
-      let is : frameRead side.HAProxy limit (roomsOf lentMessages lentPairs []) (drop (b .bytes) input) ≡ answered (done (y .head, y .contents) (y .used)) =
-      ap (λ (k : Counts). frameRead side.HAProxy limit k (drop (b .bytes) input)) same ∙ single in (
+      let is : frameRead side.HAProxy limit (roomsOf lentMessages lentPairs []) (drop (b .bytes) input) ≡ answered (done (y .head, y .contents) (y .used)) = lent-read b ∙ single in (
         frame-same q (f.Done (y .head) (countsOf (y .contents)) (y .used)) (call .says ∙ ap frameTells is),
         ap (take (manyMessages y * messageWidth))
-        (call .fills .messages ∙ ap (λ (x : Reading (Head × Contents)). tableLeft messageNumbers (λ c. c .messages) (contentsRead x) lentMessages) is)
-        ∙ take-at (messagesIn y) _ (manyMessages y * messageWidth) (messages-long y)
-        ∙ sym inMessages,
+            (call .fills .messages ∙ ap (λ (x : Reading (Head × Contents)). tableLeft messageNumbers (λ c. c .messages) (contentsRead x) lentMessages) is)
+            ∙ take-at (messagesIn y) _ (manyMessages y * messageWidth) (messages-long y)
+            ∙ sym inMessages,
         ap (take (manyPairs y * pairWidth))
-        (call .fills .pairs ∙ ap (λ (x : Reading (Head × Contents)). tableLeft pairNumbers (λ c. c .pairs) (contentsRead x) lentPairs) is)
-        ∙ take-at (pairsIn y) _ (manyPairs y * pairWidth) (pairs-long y)
-        ∙ sym inPairs,
+            (call .fills .pairs ∙ ap (λ (x : Reading (Head × Contents)). tableLeft pairNumbers (λ c. c .pairs) (contentsRead x) lentPairs) is)
+            ∙ take-at (pairsIn y) _ (manyPairs y * pairWidth) (pairs-long y)
+            ∙ sym inPairs,
       )
 
   -- Law: each frame that was read is what the single definition gives at its start with the room that was left there, and so of the calls.
@@ -192,3 +242,21 @@ module _ (input : List ℕ) (limit : ℕ) (r : FramesRead) (oldRows newRows oldM
           → Each (Stands pairsIn pairWidth manyPairs (λ x. x .pairs) newPairs) ys → Each SameCall ys
       each-three [] a b c = tt
       each-three (y ∷ ys) a b c = (same-call y (a .0) (b .0) (c .0), each-three ys (a .1) (b .1) (c .1))
+
+  -- how many numbers all rows have, all messages, and all pairs
+  pub many-numbers : (length (joined rowNumbers framesOf) ≡ r .totals .frames * rowWidth)
+      × (length (joined messagesIn framesOf) ≡ r .totals .messages * messageWidth)
+      × (length (joined pairsIn framesOf) ≡ r .totals .pairs * pairWidth)
+  many-numbers =
+      let go = frames-follow limit rooms input (length oldRows / rowWidth) noneRead in
+      let end : whole .told .totals ≡ r .totals = ap (λ (q : FramesRead). q .totals) (sym (p .says)) in
+      let a = follow-long rowNumbers rowWidth (λ y. 1) (λ x. x .frames) (λ y. refl) (λ x y. refl) (λ i j. omega arith) noneRead framesOf _ go in
+      let b = follow-long messagesIn messageWidth manyMessages (λ x. x .messages) messages-long (λ x y. refl) (λ i j. omega arith) noneRead framesOf _ go in
+      let c = follow-long pairsIn pairWidth manyPairs (λ x. x .pairs) pairs-long (λ x y. refl) (λ i j. omega arith) noneRead framesOf _ go in (
+        nothing (length (joined rowNumbers framesOf)) ∙ a ∙ ap (λ (x : Totals). x .frames * rowWidth) end,
+        nothing (length (joined messagesIn framesOf)) ∙ b ∙ ap (λ (x : Totals). x .messages * messageWidth) end,
+        nothing (length (joined pairsIn framesOf)) ∙ c ∙ ap (λ (x : Totals). x .pairs * pairWidth) end,
+      )
+    where
+      nothing : (n : ℕ) → n ≡ 0 + n
+      nothing n = omega arith
