@@ -16,7 +16,7 @@ use Rattle.parser.specs.Promise.{frameSaid, frameTells}
 use Rattle.parser.proofs.Entries.{said-done}
 use Rattle.buffer.specs.declared.Totals.{Totals}
 use Rattle.buffer.specs.declared.Stop.the-variants as stop
-use Rattle.buffer.specs.Buffer.{FrameIn, FramesIn, withRead, stopped, onAccepted, frameFirst, readBehind, framesFrom}
+use Rattle.buffer.specs.Buffer.{FrameIn, FramesIn, withRead, stopped, frameFirst, readBehind, framesFrom}
 use Rattle.buffer.specs.Inner.{stopOf}
 
 -- what a frame comes to that is said to wait, or to be refused

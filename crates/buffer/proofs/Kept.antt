@@ -19,7 +19,7 @@ use Rattle.payload.specs.declared.Counts.{Counts}
 use Rattle.payload.specs.declared.Payload.{Payload}
 use Rattle.payload.specs.Payload.{Contents}
 use Rattle.payload.specs.Promise.{roomsOf}
-use Rattle.payload.proofs.Kept.{Within, Stays, Table}
+use Rattle.payload.proofs.Kept.{Within, Table}
 use Rattle.payload.proofs.Kept as t
 use Rattle.parser.specs.Frame.{frameRead}
 use Rattle.parser.proofs.Kept.{accepted-kept, refusal-kept}
@@ -30,7 +30,7 @@ use Rattle.buffer.specs.Buffer.{FrameIn, FramesIn, noneRead, withRead, r
 use Rattle.buffer.specs.Promise.{framesIn, messagesIn, pairsIn, framesLeft, ReadFrames}
 use Rattle.buffer.proofs.From.{frameThere, from-wait, from-refused, from-full, from-done}
 use Rattle.buffer.proofs.Going.{accepted-fits}
-use Rattle.buffer.proofs.Each.{many-numbers}
+use Rattle.buffer.proofs.Single.{many-numbers}
 
 -- the room that is left is no smaller
 behind-within : (rooms others : Counts) → Within rooms others → (x : Totals) → Within (roomBehind rooms x) (roomBehind others x)

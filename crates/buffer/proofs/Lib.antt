@@ -2,6 +2,6 @@
 -- second result meets the promise.
 pub mod From
 pub mod Going
-pub mod Each
+pub mod Single
 pub mod Kept
 pub mod Unique

@@ -21,6 +21,8 @@ use Rattle.parser.specs.declared.FrameRead.{FrameRead}
 use Rattle.parser.specs.declared.FrameRead.the-variants as f
 use Rattle.parser.specs.Frame.{frameRead}
 use Rattle.parser.specs.Promise.{frameSaid, frameTells, contentsRead, ReadFrame}
+use Rattle.frame.proofs.Cutting.{cut-start}
+use Rattle.parser.proofs.Frames.{frame-on}
 use Rattle.parser.proofs.Unique.{frame-same}
 use Rattle.parser.proofs.Entries.{said-done}
 use Rattle.buffer.specs.declared.Totals.{Totals}
@@ -85,13 +87,13 @@ follow-tile x (y ∷ ys) end (e, more) = (ap (λ (t : Totals). t .bytes) e, foll
 -- ---- of the call
 
 -- records of one sort, whatever their width: those of each frame stand where the frames before it have theirs
-abbrev pub Stands : (FrameIn → List ℕ) → ℕ → (FrameIn → ℕ) → (Totals → ℕ) → List ℕ → FrameIn → Type 0
-Stands numbers width count read table y = take (count y * width) (drop (read (y .before) * width) table) ≡ numbers y
+abbrev pub StandsAt : (FrameIn → List ℕ) → ℕ → (FrameIn → ℕ) → (Totals → ℕ) → List ℕ → FrameIn → Type 0
+StandsAt numbers width count read table y = take (count y * width) (drop (read (y .before) * width) table) ≡ numbers y
 
 module _ (numbers : FrameIn → List ℕ) (width : ℕ) (count : FrameIn → ℕ) (read : Totals → ℕ) (long : (y : FrameIn) → length (numbers y) ≡ count y * width)
     (on : (x : Totals) (y : FrameIn) → read (withRead x (y .contents) (y .used)) ≡ read x + count y) (sum : (a b : ℕ) → a * width + b * width ≡ (a + b) * width) where
   stand : (x : Totals) (ys : List FrameIn) (end : Totals) → Follow x ys end → (before : List FrameIn) → length (joined numbers before) ≡ read x * width
-      → (rest : List ℕ) → Each (Stands numbers width count read (joined numbers (before ++ ys) ++ rest)) ys
+      → (rest : List ℕ) → Each (StandsAt numbers width count read (joined numbers (before ++ ys) ++ rest)) ys
   stand x [] end e before many rest = tt
   stand x (y ∷ ys) end (e, more) before many rest =
       let front = joined numbers before in
@@ -103,7 +105,7 @@ module _ (numbers : FrameIn → List ℕ) (width : ℕ) (count : FrameIn → ℕ
         ap₂ (λ (n : ℕ) (l : List ℕ). take (count y * width) (drop (n * width) l)) (ap read e) parts
             ∙ ap (take (count y * width)) (drop-at front (numbers y ++ (joined numbers ys ++ rest)) (read x * width) many)
             ∙ take-at (numbers y) (joined numbers ys ++ rest) (count y * width) (long y),
-        subst (λ (l : List FrameIn). Each (Stands numbers width count read (joined numbers l ++ rest)) ys) (append-assoc before (y ∷ []) ys)
+        subst (λ (l : List FrameIn). Each (StandsAt numbers width count read (joined numbers l ++ rest)) ys) (append-assoc before (y ∷ []) ys)
             (stand next ys end more (before ++ (y ∷ []))
             (longer numbers before y ∙ ap₂ _+_ many (long y) ∙ sum (read x) (count y) ∙ ap (λ (n : ℕ). n * width) (sym (on x y))) rest),
       )
@@ -149,6 +151,16 @@ module _ (input : List ℕ) (limit : ℕ) (r : FramesRead) (oldRows newRows oldM
       (subst (λ (k : ℕ). StopsBy (whole .told .totals .frames ≡ k) (readBehind limit rooms input (whole .told .totals)) (whole .told .stop)) all
       (frames-stop limit rooms input (length oldRows / rowWidth) noneRead))
 
+  -- Law: where no byte is left, four are missing.
+  pub all-read : r .totals .bytes ≡ length input → r .stop ≡ stop.Wait 4
+  all-read e =
+      let rest = drop (r .totals .bytes) input in
+      let none : length rest ≡ 0 = omega (arith, length-drop (r .totals .bytes) input) in
+      let four : 4 - length rest ≡ 4 = omega arith in
+      let waits : readBehind limit rooms input (r .totals) ≡ wait 4 =
+      frame-on side.HAProxy limit (roomBehind rooms (r .totals)) rest (cut-start limit rest (omega arith)) ∙ ap wait four in
+      rw waits at stop-single
+
   -- each frame's records in the tables that were left
   abbrev manyMessages : FrameIn → ℕ
   manyMessages y = length (y .contents .messages)
@@ -157,21 +169,21 @@ module _ (input : List ℕ) (limit : ℕ) (r : FramesRead) (oldRows newRows oldM
   manyPairs y = length (y .contents .pairs)
 
   -- Law: each frame's row stands in its table behind those of the frames before it.
-  pub rows-stand : Each (Stands rowNumbers rowWidth (λ y. 1) (λ x. x .frames) newRows) framesOf
+  pub rows-stand : Each (StandsAt rowNumbers rowWidth (λ y. 1) (λ x. x .frames) newRows) framesOf
   rows-stand =
-      subst (λ (l : List ℕ). Each (Stands rowNumbers rowWidth (λ y. 1) (λ x. x .frames) l) framesOf) (sym (p .rows))
+      subst (λ (l : List ℕ). Each (StandsAt rowNumbers rowWidth (λ y. 1) (λ x. x .frames) l) framesOf) (sym (p .rows))
       (stand rowNumbers rowWidth (λ y. 1) (λ x. x .frames) (λ y. refl) (λ x y. refl) (λ a b. omega arith) noneRead framesOf _
       (frames-follow limit rooms input (length oldRows / rowWidth) noneRead) [] (ap length (joined-none rowNumbers)) _)
 
-  messages-stand : Each (Stands messagesIn messageWidth manyMessages (λ x. x .messages) newMessages) framesOf
+  messages-stand : Each (StandsAt messagesIn messageWidth manyMessages (λ x. x .messages) newMessages) framesOf
   messages-stand =
-      subst (λ (l : List ℕ). Each (Stands messagesIn messageWidth manyMessages (λ x. x .messages) l) framesOf) (sym (p .messages))
+      subst (λ (l : List ℕ). Each (StandsAt messagesIn messageWidth manyMessages (λ x. x .messages) l) framesOf) (sym (p .messages))
       (stand messagesIn messageWidth manyMessages (λ x. x .messages) messages-long (λ x y. refl) (λ a b. omega arith) noneRead framesOf _
       (frames-follow limit rooms input (length oldRows / rowWidth) noneRead) [] (ap length (joined-none messagesIn)) _)
 
-  pairs-stand : Each (Stands pairsIn pairWidth manyPairs (λ x. x .pairs) newPairs) framesOf
+  pairs-stand : Each (StandsAt pairsIn pairWidth manyPairs (λ x. x .pairs) newPairs) framesOf
   pairs-stand =
-      subst (λ (l : List ℕ). Each (Stands pairsIn pairWidth manyPairs (λ x. x .pairs) l) framesOf) (sym (p .pairs))
+      subst (λ (l : List ℕ). Each (StandsAt pairsIn pairWidth manyPairs (λ x. x .pairs) l) framesOf) (sym (p .pairs))
       (stand pairsIn pairWidth manyPairs (λ x. x .pairs) pairs-long (λ x y. refl) (λ a b. omega arith) noneRead framesOf _
       (frames-follow limit rooms input (length oldRows / rowWidth) noneRead) [] (ap length (joined-none pairsIn)) _)
 
@@ -213,8 +225,8 @@ module _ (input : List ℕ) (limit : ℕ) (r : FramesRead) (oldRows newRows oldM
       × (take (manyMessages y * messageWidth) nextMessages ≡ take (manyMessages y * messageWidth) (drop (y .before .messages * messageWidth) newMessages))
       × (take (manyPairs y * pairWidth) nextPairs ≡ take (manyPairs y * pairWidth) (drop (y .before .pairs * pairWidth) newPairs))
 
-  same-call : (y : FrameIn) → Single limit rooms input y → Stands messagesIn messageWidth manyMessages (λ x. x .messages) newMessages y
-      → Stands pairsIn pairWidth manyPairs (λ x. x .pairs) newPairs y → SameCall y
+  same-call : (y : FrameIn) → Single limit rooms input y → StandsAt messagesIn messageWidth manyMessages (λ x. x .messages) newMessages y
+      → StandsAt pairsIn pairWidth manyPairs (λ x. x .pairs) newPairs y → SameCall y
   same-call y single inMessages inPairs q nextMessages nextPairs call =
       let b = y .before in
       let lentMessages = drop (b .messages * messageWidth) oldMessages in
@@ -238,8 +250,8 @@ module _ (input : List ℕ) (limit : ℕ) (r : FramesRead) (oldRows newRows oldM
   pub calls-single : Each SameCall framesOf
   calls-single = each-three framesOf rows-single messages-stand pairs-stand
     where
-      each-three : (ys : List FrameIn) → Each (Single limit rooms input) ys → Each (Stands messagesIn messageWidth manyMessages (λ x. x .messages) newMessages) ys
-          → Each (Stands pairsIn pairWidth manyPairs (λ x. x .pairs) newPairs) ys → Each SameCall ys
+      each-three : (ys : List FrameIn) → Each (Single limit rooms input) ys → Each (StandsAt messagesIn messageWidth manyMessages (λ x. x .messages) newMessages) ys
+          → Each (StandsAt pairsIn pairWidth manyPairs (λ x. x .pairs) newPairs) ys → Each SameCall ys
       each-three [] a b c = tt
       each-three (y ∷ ys) a b c = (same-call y (a .0) (b .0) (c .0), each-three ys (a .1) (b .1) (c .1))
 
