@@ -78,16 +78,15 @@ pairs-long y = joined-width pairNumbers pairWidth (λ x. refl) (y .contents .pai
 -- ---- an accepted frame
 
 -- its records had room, and its bytes are there
-pub record Fits (limit : ℕ) (rooms : Counts) (s : List ℕ) (c : Contents) (used : ℕ) : Type 0 where
+pub record FrameFits (rooms : Counts) (s : List ℕ) (c : Contents) (used : ℕ) : Type 0 where
   pub room : Within (countsOf c) rooms
-  pub four : 4 ≤ used
   pub there : used ≤ length s
 
 pub accepted-fits : (limit : ℕ) (rooms : Counts) (s : List ℕ) (y : Head × Contents) (used : ℕ) → frameRead side.HAProxy limit rooms s ≡ answered (done y used)
-    → Fits limit rooms s (y .1) used
+    → FrameFits rooms s (y .1) used
 accepted-fits limit rooms s (h, c) used e =
     let q = frame-cut side.HAProxy limit rooms s h c used e in
-    record { room = payload-fit (payloadOf (h .«frame_type»)) rooms (q .held .start) (take used s) c used (q .held .holds); four = q .four; there = q .there }
+    record { room = payload-fit (payloadOf (h .«frame_type»)) rooms (q .held .start) (take used s) c used (q .held .holds); there = q .there }
 
 -- ---- how far it is
 
@@ -247,7 +246,7 @@ module _ (s : List ℕ) (limit : ℕ) (oldRows oldMessages oldPairs : List ℕ) 
         abbrev here : FrameIn
         here = frameThere x (h, c) used
 
-        fits : Fits limit (roomBehind rooms x) (drop (x .bytes) s) c used
+        fits : FrameFits (roomBehind rooms x) (drop (x .bytes) s) c used
         fits = accepted-fits limit (roomBehind rooms x) (drop (x .bytes) s) (h, c) used (found .1)
 
         room-messages : x .messages * messageWidth + length (c .messages) * messageWidth ≤ length oldMessages

@@ -1,19 +1,11 @@
 -- `buffer::read_frames` meets its contract: each turn of the loop reads a frame into the tails behind what was read, and puts its row; what stops it ends the whole.
 -- Assumes nothing.
 use borrow.Author.Needs.{needs}
-use mathlib.Core.Path.{_≡_, sym, ap, _∙_}
-use mathlib.Core.List.{List}
-use Prim.Native.Nat.{ℕ, _+_, _-_, _*_, _/_, _≤_, _<_}
+use Prim.Native.Nat.{_+_, _-_, _*_, _/_, _≤_, _<_}
 use native.Mathlib.Omega.{arith}
 use lib.ListN.{length}
-use Rattle.frame.specs.declared.Head.{Head}
 use Rattle.frame.specs.Records.{messageWidth, pairWidth}
-use Rattle.payload.specs.declared.Counts.{Counts}
-use Rattle.parser.specs.declared.FrameRead.{FrameRead}
-use Rattle.buffer.specs.declared.Totals.{Totals}
-use Rattle.buffer.specs.declared.Stop.{Stop}
 use Rattle.buffer.specs.Buffer.{rowWidth}
-use Rattle.buffer.specs.Promise.{ReadFrames}
 use Rattle.buffer.proofs.Going.{lent-length, Going, going-none, long-rows, long-messages, long-pairs, in-table-messages, in-table-pairs, row-room, going-full, wait-lengths, going-wait, refused-lengths, going-refused, with-within, going-on}
 use Rattle.buffer.proofs.read_frames.Statement.{statement}
 use Rattle.buffer.proofs.read_frames.Tie as tie
