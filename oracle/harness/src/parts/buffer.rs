@@ -189,7 +189,7 @@ impl Call {
         };
         let differs = |input: Vec<u8>| with(input).differs();
         let mut input = shrink::runs(&call.pieces(), |less| differs(less.concat())).concat();
-        if input.len() <= 256 {
+        if input.len() <= 128 {
             input = shrink::bytes(&input, |less| differs(less.to_vec()));
         }
         with(input).with_smaller_tables()
