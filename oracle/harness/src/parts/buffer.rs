@@ -179,24 +179,37 @@ impl Call {
         self.compare().or_else(|_| self.smaller().compare())
     }
 
-    /// Whole frames go first, then bytes, then numbers of the tables.
+    /// Tables first, since a full one may be what differs, and then few frames are enough; then whole frames, and bytes of what is
+    /// short by then.
     fn smaller(&self) -> Call {
+        let call = self.with_smaller_tables();
         let with = |input: Vec<u8>| Call {
             input,
-            ..self.clone()
+            ..call.clone()
         };
-        let differs = |call: &Call| call.compare().is_err();
-        let pieces = shrink::runs(&self.pieces(), |less| differs(&with(less.concat())));
-        let mut best = with(shrink::bytes(&pieces.concat(), |less| differs(&with(less.to_vec()))));
+        let differs = |input: Vec<u8>| with(input).differs();
+        let mut input = shrink::runs(&call.pieces(), |less| differs(less.concat())).concat();
+        if input.len() <= 128 {
+            input = shrink::bytes(&input, |less| differs(less.to_vec()));
+        }
+        with(input).with_smaller_tables()
+    }
+
+    fn with_smaller_tables(&self) -> Call {
+        let mut best = self.clone();
         for place in 0..3 {
             let with = |length: u64| {
                 let mut less = best.clone();
                 less.lengths[place] = length as usize;
                 less
             };
-            best = with(shrink::number(best.lengths[place] as u64, |less| differs(&with(less))));
+            best = with(shrink::number(best.lengths[place] as u64, |less| with(less).differs()));
         }
         best
+    }
+
+    fn differs(&self) -> bool {
+        self.compare().is_err()
     }
 
     /// The frames that are read, whatever the tables are, and the rest.
