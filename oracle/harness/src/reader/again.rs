@@ -3,6 +3,7 @@
 
 use super::{
     call::Call,
+    exact::is_exact,
     lent::{Reading, keys_rise},
     model::{OVERSIZE, Rooms, TABLE_FULL},
 };
@@ -36,6 +37,7 @@ const WAITS: Law = "a wait is given where bytes are missing, and for those";
 const ONCE: Law = "with the bytes that were asked for it does not wait again";
 const FILLED: Law = "after 0 the records stand in front, and no other number changes";
 const ORDER: Law = "the keys' starts rise";
+const EXACT: Law = "every number has exactly the bytes that it is written as";
 const UNTOUCHED: Law = "only 0 changes what is lent";
 const ACCEPTED: Law = "what is accepted is accepted again, and the same";
 const REFUSED: Law = "a refusal keeps its number and its place";
@@ -165,6 +167,7 @@ fn lawful(call: &Call) -> Result<Reading, Law> {
     match reading.records() {
         None => Err(FILLED),
         Some([_, pairs]) if !keys_rise(pairs) => Err(ORDER),
+        Some(records) if !is_exact(&call.input, reading.at(), &reading.head, records) => Err(EXACT),
         Some(_) => Ok(reading),
     }
 }

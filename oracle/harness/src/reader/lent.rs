@@ -101,6 +101,14 @@ impl Reading {
         }
     }
 
+    /// The bytes used or missing, or the place.
+    pub fn at(&self) -> u64 {
+        match self.answer {
+            Answer::Paper { at, .. } => at,
+            Answer::Unlisted(..) => unreachable!("the port answers a number"),
+        }
+    }
+
     /// The messages and pairs that the head counts, where all their numbers were written and none behind them.
     pub fn records(&self) -> Option<[&[u64]; 2]> {
         let messages = front(&self.messages, self.head[4], MESSAGE_WIDTH)?;

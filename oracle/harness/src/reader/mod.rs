@@ -4,6 +4,7 @@ pub mod again;
 pub mod back;
 pub mod call;
 pub mod classes;
+pub mod exact;
 pub mod lent;
 pub mod model;
 pub mod resent;
