@@ -1,4 +1,4 @@
--- What each call promises.
+-- What those calls promise whose contracts name a promise.
 use mathlib.Core.Path.{_≡_}
 use Prim.Native.Nat.{ℕ}
 use Rattle.hello.specs.declared.Size.{Size}

@@ -1,4 +1,4 @@
--- What the calls' own types mean, and what each call promises.
+-- What the calls' own types mean, and what those calls promise whose contracts name a promise.
 use mathlib.Core.Path.{_≡_}
 use mathlib.Core.List.{List}
 use Prim.Native.Nat.{ℕ, _/_}

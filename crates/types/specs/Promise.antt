@@ -1,4 +1,4 @@
--- What the calls' own types mean, and what each call promises.
+-- What the calls' own types mean, and what those calls promise whose contracts name a promise.
 use Rattle.types.specs.declared.StringRead.{StringRead}
 use Rattle.types.specs.declared.StringRead.the-variants as t
 use Rattle.types.specs.declared.Value.{Value}
