@@ -23,18 +23,18 @@ pub each_both : {A : Type 0} (P : A → Type 0) (xs ys : List A) → Each P xs �
 each_both P [] ys e g = g
 each_both P (x ∷ xs) ys e g = (e.0, each_both P xs ys e.1 g)
 
-pub each-parts : {A : Type 0} (P : A → Type 0) (xs ys : List A) → Each P (xs ++ ys) → Each P xs × Each P ys
-each-parts P [] ys e = (tt, e)
-each-parts P (x ∷ xs) ys e = let o = each-parts P xs ys e.1 in ((e.0, o.0), o.1)
+pub each_parts : {A : Type 0} (P : A → Type 0) (xs ys : List A) → Each P (xs ++ ys) → Each P xs × Each P ys
+each_parts P [] ys e = (tt, e)
+each_parts P (x ∷ xs) ys e = let o = each_parts P xs ys e.1 in ((e.0, o.0), o.1)
 
 pub each_more : {A : Type 0} (P : A → Type 0) (xs : List A) (x : A) → Each P xs → P x → Each P (xs ++ (x ∷ []))
 each_more P xs x e h = each_both P xs (x ∷ []) e (h, tt)
 
 -- of so many records from the first on, and of one of them
-pub each-record : {A : Type 0} (P : A → Type 0) (at : ℕ → A) (n first : ℕ) → ((i : ℕ) → first ≤ i → i < first + n → P (at i)) → Each P (records at first n)
+pub each_record : {A : Type 0} (P : A → Type 0) (at : ℕ → A) (n first : ℕ) → ((i : ℕ) → first ≤ i → i < first + n → P (at i)) → Each P (records at first n)
 unfolding records
-each-record P at zero first h = tt
-each-record P at (suc n) first h = (h first (omega arith) (omega arith), each-record P at n (suc first) (λ i l m. h i (omega arith) (omega arith)))
+each_record P at zero first h = tt
+each_record P at (suc n) first h = (h first (omega arith) (omega arith), each_record P at n (suc first) (λ i l m. h i (omega arith) (omega arith)))
 
 pub each_at : {A : Type 0} (P : A → Type 0) (at : ℕ → A) (n first : ℕ) → Each P (records at first n) → (i : ℕ) → i < n → P (at (first + i))
 unfolding records

@@ -3,18 +3,18 @@ use Rattle.std.specs.Prelude.{Bool, cond, List, [], ◌∷◌, map, ℕ, zero, s
 use Rattle.answer.specs.Answer.{Answer, refused}
 
 -- The order as such: a line has the answer that is given where its test does not hold, and where all hold it is the last one.
-unfoldable pub inOrder : {A : Type 0} → List (A × Bool) → A → A
-inOrder [] last = last
-inOrder ((answer, holds) ∷ lines) last = cond holds (inOrder lines last) answer
+unfoldable pub in_order : {A : Type 0} → List (A × Bool) → A → A
+in_order [] last = last
+in_order ((answer, holds) ∷ lines) last = cond holds (in_order lines last) answer
 
 -- A line that says a refusal's number alone; and such lines in an answer, each refusal at this place.
 abbrev pub Check : Type 0
 Check = ℕ × Bool
 
-abbrev pub linesAt : {A : Type 0} → ℕ → List Check → List (Answer A × Bool)
-linesAt place checks = map (λ c. (refused c.0 place, c.1)) checks
+abbrev pub lines_at : {A : Type 0} → ℕ → List Check → List (Answer A × Bool)
+lines_at place checks = map (λ c. (refused c.0 place, c.1)) checks
 
 -- So many records from the first on: the lines of one after those of the other, each record's at its index, and then the last answer.
-unfoldable pub eachInOrder : {A : Type 0} → (ℕ → List Check) → ℕ → ℕ → Answer A → Answer A
-eachInOrder checks first zero last = last
-eachInOrder checks first (suc n) last = inOrder (linesAt first (checks first)) (eachInOrder checks (suc first) n last)
+unfoldable pub each_in_order : {A : Type 0} → (ℕ → List Check) → ℕ → ℕ → Answer A → Answer A
+each_in_order checks first zero last = last
+each_in_order checks first (suc n) last = in_order (lines_at first (checks first)) (each_in_order checks (suc first) n last)

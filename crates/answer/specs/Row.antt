@@ -4,11 +4,11 @@ use Rattle.std.specs.Prelude.{cond, ℕ, zero, suc, ltb}
 use Rattle.answer.specs.Answer.{Answer, done, next}
 
 -- So many of them.
-unfoldable pub soMany : {A : Type 0} → (A → ℕ → Answer A) → ℕ → A → ℕ → Answer A
-soMany one zero met at = done met at
-soMany one (suc k) met at = next (one met at) (λ more end. soMany one k more end)
+unfoldable pub so_many : {A : Type 0} → (A → ℕ → Answer A) → ℕ → A → ℕ → Answer A
+so_many one zero met at = done met at
+so_many one (suc k) met at = next (one met at) (λ more end. so_many one k more end)
 
 -- As many as stand before the end of the bytes, of those that are counted down.
-unfoldable pub toEnd : {A : Type 0} → (A → ℕ → Answer A) → ℕ → ℕ → A → ℕ → Answer A
-toEnd one last zero met at = done met at
-toEnd one last (suc k) met at = cond (ltb at last) (next (one met at) (λ more end. toEnd one last k more end)) (done met at)
+unfoldable pub to_end : {A : Type 0} → (A → ℕ → Answer A) → ℕ → ℕ → A → ℕ → Answer A
+to_end one last zero met at = done met at
+to_end one last (suc k) met at = cond (ltb at last) (next (one met at) (λ more end. to_end one last k more end)) (done met at)

@@ -3,84 +3,84 @@ use mathlib.Core.Path.{◌≡◌, refl, sym, ap, ap₂, subst}
 use mathlib.Core.List.{List}
 use Prim.Native.Nat.{ℕ, zero, suc}
 use Rattle.answer.specs.Answer.{done, refused}
-use Rattle.answer.proofs.Cases.{not-both}
-use Rattle.answer.proofs.Answers.{refused-same}
+use Rattle.answer.proofs.Cases.{not_both}
+use Rattle.answer.proofs.Answers.{refused_same}
 use Rattle.frame.specs.declared.Head.{Head}
 use Rattle.frame.specs.Read.{Reading, wait, answered}
-use Rattle.frame.proofs.Answers.{wait-same, wait-answered, answered-same, reading-cases}
+use Rattle.frame.proofs.Answers.{wait_same, wait_answered, answered_same, reading_cases}
 use Rattle.payload.specs.declared.Counts.{Counts}
 use Rattle.payload.specs.Payload.{Contents}
 use Rattle.parser.specs.declared.FrameRead.{FrameRead}
 use Rattle.parser.specs.declared.FrameRead.TheVariants as f
-use Rattle.parser.specs.Promise.{frameSaid, frameTells}
-use Rattle.parser.proofs.Entries.{said-done}
+use Rattle.parser.specs.Promise.{frame_said, frame_tells}
+use Rattle.parser.proofs.Entries.{said_done}
 use Rattle.buffer.specs.declared.Totals.{Totals}
 use Rattle.buffer.specs.declared.Stop.TheVariants as stop
-use Rattle.buffer.specs.Buffer.{FrameIn, FramesIn, withRead, stopped, frameFirst, readBehind, framesFrom}
-use Rattle.buffer.specs.Inner.{stopOf}
+use Rattle.buffer.specs.Buffer.{FrameIn, FramesIn, with_read, stopped, frame_first, read_behind, frames_from}
+use Rattle.buffer.specs.Inner.{stop_of}
 
 -- what a frame comes to that is said to wait, or to be refused
-pub said-wait : (x : Reading (Head × Contents)) (n : ℕ) → wait n ≡ frameTells x → x ≡ wait n
-said-wait (wait m) n e = ap wait (sym (wait-same e))
-said-wait (answered (done y used)) n e = wait-answered e
-said-wait (answered (refused number place)) n e = wait-answered e
+pub said_wait : (x : Reading (Head × Contents)) (n : ℕ) → wait n ≡ frame_tells x → x ≡ wait n
+said_wait (wait m) n e = ap wait (sym (wait_same e))
+said_wait (answered (done y used)) n e = wait_answered e
+said_wait (answered (refused number place)) n e = wait_answered e
 
-pub said-refused : (x : Reading (Head × Contents)) (n p : ℕ) → answered (refused n p) ≡ frameTells x → x ≡ answered (refused n p)
-said-refused (wait m) n p e = wait-answered (sym e)
-said-refused (answered (done y used)) n p e = not-both refl (sym (answered-same e))
-said-refused (answered (refused number place)) n p e =
-    let o = refused-same (answered-same e) in ap₂ (λ (a b : ℕ). answered (refused a b)) (sym o.0) (sym o.1)
+pub said_refused : (x : Reading (Head × Contents)) (n p : ℕ) → answered (refused n p) ≡ frame_tells x → x ≡ answered (refused n p)
+said_refused (wait m) n p e = wait_answered (sym e)
+said_refused (answered (done y used)) n p e = not_both refl (sym (answered_same e))
+said_refused (answered (refused number place)) n p e =
+    let o = refused_same (answered_same e) in ap₂ (λ (a b : ℕ). answered (refused a b)) (sym o.0) (sym o.1)
 
 -- the frame that is read there
-abbrev pub frameThere : Totals → Head × Contents → ℕ → FrameIn
-frameThere x y used = record { before = x; head = y.0; contents = y.1; used = used }
+abbrev pub frame_there : Totals → Head × Contents → ℕ → FrameIn
+frame_there x y used = record { before = x; head = y.0; contents = y.1; used = used }
 
 module _ (limit : ℕ) (rooms : Counts) (s : List ℕ) where
-  pub from-wait : (n : ℕ) (x : Totals) (missing : ℕ) → readBehind limit rooms s x ≡ wait missing → framesFrom limit rooms s n x ≡ stopped x (stop.Wait missing)
-  unfolding framesFrom
-  from-wait zero x missing e = rw e
-  from-wait (suc n) x missing e = rw e
+  pub from_wait : (n : ℕ) (x : Totals) (missing : ℕ) → read_behind limit rooms s x ≡ wait missing → frames_from limit rooms s n x ≡ stopped x (stop.Wait missing)
+  unfolding frames_from
+  from_wait zero x missing e = rw e
+  from_wait (suc n) x missing e = rw e
 
-  pub from-refused : (n : ℕ) (x : Totals) (number place : ℕ) → readBehind limit rooms s x ≡ answered (refused number place)
-      → framesFrom limit rooms s n x ≡ stopped x (stop.Refused (record { number = number; place = place }))
-  unfolding framesFrom
-  from-refused zero x number place e = rw e
-  from-refused (suc n) x number place e = rw e
+  pub from_refused : (n : ℕ) (x : Totals) (number place : ℕ) → read_behind limit rooms s x ≡ answered (refused number place)
+      → frames_from limit rooms s n x ≡ stopped x (stop.Refused (record { number = number; place = place }))
+  unfolding frames_from
+  from_refused zero x number place e = rw e
+  from_refused (suc n) x number place e = rw e
 
-  pub from-full : (x : Totals) (y : Head × Contents) (used : ℕ) → readBehind limit rooms s x ≡ answered (done y used)
-      → framesFrom limit rooms s 0 x ≡ stopped x (stop.Refused (record { number = 10; place = used }))
-  unfolding framesFrom
-  from-full x y used e = rw e
+  pub from_full : (x : Totals) (y : Head × Contents) (used : ℕ) → read_behind limit rooms s x ≡ answered (done y used)
+      → frames_from limit rooms s 0 x ≡ stopped x (stop.Refused (record { number = 10; place = used }))
+  unfolding frames_from
+  from_full x y used e = rw e
 
-  pub from-done : (n : ℕ) (x : Totals) (y : Head × Contents) (used : ℕ) → readBehind limit rooms s x ≡ answered (done y used)
-      → framesFrom limit rooms s (suc n) x ≡ frameFirst (frameThere x y used) (framesFrom limit rooms s n (withRead x y.1 used))
-  unfolding framesFrom
-  from-done n x y used e = rw e
+  pub from_done : (n : ℕ) (x : Totals) (y : Head × Contents) (used : ℕ) → read_behind limit rooms s x ≡ answered (done y used)
+      → frames_from limit rooms s (suc n) x ≡ frame_first (frame_there x y used) (frames_from limit rooms s n (with_read x y.1 used))
+  unfolding frames_from
+  from_done n x y used e = rw e
 
   -- Law: where no row is left, what is said of the frame there stops it.
-  pub from-none : (x : Totals) (r : FrameRead) → frameSaid r ≡ frameTells (readBehind limit rooms s x) → framesFrom limit rooms s 0 x ≡ stopped x (stopOf r)
-  from-none x (f.Done h k used) e = let o = said-done (readBehind limit rooms s x) h k used e in from-full x (h, o.0) used o.1
-  from-none x (f.Wait n) e = from-wait 0 x n (said-wait (readBehind limit rooms s x) n e)
-  from-none x (f.Refused r) e = from-refused 0 x r.number r.place (said-refused (readBehind limit rooms s x) r.number r.place e)
+  pub from_none : (x : Totals) (r : FrameRead) → frame_said r ≡ frame_tells (read_behind limit rooms s x) → frames_from limit rooms s 0 x ≡ stopped x (stop_of r)
+  from_none x (f.Done h k used) e = let o = said_done (read_behind limit rooms s x) h k used e in from_full x (h, o.0) used o.1
+  from_none x (f.Wait n) e = from_wait 0 x n (said_wait (read_behind limit rooms s x) n e)
+  from_none x (f.Refused r) e = from_refused 0 x r.number r.place (said_refused (read_behind limit rooms s x) r.number r.place e)
 
   -- A law about the frames behind what was read goes by the single reader's answers.
   pub by_frames : (P : ℕ → Totals → FramesIn → Type 0)
-      → ((n : ℕ) (x : Totals) (missing : ℕ) → readBehind limit rooms s x ≡ wait missing → P n x (stopped x (stop.Wait missing)))
-      → ((n : ℕ) (x : Totals) (number place : ℕ) → readBehind limit rooms s x ≡ answered (refused number place) → P n x (stopped x (stop.Refused (record { number = number; place = place }))))
-      → ((x : Totals) (y : Head × Contents) (used : ℕ) → readBehind limit rooms s x ≡ answered (done y used) → P 0 x (stopped x (stop.Refused (record { number = 10; place = used }))))
-      → ((n : ℕ) (x : Totals) (y : Head × Contents) (used : ℕ) → readBehind limit rooms s x ≡ answered (done y used)
-      → P n (withRead x y.1 used) (framesFrom limit rooms s n (withRead x y.1 used))
-      → P (suc n) x (frameFirst (frameThere x y used) (framesFrom limit rooms s n (withRead x y.1 used))))
-      → (n : ℕ) (x : Totals) → P n x (framesFrom limit rooms s n x)
+      → ((n : ℕ) (x : Totals) (missing : ℕ) → read_behind limit rooms s x ≡ wait missing → P n x (stopped x (stop.Wait missing)))
+      → ((n : ℕ) (x : Totals) (number place : ℕ) → read_behind limit rooms s x ≡ answered (refused number place) → P n x (stopped x (stop.Refused (record { number = number; place = place }))))
+      → ((x : Totals) (y : Head × Contents) (used : ℕ) → read_behind limit rooms s x ≡ answered (done y used) → P 0 x (stopped x (stop.Refused (record { number = 10; place = used }))))
+      → ((n : ℕ) (x : Totals) (y : Head × Contents) (used : ℕ) → read_behind limit rooms s x ≡ answered (done y used)
+      → P n (with_read x y.1 used) (frames_from limit rooms s n (with_read x y.1 used))
+      → P (suc n) x (frame_first (frame_there x y used) (frames_from limit rooms s n (with_read x y.1 used))))
+      → (n : ℕ) (x : Totals) → P n x (frames_from limit rooms s n x)
   by_frames P waits refuses full more zero x =
-      reading-cases (readBehind limit rooms s x)
-      (λ missing e. subst (P 0 x) (sym (from-wait 0 x missing e)) (waits 0 x missing e))
-      (λ number place e. subst (P 0 x) (sym (from-refused 0 x number place e)) (refuses 0 x number place e))
-      (λ y used e. subst (P 0 x) (sym (from-full x y used e)) (full x y used e))
+      reading_cases (read_behind limit rooms s x)
+      (λ missing e. subst (P 0 x) (sym (from_wait 0 x missing e)) (waits 0 x missing e))
+      (λ number place e. subst (P 0 x) (sym (from_refused 0 x number place e)) (refuses 0 x number place e))
+      (λ y used e. subst (P 0 x) (sym (from_full x y used e)) (full x y used e))
   by_frames P waits refuses full more (suc n) x =
-      reading-cases (readBehind limit rooms s x)
-      (λ missing e. subst (P (suc n) x) (sym (from-wait (suc n) x missing e)) (waits (suc n) x missing e))
-      (λ number place e. subst (P (suc n) x) (sym (from-refused (suc n) x number place e)) (refuses (suc n) x number place e))
+      reading_cases (read_behind limit rooms s x)
+      (λ missing e. subst (P (suc n) x) (sym (from_wait (suc n) x missing e)) (waits (suc n) x missing e))
+      (λ number place e. subst (P (suc n) x) (sym (from_refused (suc n) x number place e)) (refuses (suc n) x number place e))
       (λ y used e.
-      subst (P (suc n) x) (sym (from-done n x y used e))
-      (more n x y used e (by_frames P waits refuses full more n (withRead x y.1 used))))
+      subst (P (suc n) x) (sym (from_done n x y used e))
+      (more n x y used e (by_frames P waits refuses full more n (with_read x y.1 used))))

@@ -5,8 +5,8 @@ use Prim.Native.Nat.{ℕ}
 use Rattle.buffer.specs.declared.FramesRead.{FramesRead}
 use Rattle.buffer.specs.Promise.{ReadFrames}
 
-pub read-frames-unique : (input : List ℕ) (limit : ℕ) (r q : FramesRead) (oldRows newRows otherRows oldMessages newMessages otherMessages oldPairs newPairs otherPairs : List ℕ)
-    → ReadFrames input limit r oldRows newRows oldMessages newMessages oldPairs newPairs → ReadFrames input limit q oldRows otherRows oldMessages otherMessages oldPairs otherPairs
-    → (r ≡ q) × (newRows ≡ otherRows) × (newMessages ≡ otherMessages) × (newPairs ≡ otherPairs)
-read-frames-unique input limit r q oldRows newRows otherRows oldMessages newMessages otherMessages oldPairs newPairs otherPairs p s =
+pub read_frames_unique : (input : List ℕ) (limit : ℕ) (r q : FramesRead) (old_rows new_rows other_rows old_messages new_messages other_messages old_pairs new_pairs other_pairs : List ℕ)
+    → ReadFrames input limit r old_rows new_rows old_messages new_messages old_pairs new_pairs → ReadFrames input limit q old_rows other_rows old_messages other_messages old_pairs other_pairs
+    → (r ≡ q) × (new_rows ≡ other_rows) × (new_messages ≡ other_messages) × (new_pairs ≡ other_pairs)
+read_frames_unique input limit r q old_rows new_rows other_rows old_messages new_messages other_messages old_pairs new_pairs other_pairs p s =
     (p.says ∙ sym s.says, p.rows ∙ sym s.rows, p.messages ∙ sym s.messages, p.pairs ∙ sym s.pairs)

@@ -6,7 +6,7 @@ use Rattle.frame.specs.declared.Side.TheVariants as side
 use Rattle.frame.specs.Read.{Reading, wait, answered}
 use Rattle.payload.specs.declared.Counts.{Counts}
 use Rattle.payload.specs.Payload.{Contents}
-use Rattle.parser.specs.Frame.{frameRead}
+use Rattle.parser.specs.Frame.{frame_read}
 use Rattle.buffer.specs.declared.Totals.{Totals}
 use Rattle.buffer.specs.declared.Stop.{Stop}
 use Rattle.buffer.specs.declared.Stop.TheVariants as stop
@@ -25,52 +25,52 @@ pub record FramesIn : Type 0 where
   pub told : FramesRead
 
 -- nothing was read yet
-abbrev pub noneRead : Totals
-noneRead = record { frames = 0; messages = 0; pairs = 0; bytes = 0 }
+abbrev pub none_read : Totals
+none_read = record { frames = 0; messages = 0; pairs = 0; bytes = 0 }
 
 -- how much was read, with this frame
-abbrev pub withRead : Totals → Contents → ℕ → Totals
-withRead x c used =
+abbrev pub with_read : Totals → Contents → ℕ → Totals
+with_read x c used =
     record { frames = x.frames + 1; messages = x.messages + length c.messages; pairs = x.pairs + length c.pairs; bytes = x.bytes + used }
 
 -- the room that is left behind what was read; HAProxy's frames have no actions
-abbrev pub roomBehind : Counts → Totals → Counts
-roomBehind rooms x = record { messages = rooms.messages - x.messages; pairs = rooms.pairs - x.pairs; actions = 0 }
+abbrev pub room_behind : Counts → Totals → Counts
+room_behind rooms x = record { messages = rooms.messages - x.messages; pairs = rooms.pairs - x.pairs; actions = 0 }
 
 -- it stops there, with no frame more
 abbrev pub stopped : Totals → Stop → FramesIn
 stopped x why = record { frames = []; told = record { totals = x; stop = why } }
 
 -- a wait and a refusal stop it, and an accepted frame is left to what comes next
-abbrev pub onAccepted : Totals → Reading (Head × Contents) → (Head × Contents → ℕ → FramesIn) → FramesIn
-onAccepted x (wait missing) f = stopped x (stop.Wait missing)
-onAccepted x (answered (refused number place)) f = stopped x (stop.Refused (record { number = number; place = place }))
-onAccepted x (answered (done y used)) f = f y used
+abbrev pub on_accepted : Totals → Reading (Head × Contents) → (Head × Contents → ℕ → FramesIn) → FramesIn
+on_accepted x (wait missing) f = stopped x (stop.Wait missing)
+on_accepted x (answered (refused number place)) f = stopped x (stop.Refused (record { number = number; place = place }))
+on_accepted x (answered (done y used)) f = f y used
 
 -- this frame comes first
-abbrev pub frameFirst : FrameIn → FramesIn → FramesIn
-frameFirst y rest = record { frames = y ∷ rest.frames; told = rest.told }
+abbrev pub frame_first : FrameIn → FramesIn → FramesIn
+frame_first y rest = record { frames = y ∷ rest.frames; told = rest.told }
 
 module _ (limit : ℕ) (rooms : Counts) (s : List ℕ) where
   -- the single reader's answer behind what was read
-  abbrev pub readBehind : Totals → Reading (Head × Contents)
-  readBehind x = frameRead side.HAProxy limit (roomBehind rooms x) (drop x.bytes s)
+  abbrev pub read_behind : Totals → Reading (Head × Contents)
+  read_behind x = frame_read side.HAProxy limit (room_behind rooms x) (drop x.bytes s)
 
   -- The frames behind what was read, with so many rows left. An accepted frame for which there is none is refused with 10, its place behind that frame.
-  unfoldable pub framesFrom : ℕ → Totals → FramesIn
-  framesFrom zero x = onAccepted x (readBehind x) (λ y used. stopped x (stop.Refused (record { number = 10; place = used })))
-  framesFrom (suc n) x =
-      onAccepted x (readBehind x) (λ y used.
-      frameFirst (record { before = x; head = y.0; contents = y.1; used = used }) (framesFrom n (withRead x y.1 used)))
+  unfoldable pub frames_from : ℕ → Totals → FramesIn
+  frames_from zero x = on_accepted x (read_behind x) (λ y used. stopped x (stop.Refused (record { number = 10; place = used })))
+  frames_from (suc n) x =
+      on_accepted x (read_behind x) (λ y used.
+      frame_first (record { before = x; head = y.0; contents = y.1; used = used }) (frames_from n (with_read x y.1 used)))
 
 -- how many numbers a row has
-abbrev pub rowWidth : ℕ
-rowWidth = 7
+abbrev pub row_width : ℕ
+row_width = 7
 
 -- Where the frame starts and how many bytes it took; its type, its stream and its own id; and the first of its messages, or of its pairs where it is no NOTIFY,
 -- among those of the whole table, and how many it has.
-abbrev pub rowNumbers : FrameIn → List ℕ
-rowNumbers y =
+abbrev pub row_numbers : FrameIn → List ℕ
+row_numbers y =
     let h = y.head in
     let messages = eqb h.frame_type 3 in
     y.before.bytes ∷ y.used ∷ h.frame_type ∷ h.stream ∷ h.frame

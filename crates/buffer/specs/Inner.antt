@@ -9,14 +9,14 @@ use Rattle.buffer.specs.declared.Stop.{Stop}
 use Rattle.buffer.specs.declared.Stop.TheVariants as stop
 
 -- what stops it where there is no row left, by what is said of the frame there
-abbrev pub stopOf : FrameRead → Stop
-stopOf (f.Done h counts used) = stop.Refused (record { number = 10; place = used })
-stopOf (f.Wait missing) = stop.Wait missing
-stopOf (f.Refused r) = stop.Refused r
+abbrev pub stop_of : FrameRead → Stop
+stop_of (f.Done h counts used) = stop.Refused (record { number = 10; place = used })
+stop_of (f.Wait missing) = stop.Wait missing
+stop_of (f.Refused r) = stop.Refused r
 
 -- the numbers of a row, where counts stand for the records
-abbrev pub numbersOf : Totals → Head → Counts → ℕ → List ℕ
-numbersOf x h counts used =
+abbrev pub numbers_of : Totals → Head → Counts → ℕ → List ℕ
+numbers_of x h counts used =
     let messages = eqb h.frame_type 3 in
     x.bytes ∷ used ∷ h.frame_type ∷ h.stream ∷ h.frame
     ∷ cond messages x.messages x.pairs ∷ cond messages counts.messages counts.pairs ∷ []

@@ -3,9 +3,9 @@
 // The public call has no `requires`: it does its own refusing.
 ghost use Rattle.std.specs.Prelude.{◌≡◌, ◌+◌, ◌-◌, ◌/◌, ◌^◌, ◌≤◌, ◌<◌, length};
 ghost use Rattle.answer.specs.Answer.{written, leaves};
-ghost use Rattle.buffer.specs.Buffer.{rowWidth};
+ghost use Rattle.buffer.specs.Buffer.{row_width};
 ghost use Rattle.buffer.specs.Promise.{ReadFrames};
-ghost use Rattle.buffer.specs.Inner.{stopOf, numbersOf};
+ghost use Rattle.buffer.specs.Inner.{stop_of, numbers_of};
 
 use answer::{Refusal, TABLE_FULL};
 use frame::{Head, MESSAGE_WIDTH, NOTIFY, PAIR_WIDTH};
@@ -41,7 +41,7 @@ pub struct FramesRead {
 
 // What stops it where no row is left: an accepted frame is then refused, behind that frame.
 fn stop_of(answer: FrameRead) -> Stop
-    ensures { result ≡ stopOf answer }
+    ensures { result ≡ stop_of answer }
 {
     match answer {
         FrameRead::Done {
@@ -59,8 +59,8 @@ fn stop_of(answer: FrameRead) -> Stop
 
 // Writes the row of a frame before which so much was read.
 fn put_row(before: Totals, head: Head, counts: Counts, used: usize, table: &mut [u64])
-    requires { rowWidth ≤ length table.old }
-    ensures { table.new ≡ leaves (written (numbersOf before head counts used)) table.old }
+    requires { row_width ≤ length table.old }
+    ensures { table.new ≡ leaves (written (numbers_of before head counts used)) table.old }
 {
     let mut first = before.pairs;
     let mut count = counts.pairs;

@@ -2,10 +2,10 @@
 ghost use Rattle.std.specs.Prelude.{◌≡◌, ℕ, ◌+◌, ◌≤◌, ◌<◌, ◌^◌, eqb, length};
 ghost use Rattle.answer.specs.Answer.{refused as refusal};
 ghost use Rattle.answer.specs.Table.{some};
-ghost use Rattle.varint.specs.Promise.{numberSaid};
-ghost use Rattle.frame.specs.Head.{fourNumber};
-ghost use Rattle.frame.specs.Read.{frameTypes, finSet, sender};
-ghost use Rattle.frame.specs.Promise.{Cut, headSaid, ReadHead};
+ghost use Rattle.varint.specs.Promise.{number_said};
+ghost use Rattle.frame.specs.Head.{four_number};
+ghost use Rattle.frame.specs.Read.{frame_types, fin_set, sender};
+ghost use Rattle.frame.specs.Promise.{Cut, head_said, ReadHead};
 
 use crate::{ACK, AGENT_HELLO, FrameCut, HAPROXY_HELLO, Head, HeadRead, NOTIFY, Side};
 use answer::{ABORTED, OTHER_SIDE, Refusal, TOO_SOON, UNKNOWN};
@@ -14,7 +14,7 @@ use varint::NumberRead;
 // The number that the first four bytes are, the highest first.
 fn four(bytes: &[u8]) -> u32
     requires { 4 ≤ length bytes.now }
-    ensures { result ≡ fourNumber bytes.now }
+    ensures { result ≡ four_number bytes.now }
 {
     bytes[0] as u32 * 0x100_0000
         + bytes[1] as u32 * 0x1_0000
@@ -53,14 +53,14 @@ fn sent_by(side: Side, frame_type: u8) -> bool
 
 // Whether the type is known: it is one side's.
 fn type_known(frame_type: u8) -> bool
-    ensures { result ≡ some (eqb frame_type) frameTypes }
+    ensures { result ≡ some (eqb frame_type) frame_types }
 {
     sent_by(Side::HAProxy, frame_type) || sent_by(Side::Agents, frame_type)
 }
 
 // Whether these flags are allowed: FIN, with ABORT or without.
 fn flags_allowed(flags: u32) -> bool
-    ensures { result ≡ some (eqb flags) finSet }
+    ensures { result ≡ some (eqb flags) fin_set }
 {
     flags == 1 || flags == 3
 }
@@ -73,8 +73,8 @@ fn refused(number: u64, place: usize) -> HeadRead
 
 // The refusal of a number that was read behind `at` bytes; 0 at 0 of one that was read, which is not asked.
 fn number_refused(found: NumberRead, at: usize) -> HeadRead
-    requires { (number place : ℕ) → numberSaid found ≡ refusal number place → at + place < 2 ^ 64 }
-    ensures { (number place : ℕ) → numberSaid found ≡ refusal number place → headSaid result ≡ refusal number (at + place) }
+    requires { (number place : ℕ) → number_said found ≡ refusal number place → at + place < 2 ^ 64 }
+    ensures { (number place : ℕ) → number_said found ≡ refusal number place → head_said result ≡ refusal number (at + place) }
 {
     match found {
         NumberRead::Refused(r) => refused(r.number, at + r.place),

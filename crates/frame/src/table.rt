@@ -1,7 +1,7 @@
 // Records of a table, read from it and put into it.
 ghost use Rattle.std.specs.Prelude.{◌≡◌, ◌≤◌, length};
 ghost use Rattle.answer.specs.Answer.{written, leaves};
-ghost use Rattle.frame.specs.Records.{messageAt, pair_at, actionAt};
+ghost use Rattle.frame.specs.Records.{message_at, pair_at, action_at};
 ghost use Rattle.answer.specs.Writes.{Writes};
 
 use crate::{ACTION_WIDTH, Action, MESSAGE_WIDTH, Message, PAIR_WIDTH, Pair};
@@ -24,7 +24,7 @@ const NO_PAIR: Pair = Pair {
 
 // Record i of a table of messages.
 pub fn message_at(messages: &[u64], i: usize) -> Message
-    ensures { result ≡ messageAt messages.now i }
+    ensures { result ≡ message_at messages.now i }
 {
     if messages.len() / MESSAGE_WIDTH <= i {
         return Message {
@@ -65,7 +65,7 @@ pub fn pair_at(pairs: &[u64], i: usize) -> Pair
 
 // Record i of a table of actions.
 pub fn action_at(actions: &[u64], i: usize) -> Action
-    ensures { result ≡ actionAt actions.now i }
+    ensures { result ≡ action_at actions.now i }
 {
     if actions.len() / ACTION_WIDTH <= i {
         return Action {

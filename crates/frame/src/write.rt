@@ -1,7 +1,7 @@
 // The head, written.
 ghost use Rattle.std.specs.Prelude.{◌≡◌, ◌++◌, ◌∷◌, ◌≤◌, length};
 ghost use Rattle.answer.specs.Answer.{written, leaves};
-ghost use Rattle.frame.specs.Head.{fourBytes, headBytes};
+ghost use Rattle.frame.specs.Head.{four_bytes, head_bytes};
 ghost use Rattle.answer.specs.Writes.{Writes};
 
 use crate::Head;
@@ -9,14 +9,14 @@ use answer::{NO_ROOM, Refusal, Written};
 
 // How many bytes the head has, from its type to its second number.
 pub fn head_len(head: Head) -> usize
-    ensures { result ≡ length (headBytes head) }
+    ensures { result ≡ length (head_bytes head) }
 {
     5 + varint::varint_len(head.stream) + varint::varint_len(head.frame)
 }
 
 // Writes the four length bytes and the head. `behind` is the length of the frame behind the length bytes.
 pub fn write_head(behind: u32, head: Head, out: &mut [u8]) -> Written
-    ensures { Writes (written (fourBytes behind ++ headBytes head)) result out.old out.new }
+    ensures { Writes (written (four_bytes behind ++ head_bytes head)) result out.old out.new }
 {
     if out.len() < 4 + head_len(head) {
         return Written::Refused(Refusal {
@@ -34,7 +34,7 @@ pub fn write_head(behind: u32, head: Head, out: &mut [u8]) -> Written
 // The nine bytes of fixed places: the length, the type and the flags.
 fn put_start(behind: u32, frame_type: u8, flags: u32, out: &mut [u8])
     requires { 9 ≤ length out.old }
-    ensures { out.new ≡ leaves (written (fourBytes behind ++ (frame_type ∷ fourBytes flags))) out.old }
+    ensures { out.new ≡ leaves (written (four_bytes behind ++ (frame_type ∷ four_bytes flags))) out.old }
 {
     out[0] = (behind / 0x100_0000 % 256) as u8;
     out[1] = (behind / 0x1_0000 % 256) as u8;

@@ -8,17 +8,17 @@ use Rattle.hello.specs.declared.Chosen.TheVariants as c
 
 -- "The maximum size supported by peers for a frame must be greater than or equal to 256 bytes", and the agent returns "the lower
 -- value between its maximum size allowed for a frame and the HAProxy one". 13 at place 0 where a size is below (docs/RULES.md).
-unfoldable pub frameSize : ℕ → ℕ → Answer Unit
-frameSize theirs ours = cond (leb 256 theirs && leb 256 ours) (done tt (min theirs ours)) (refused 13 0)
+unfoldable pub frame_size : ℕ → ℕ → Answer Unit
+frame_size theirs ours = cond (leb 256 theirs && leb 256 ours) (done tt (min theirs ours)) (refused 13 0)
 
 -- How many numbers an announced version has in the table of them. Fewer at the end of the table are no version.
-abbrev pub versionWidth : ℕ
-versionWidth = 4
+abbrev pub version_width : ℕ
+version_width = 4
 
 -- major, minor and patch, and a number that is 0 exactly where the version has no pre-release part
-unfoldable pub versionAt : List ℕ → ℕ → Announced
-versionAt table i =
-    let number = number_at versionWidth table i in
+unfoldable pub version_at : List ℕ → ℕ → Announced
+version_at table i =
+    let number = number_at version_width table i in
     record { major = number 0; minor = number 1; patch = number 2; pre = number 3 }
 
 -- The agent's version is to be one that HAProxy supports, and "when a major version is announced by HAProxy, it means it also
@@ -29,7 +29,7 @@ unfoldable pub covers : Announced → Bool
 covers v = eqb v.major 2 && (eqb v.pre 0 || (ltb 0 v.minor || ltb 0 v.patch))
 
 unfoldable pub announced : List ℕ → Bool
-announced versions = some covers (records (versionAt versions) 0 (length versions / versionWidth))
+announced versions = some covers (records (version_at versions) 0 (length versions / version_width))
 
 -- what the agent chooses: the version that it supports, or none
 unfoldable pub choice : List ℕ → Chosen

@@ -1,6 +1,6 @@
 // The two negotiations of the HELLO handshake (SPOE.txt, sections 3.2.4 and 3.2.5).
 ghost use Rattle.std.specs.Prelude.{◌≡◌, ◌+◌, ◌*◌, ◌≤◌, length};
-ghost use Rattle.hello.specs.Hello.{versionWidth, versionAt, covers, choice};
+ghost use Rattle.hello.specs.Hello.{version_width, version_at, covers, choice};
 ghost use Rattle.hello.specs.Promise.{NegotiateMaxFrameSize};
 
 use answer::{Refusal, SIZE_TOO_SMALL};
@@ -71,8 +71,8 @@ pub fn negotiate_max_frame_size(theirs: u32, ours: u32) -> Size
 
 // Version i of a table.
 fn version_at(versions: &[u64], i: usize) -> Announced
-    requires { i * versionWidth + versionWidth ≤ length versions.now }
-    ensures { result ≡ versionAt versions.now i }
+    requires { i * version_width + version_width ≤ length versions.now }
+    ensures { result ≡ version_at versions.now i }
 {
     let at = i * VERSION_WIDTH;
     Announced {

@@ -12,79 +12,79 @@ use Rattle.answer.specs.declared.Written.{Written}
 use Rattle.answer.specs.declared.Written.TheVariants as w
 use Rattle.answer.specs.Answer.{Answer, done, refused, tells, within}
 use Rattle.answer.specs.Writes.{said, counted, Writes}
-use Rattle.answer.proofs.Cases.{lt-or-le, bool_cases, both_true}
-use Rattle.answer.proofs.Same.{writes-unique, one_only}
-use Rattle.frame.specs.Records.{messageWidth, pairWidth, messageAt, pair_at}
+use Rattle.answer.proofs.Cases.{lt_or_le, bool_cases, both_true}
+use Rattle.answer.proofs.Same.{writes_unique, one_only}
+use Rattle.frame.specs.Records.{message_width, pair_width, message_at, pair_at}
 use Rattle.listing.specs.declared.Place.{Place}
 use Rattle.listing.specs.declared.Step.{Step}
 use Rattle.listing.specs.declared.Step.TheVariants as s
-use Rattle.listing.specs.Check.{pairAnswer, messageAnswer}
-use Rattle.listing.specs.Order.{pairNext, behindPair, behindMessage, in_table, Coming, line, none, coming, step_of, Comes}
+use Rattle.listing.specs.Check.{pair_answer, message_answer}
+use Rattle.listing.specs.Order.{pair_next, behind_pair, behind_message, in_table, Coming, line, none, coming, step_of, Comes}
 
 -- ---- a step
 
-pub comes-unique : (c : Coming) (r q : Step) (old new other : List ℕ) → Comes c r old new → Comes c q old other → (r ≡ q) × (new ≡ other)
-comes-unique (line a p) r q old new other x y = let o = writes-unique x.2 y.2 in (x.1 ∙ ap (λ (b : Written). step_of b p) o.0 ∙ sym y.1, o.1)
-comes-unique none r q old new other x y = (one_only x.0 y.0, one_only x.1 y.1)
+pub comes_unique : (c : Coming) (r q : Step) (old new other : List ℕ) → Comes c r old new → Comes c q old other → (r ≡ q) × (new ≡ other)
+comes_unique (line a p) r q old new other x y = let o = writes_unique x.2 y.2 in (x.1 ∙ ap (λ (b : Written). step_of b p) o.0 ∙ sym y.1, o.1)
+comes_unique none r q old new other x y = (one_only x.0 y.0, one_only x.1 y.1)
 
 -- ---- which comes
 
 module _ (f messages : List ℕ) (count : ℕ) (pairs : List ℕ) (total : ℕ) (p : Place) where
-  pub coming-pair : pairNext count total p ≡ true → coming f messages count pairs total p ≡ line (in_table pairWidth pair_at pairAnswer f pairs p.pairs) (behindPair p)
+  pub coming_pair : pair_next count total p ≡ true → coming f messages count pairs total p ≡ line (in_table pair_width pair_at pair_answer f pairs p.pairs) (behind_pair p)
   unfolding coming
-  coming-pair e = rw e
+  coming_pair e = rw e
 
-  module _ (no-pair : pairNext count total p ≡ false) where
-    pub coming-message : p.messages < count
-        → coming f messages count pairs total p ≡ line (in_table messageWidth messageAt messageAnswer f messages p.messages) (behindMessage p (messageAt messages p.messages).count)
+  module _ (no_pair_lem : pair_next count total p ≡ false) where
+    pub coming_message : p.messages < count
+        → coming f messages count pairs total p ≡ line (in_table message_width message_at message_answer f messages p.messages) (behind_message p (message_at messages p.messages).count)
     unfolding coming
-    coming-message h = rw (no-pair, lt-ltb p.messages count h)
+    coming_message h = rw (no_pair_lem, lt-ltb p.messages count h)
 
-    pub coming-none : count ≤ p.messages → coming f messages count pairs total p ≡ none
+    pub coming_none : count ≤ p.messages → coming f messages count pairs total p ≡ none
     unfolding coming
-    coming-none h = rw (no-pair, le-ltb p.messages count h)
+    coming_none h = rw (no_pair_lem, le-ltb p.messages count h)
 
 -- ---- what a caller learns
 
 -- a writer's count fits what was lent to it
-pub writes-fit : {a : Answer (List ℕ)} {r : Written} {old new : List ℕ} → Writes a r old new → counted r ≤ length old
-writes-fit {a} {r} {old} p = told-fits a (length old) r p.says
+pub writes_fit : {a : Answer (List ℕ)} {r : Written} {old new : List ℕ} → Writes a r old new → counted r ≤ length old
+writes_fit {a} {r} {old} p = told_fits a (length old) r p.says
   where
-    told-fits : (a : Answer (List ℕ)) (room : ℕ) (r : Written) → said r ≡ tells (within room a) → counted r ≤ room
-    told-fits (done bytes n) room (w.Done m) e =
+    told_fits : (a : Answer (List ℕ)) (room : ℕ) (r : Written) → said r ≡ tells (within room a) → counted r ≤ room
+    told_fits (done bytes n) room (w.Done m) e =
         ⊎_elim
         (λ h. let q : done tt m ≡ refused 11 0 = simp (lt-leb n room h) at e in let z : ◌≡◌ {A = ℕ} 0 1 = cc in absurd (omega arith))
         (λ h. let q : done tt m ≡ done tt n = simp (le-leb n room h) at e in let same : m ≡ n = cc in omega arith)
-        (lt-or-le room n)
-    told-fits (refused number place) room (w.Done m) e = let z : ◌≡◌ {A = ℕ} 0 1 = cc in absurd (omega arith)
-    told-fits (done bytes n) room (w.Refused r) e = zero-le
-    told-fits (refused number place) room (w.Refused r) e = zero-le
+        (lt_or_le room n)
+    told_fits (refused number place) room (w.Done m) e = let z : ◌≡◌ {A = ℕ} 0 1 = cc in absurd (omega arith)
+    told_fits (done bytes n) room (w.Refused r) e = zero-le
+    told_fits (refused number place) room (w.Refused r) e = zero-le
 
 module _ {r : Step} (old new : List ℕ) (n : ℕ) (q : Place) (is : r ≡ s.Line n q) where
   -- a line that came fits, and leads to its place
-  line-came : (a : Answer (List ℕ)) (p : Place) → Comes (line a p) r old new → (n ≤ length old) × (p ≡ q)
-  line-came a p (w.Done m, e, x) =
+  line_came : (a : Answer (List ℕ)) (p : Place) → Comes (line a p) r old new → (n ≤ length old) × (p ≡ q)
+  line_came a p (w.Done m, e, x) =
       let o : s.Line m p ≡ s.Line n q = sym e ∙ is in
       let same : m ≡ n = cc in
-      (omega (arith, writes-fit x), cc)
-  line-came a p (w.Refused y, e, x) = let o : s.Refused y ≡ s.Line n q = sym e ∙ is in let z : ◌≡◌ {A = ℕ} 0 1 = cc in absurd (omega arith)
+      (omega (arith, writes_fit x), cc)
+  line_came a p (w.Refused y, e, x) = let o : s.Refused y ≡ s.Line n q = sym e ∙ is in let z : ◌≡◌ {A = ℕ} 0 1 = cc in absurd (omega arith)
 
   -- Law: so each line that comes fits, and with each there are fewer left.
-  pub line-less : (f messages : List ℕ) (count : ℕ) (pairs : List ℕ) (total : ℕ) (p : Place) → Comes (coming f messages count pairs total p) r old new
+  pub line_less : (f messages : List ℕ) (count : ℕ) (pairs : List ℕ) (total : ℕ) (p : Place) → Comes (coming f messages count pairs total p) r old new
       → (n ≤ length old) × ((count - q.messages) + (total - q.pairs) < (count - p.messages) + (total - p.pairs))
-  line-less f messages count pairs total p e =
-      bool_cases (pairNext count total p)
+  line_less f messages count pairs total p e =
+      bool_cases (pair_next count total p)
       (λ t.
-      let g = line-came _ _ (rw (coming-pair f messages count pairs total p t) at e) in
+      let g = line_came _ _ (rw (coming_pair f messages count pairs total p t) at e) in
       let h = ltb-true p.pairs total (both_true (ltb p.pairs total) _ t).0 in
       (g.0, rw (sym g.1) (omega (arith, h))))
       (λ t.
       ⊎_elim
       (λ h.
-      let g = line-came _ _ (rw (coming-message f messages count pairs total p t h) at e) in
+      let g = line_came _ _ (rw (coming_message f messages count pairs total p t h) at e) in
       (g.0, rw (sym g.1) (omega (arith, h))))
       (λ h.
-      let g = rw (coming-none f messages count pairs total p t h) at e in
+      let g = rw (coming_none f messages count pairs total p t h) at e in
       let o : s.End ≡ s.Line n q = sym g.0 ∙ is in
       let z : ◌≡◌ {A = ℕ} 0 1 = cc in absurd (omega arith))
-      (lt-or-le p.messages count))
+      (lt_or_le p.messages count))

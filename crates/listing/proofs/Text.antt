@@ -11,59 +11,59 @@ use borrow.Author.Tests.{lt-ltb, le-ltb, ne_eqb, eq-eqb}
 use borrow.Rule.Slice.PartMut.{put_mid}
 use Rattle.answer.specs.Answer.{written}
 use Rattle.answer.specs.Table.{joined}
-use Rattle.answer.proofs.Cases.{lt-or-le}
-use Rattle.answer.proofs.Records.{joined-none, joined-on}
-use Rattle.answer.proofs.Output.{Partly, partly-count, partly-all}
-use Rattle.answer.proofs.Parts.{part-start, part_room, part-most, partly-part}
+use Rattle.answer.proofs.Cases.{lt_or_le}
+use Rattle.answer.proofs.Records.{joined_none, joined_on}
+use Rattle.answer.proofs.Output.{Partly, partly_count, partly_all}
+use Rattle.answer.proofs.Parts.{part_start, part_room, part_most, partly_part}
 use Rattle.types.specs.Inner.{Puts}
-use Rattle.listing.specs.Digits.{dash, glyph, decimal, signed, hexPair, shown}
+use Rattle.listing.specs.Digits.{dash, glyph, decimal, signed, hex_pair, shown}
 use Rattle.listing.specs.Lines.{filled}
-use Rattle.listing.proofs.Decimal.{decimal-most}
+use Rattle.listing.proofs.Decimal.{decimal_most}
 
 -- ---- a sign
 
-pub signed-plus : (n : ℕ) → n < 2 ^ 63 → signed n ≡ decimal n
+pub signed_plus : (n : ℕ) → n < 2 ^ 63 → signed n ≡ decimal n
 unfolding signed
-signed-plus n h = simp (lt-ltb n (2 ^ 63) h)
+signed_plus n h = simp (lt-ltb n (2 ^ 63) h)
 
-pub signed-minus : (n : ℕ) → 2 ^ 63 ≤ n → signed n ≡ dash ∷ decimal (2 ^ 64 - n)
+pub signed_minus : (n : ℕ) → 2 ^ 63 ≤ n → signed n ≡ dash ∷ decimal (2 ^ 64 - n)
 unfolding signed
-signed-minus n h = simp (le-ltb n (2 ^ 63) h)
+signed_minus n h = simp (le-ltb n (2 ^ 63) h)
 
 -- as the code subtracts
-pub signed-code : (n : ℕ) → 2 ^ 63 ≤ n → n < 2 ^ 64 → signed n ≡ dash ∷ decimal (18446744073709551615 - n + 1)
-signed-code n h l =
+pub signed_code : (n : ℕ) → 2 ^ 63 ≤ n → n < 2 ^ 64 → signed n ≡ dash ∷ decimal (18446744073709551615 - n + 1)
+signed_code n h l =
     let e : 2 ^ 64 - n ≡ 18446744073709551615 - n + 1 = omega arith in
-    signed-minus n h ∙ ap (λ (k : ℕ). dash ∷ decimal k) e
+    signed_minus n h ∙ ap (λ (k : ℕ). dash ∷ decimal k) e
 
-pub signed-most : (n : ℕ) → n < 2 ^ 64 → length (signed n) ≤ 21
-signed-most n h =
-    ⊎_elim (λ l. rw (signed-plus n l) (omega (arith, decimal-most n h)))
-    (λ l. rw (signed-minus n l) (omega (arith, decimal-most (2 ^ 64 - n) (omega arith))))
-    (lt-or-le n (2 ^ 63))
+pub signed_most : (n : ℕ) → n < 2 ^ 64 → length (signed n) ≤ 21
+signed_most n h =
+    ⊎_elim (λ l. rw (signed_plus n l) (omega (arith, decimal_most n h)))
+    (λ l. rw (signed_minus n l) (omega (arith, decimal_most (2 ^ 64 - n) (omega arith))))
+    (lt_or_le n (2 ^ 63))
 
 -- ---- bytes
 
-pub hex-on : (bytes : List ℕ) (i : ℕ) → i < length bytes
-    → joined hexPair (drop i bytes) ≡ glyph (get_or bytes i 0 / 16) ∷ glyph (get_or bytes i 0 % 16) ∷ joined hexPair (drop (i + 1) bytes)
-hex-on bytes i h = rw (add-one i, drop-cons bytes i 0 h) (joined-on hexPair (get_or bytes i 0) (drop (suc i) bytes))
+pub hex_on : (bytes : List ℕ) (i : ℕ) → i < length bytes
+    → joined hex_pair (drop i bytes) ≡ glyph (get_or bytes i 0 / 16) ∷ glyph (get_or bytes i 0 % 16) ∷ joined hex_pair (drop (i + 1) bytes)
+hex_on bytes i h = rw (add-one i, drop-cons bytes i 0 h) (joined_on hex_pair (get_or bytes i 0) (drop (suc i) bytes))
 
-pub hex-end : (bytes : List ℕ) (i : ℕ) → length bytes ≤ i → joined hexPair (drop i bytes) ≡ []
-hex-end bytes i h = rw (drop_of_length-le bytes h) (joined-none hexPair)
+pub hex_end : (bytes : List ℕ) (i : ℕ) → length bytes ≤ i → joined hex_pair (drop i bytes) ≡ []
+hex_end bytes i h = rw (drop_of_length-le bytes h) (joined_none hex_pair)
 
-pub hex-length : (bytes : List ℕ) → length (joined hexPair bytes) ≡ 2 * length bytes
-hex-length [] = ap length (joined-none hexPair)
-hex-length (b ∷ s) = ap length (joined-on hexPair b s) ∙ omega (arith, hex-length s)
+pub hex_length : (bytes : List ℕ) → length (joined hex_pair bytes) ≡ 2 * length bytes
+hex_length [] = ap length (joined_none hex_pair)
+hex_length (b ∷ s) = ap length (joined_on hex_pair b s) ∙ omega (arith, hex_length s)
 
-pub shown-none : (bytes : List ℕ) → length bytes ≡ 0 → shown bytes ≡ dash ∷ []
+pub shown_none : (bytes : List ℕ) → length bytes ≡ 0 → shown bytes ≡ dash ∷ []
 unfolding shown
-shown-none [] h = refl
-shown-none (b ∷ s) h = absurd (omega arith)
+shown_none [] h = refl
+shown_none (b ∷ s) h = absurd (omega arith)
 
-pub shown-some : (bytes : List ℕ) → (length bytes ≡ 0 → ⊥) → shown bytes ≡ joined hexPair bytes
+pub shown_some : (bytes : List ℕ) → (length bytes ≡ 0 → ⊥) → shown bytes ≡ joined hex_pair bytes
 unfolding shown
-shown-some [] h = absurd (h refl)
-shown-some (b ∷ s) h = refl
+shown_some [] h = absurd (h refl)
+shown_some (b ∷ s) h = refl
 
 -- ---- forms
 
@@ -72,26 +72,26 @@ abbrev pub gap : ℕ
 gap = 35
 
 -- what is left of a form with its numbers, from byte i and number k on
-abbrev pub filledFrom : List ℕ → List ℕ → ℕ → ℕ → List ℕ
-filledFrom form numbers i k = filled (drop i form) (map decimal (drop k numbers))
+abbrev pub filled_from : List ℕ → List ℕ → ℕ → ℕ → List ℕ
+filled_from form numbers i k = filled (drop i form) (map decimal (drop k numbers))
 
 module _ (form numbers : List ℕ) (i k : ℕ) where
-  pub from_end : length form ≤ i → filledFrom form numbers i k ≡ []
+  pub from_end : length form ≤ i → filled_from form numbers i k ≡ []
   unfolding filled
   from_end h = rw (drop_of_length-le form h)
 
   module _ (h : i < length form) where
-    pub from-plain : (get_or form i 0 ≡ gap → ⊥) → filledFrom form numbers i k ≡ get_or form i 0 ∷ filledFrom form numbers (i + 1) k
+    pub from_plain : (get_or form i 0 ≡ gap → ⊥) → filled_from form numbers i k ≡ get_or form i 0 ∷ filled_from form numbers (i + 1) k
     unfolding filled
-    from-plain ne = rw (add-one i, drop-cons form i 0 h) (simp (ne_eqb (get_or form i 0) gap ne))
+    from_plain ne = rw (add-one i, drop-cons form i 0 h) (simp (ne_eqb (get_or form i 0) gap ne))
 
-    pub from-mark : get_or form i 0 ≡ gap → k < length numbers
-        → filledFrom form numbers i k ≡ decimal (get_or numbers k 0) ++ filledFrom form numbers (i + 1) (k + 1)
+    pub from_mark : get_or form i 0 ≡ gap → k < length numbers
+        → filled_from form numbers i k ≡ decimal (get_or numbers k 0) ++ filled_from form numbers (i + 1) (k + 1)
     unfolding filled
-    from-mark e l =
+    from_mark e l =
         rw (add-one i, add-one k, drop-cons form i 0 h, drop-cons numbers k 0 l) (simp (eq-eqb (get_or form i 0) gap e))
 
-    pub from_out : get_or form i 0 ≡ gap → length numbers ≤ k → filledFrom form numbers i k ≡ filledFrom form numbers (i + 1) k
+    pub from_out : get_or form i 0 ≡ gap → length numbers ≤ k → filled_from form numbers i k ≡ filled_from form numbers (i + 1) k
     unfolding filled
     from_out e l =
         rw (add-one i, drop-cons form i 0 h, drop_of_length-le numbers l) (simp (eq-eqb (get_or form i 0) gap e))
@@ -105,7 +105,7 @@ begin {front} {rest} {old} {out} {n} p room =
     record {
       room = room;
       so_far = rw p.counts (p.holds ∙ ap (λ (l : List ℕ). l ++ drop (length front) old) (sym (take_at front rest (length front) refl)));
-      to-do = drop_at front rest n (sym p.counts);
+      to_do = drop_at front rest n (sym p.counts);
       at_most = omega (arith, p.counts, length-append front rest);
     }
 
@@ -115,18 +115,18 @@ pub record Next (bytes old : List ℕ) (at : ℕ) (front rest out : List ℕ) : 
 
 module _ {bytes old front rest out : List ℕ} {at : ℕ} (p : Next bytes old at front rest out) where
   pub next_start : at ≤ length out
-  next_start = part-start front rest p.left
+  next_start = part_start front rest p.left
 
-  pub next-room : length front ≤ length (take (length out - at) (drop at out))
-  next-room = part_room front rest p.left
+  pub next_room : length front ≤ length (take (length out - at) (drop at out))
+  next_room = part_room front rest p.left
 
   module _ {k : ℕ} {tail : List ℕ} (q : Puts (written front) k (take (length out - at) (drop at out)) tail) where
-    pub next-most : at + k ≤ length old
-    next-most = omega (arith, q.counts, part-most front rest p.left)
+    pub next_most : at + k ≤ length old
+    next_most = omega (arith, q.counts, part_most front rest p.left)
 
-    pub next-on : Partly bytes old (at + k) rest (put_mid at (length out - at) out tail)
-    next-on = rw q.counts (partly-part front rest p.left tail q.holds)
+    pub next_on : Partly bytes old (at + k) rest (put_mid at (length out - at) out tail)
+    next_on = rw q.counts (partly_part front rest p.left tail q.holds)
 
 -- all are
-pub all-put : {bytes old out : List ℕ} {at : ℕ} → Partly bytes old at [] out → Puts (written bytes) at old out
-all-put p = record { counts = partly-count p; holds = partly-all p }
+pub all_put : {bytes old out : List ℕ} {at : ℕ} → Partly bytes old at [] out → Puts (written bytes) at old out
+all_put p = record { counts = partly_count p; holds = partly_all p }

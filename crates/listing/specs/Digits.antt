@@ -32,10 +32,10 @@ unfoldable pub signed : ℕ → List ℕ
 signed n = cond (ltb n (2 ^ 63)) (decimal n) (dash ∷ decimal (2 ^ 64 - n))
 
 -- a byte's two digits, the higher first
-abbrev pub hexPair : ℕ → List ℕ
-hexPair b = glyph (b / 16) ∷ glyph (b % 16) ∷ []
+abbrev pub hex_pair : ℕ → List ℕ
+hex_pair b = glyph (b / 16) ∷ glyph (b % 16) ∷ []
 
 -- Bytes: two digits for each, or a dash where there are none.
 unfoldable pub shown : List ℕ → List ℕ
 shown [] = dash ∷ []
-shown (b ∷ s) = joined hexPair (b ∷ s)
+shown (b ∷ s) = joined hex_pair (b ∷ s)

@@ -14,7 +14,7 @@ use Rattle.std.specs.Prelude.{Bool, true, false, cond, ◌||◌, List, [], ◌�
 use Prim.Native.Char.{code}
 use Rattle.types.specs.Value.{shape, points, Record, value}
 use Rattle.types.specs.Form.{part}
-use Rattle.types.specs.Promise.{recordOf}
+use Rattle.types.specs.Promise.{record_of}
 use Rattle.frame.specs.declared.Pair.{Pair}
 use Rattle.frame.specs.declared.Message.{Message}
 use Rattle.frame.specs.declared.Action.{Action}
@@ -23,47 +23,47 @@ use Rattle.frame.specs.declared.Head.{Head}
 use Rattle.listing.specs.Digits.{letters, dash, decimal, signed, shown}
 
 -- A byte of a form, whether it is `#`, and the rest: for `#` the first text is put, or nothing where none is left.
-abbrev pub fillsOne : Bool → ℕ → (List (List ℕ) → List ℕ) → List (List ℕ) → List ℕ
-fillsOne true b rest [] = rest []
-fillsOne true b rest (t ∷ texts) = t ++ rest texts
-fillsOne false b rest texts = b ∷ rest texts
+abbrev pub fills_one : Bool → ℕ → (List (List ℕ) → List ℕ) → List (List ℕ) → List ℕ
+fills_one true b rest [] = rest []
+fills_one true b rest (t ∷ texts) = t ++ rest texts
+fills_one false b rest texts = b ∷ rest texts
 
 -- A form with its texts in order.
 unfoldable pub filled : List ℕ → List (List ℕ) → List ℕ
 filled [] texts = []
-filled (b ∷ form) texts = fillsOne (eqb b (code "#")) b (filled form) texts
+filled (b ∷ form) texts = fills_one (eqb b (code "#")) b (filled form) texts
 
 -- Null is a dash, and INT32 and INT64 (kinds 2 and 4 of SPOE.txt's table) have a sign. A kind that points has its bytes, and any other is a number.
 -- Flags are not shown.
-unfoldable pub valueText : List ℕ → Record → List ℕ
-valueText f (value kind a b flags) =
+unfoldable pub value_text : List ℕ → Record → List ℕ
+value_text f (value kind a b flags) =
     cond (eqb kind 0) (dash ∷ [])
     (cond (eqb kind 2 || eqb kind 4) (signed a)
     (cond (points (shape kind)) (shown (part f a b)) (decimal a)))
 
 -- ---- the lines
 
-unfoldable pub frameLine : ℕ → Head → ℕ → List ℕ
-frameLine index m bytes =
+unfoldable pub frame_line : ℕ → Head → ℕ → List ℕ
+frame_line index m bytes =
     filled (letters "frame # type # stream # id # bytes #\n") (map decimal (index ∷ m.frame_type ∷ m.stream ∷ m.frame ∷ bytes ∷ []))
 
-unfoldable pub messageLine : ℕ → List ℕ → Message → List ℕ
-messageLine index f m =
+unfoldable pub message_line : ℕ → List ℕ → Message → List ℕ
+message_line index f m =
     filled (letters "message # name # args #\n") (decimal index ∷ shown (part f m.start m.len) ∷ decimal m.count ∷ [])
 
 -- a pair's key, and its value's kind and text
-abbrev pub pairTexts : List ℕ → Pair → List (List ℕ)
-pairTexts f p = shown (key_of f p) ∷ decimal p.value.kind ∷ valueText f (recordOf p.value) ∷ []
+abbrev pub pair_texts : List ℕ → Pair → List (List ℕ)
+pair_texts f p = shown (key_of f p) ∷ decimal p.value.kind ∷ value_text f (record_of p.value) ∷ []
 
-unfoldable pub pairLine : ℕ → List ℕ → Pair → List ℕ
-pairLine index f p = filled (letters "pair # key # kind # value #\n") (decimal index ∷ pairTexts f p)
+unfoldable pub pair_line : ℕ → List ℕ → Pair → List ℕ
+pair_line index f p = filled (letters "pair # key # kind # value #\n") (decimal index ∷ pair_texts f p)
 
 -- An action that sets a variable has its value, and one that unsets it the name alone.
-unfoldable pub actionLine : ℕ → List ℕ → Action → List ℕ
-actionLine index f x =
+unfoldable pub action_line : ℕ → List ℕ → Action → List ℕ
+action_line index f x =
     filled (letters (cond (eqb x.verb 1) "action # set scope # name # kind # value #\n" "action # unset scope # name #\n"))
-    (decimal index ∷ decimal x.scope ∷ pairTexts f x.pair)
+    (decimal index ∷ decimal x.scope ∷ pair_texts f x.pair)
 
 -- bytes used by accepted frames, the answer that stopped it, and the missing count or the place
-unfoldable pub endLine : ℕ → ℕ → ℕ → List ℕ
-endLine used number at = filled (letters "end # # #\n") (map decimal (used ∷ number ∷ at ∷ []))
+unfoldable pub end_line : ℕ → ℕ → ℕ → List ℕ
+end_line used number at = filled (letters "end # # #\n") (map decimal (used ∷ number ∷ at ∷ []))

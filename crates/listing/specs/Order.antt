@@ -5,24 +5,24 @@ use Rattle.answer.specs.declared.Written.TheVariants as w
 use Rattle.answer.specs.Answer.{Answer, refused}
 use Rattle.answer.specs.Writes.{Writes}
 use Rattle.answer.specs.Table.{holds}
-use Rattle.frame.specs.Records.{messageWidth, pairWidth, messageAt, pair_at}
+use Rattle.frame.specs.Records.{message_width, pair_width, message_at, pair_at}
 use Rattle.listing.specs.declared.Place.{Place}
 use Rattle.listing.specs.declared.Step.{Step}
 use Rattle.listing.specs.declared.Step.TheVariants as s
-use Rattle.listing.specs.Check.{messageAnswer, pairAnswer}
+use Rattle.listing.specs.Check.{message_answer, pair_answer}
 
 -- ---- which
 
 -- A pair is next where one is left of so many, and it is an argument that is to come, or no message is left of so many.
-abbrev pub pairNext : ℕ → ℕ → Place → Bool
-pairNext messages pairs p = ltb p.pairs pairs && (ltb 0 p.left || leb messages p.messages)
+abbrev pub pair_next : ℕ → ℕ → Place → Bool
+pair_next messages pairs p = ltb p.pairs pairs && (ltb 0 p.left || leb messages p.messages)
 
 -- the place behind a pair, and behind a message of so many arguments
-abbrev pub behindPair : Place → Place
-behindPair p = record { messages = p.messages; pairs = p.pairs + 1; left = p.left - 1 }
+abbrev pub behind_pair : Place → Place
+behind_pair p = record { messages = p.messages; pairs = p.pairs + 1; left = p.left - 1 }
 
-abbrev pub behindMessage : Place → ℕ → Place
-behindMessage p count = record { messages = p.messages + 1; pairs = p.pairs; left = count }
+abbrev pub behind_message : Place → ℕ → Place
+behind_message p count = record { messages = p.messages + 1; pairs = p.pairs; left = count }
 
 -- ---- its line
 
@@ -38,9 +38,9 @@ pub data Coming : Type 0 where
 -- What comes at a place of so many messages and so many pairs.
 unfoldable pub coming : List ℕ → List ℕ → ℕ → List ℕ → ℕ → Place → Coming
 coming f messages count pairs total p =
-    cond (pairNext count total p) (line (in_table pairWidth pair_at pairAnswer f pairs p.pairs) (behindPair p))
+    cond (pair_next count total p) (line (in_table pair_width pair_at pair_answer f pairs p.pairs) (behind_pair p))
     (cond (ltb p.messages count)
-    (line (in_table messageWidth messageAt messageAnswer f messages p.messages) (behindMessage p (messageAt messages p.messages).count))
+    (line (in_table message_width message_at message_answer f messages p.messages) (behind_message p (message_at messages p.messages).count))
     none)
 
 -- ---- what is said of it

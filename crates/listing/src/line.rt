@@ -2,13 +2,13 @@
 ghost use Rattle.std.specs.Prelude.{◌≡◌, ◌&&◌, ◌||◌, ◌∷◌, ◌≤◌, leb, eqb, length};
 ghost use Rattle.answer.specs.Answer.{written, within};
 ghost use Rattle.answer.specs.Writes.{Writes};
-ghost use Rattle.answer.specs.Order.{inOrder};
+ghost use Rattle.answer.specs.Order.{in_order};
 ghost use Rattle.types.specs.Inner.{Puts};
 ghost use Rattle.types.specs.Form.{inside};
-ghost use Rattle.types.specs.Promise.{recordOf};
-ghost use Rattle.listing.specs.Lines.{valueText, frameLine, endLine};
-ghost use Rattle.listing.specs.Check.{messageAnswer, pairLineChecks, pairAnswer, isAction, actionAnswer};
-ghost use Rattle.listing.specs.Inner.{Listed, namedText, valuedText};
+ghost use Rattle.types.specs.Promise.{record_of};
+ghost use Rattle.listing.specs.Lines.{value_text, frame_line, end_line};
+ghost use Rattle.listing.specs.Check.{message_answer, pair_line_checks, pair_answer, is_action, action_answer};
+ghost use Rattle.listing.specs.Inner.{Listed, named_text, valued_text};
 
 use crate::digits::{
     DASH, digits_len, filled_len, put_digits, put_filled, put_shown, put_signed, shown_len,
@@ -20,7 +20,7 @@ use types::Value;
 
 // Writes the line of a frame: its index, type, stream and id, and how many bytes it takes.
 pub fn write_frame_line(index: u64, head: Head, bytes: u64, out: &mut [u8]) -> Written
-    ensures { Writes (written (frameLine index head bytes)) result out.old out.new }
+    ensures { Writes (written (frame_line index head bytes)) result out.old out.new }
 {
     let numbers = [
         index,
@@ -38,7 +38,7 @@ pub fn write_frame_line(index: u64, head: Head, bytes: u64, out: &mut [u8]) -> W
 
 // Writes the last line: the bytes used by accepted frames, the answer that stopped it, and the missing count or the place.
 pub fn write_end_line(used: u64, number: u64, at: u64, out: &mut [u8]) -> Written
-    ensures { Writes (written (endLine used number at)) result out.old out.new }
+    ensures { Writes (written (end_line used number at)) result out.old out.new }
 {
     let numbers = [used, number, at];
     let form = b"end # # #\n";
@@ -56,7 +56,7 @@ fn refused(number: u64) -> Written
 
 // Writes the line of a message of the frame: its index, its name's bytes, and how many arguments it has.
 pub fn write_message_line(index: u64, frame: &[u8], message: Message, out: &mut [u8]) -> Written
-    ensures { Writes (messageAnswer index frame.now message) result out.old out.new }
+    ensures { Writes (message_answer index frame.now message) result out.old out.new }
 {
     if !is_inside(message.start, message.len, frame) {
         return refused(OUTSIDE);
@@ -95,7 +95,7 @@ fn write_named(
 ) -> Written
     requires front_len_bound { length front.now ≤ 64 }
     requires back_len_bound { length back.now ≤ 64 }
-    ensures { Writes (written (namedText front.now numbers.now name.now back.now others.now)) result out.old out.new }
+    ensures { Writes (written (named_text front.now numbers.now name.now back.now others.now)) result out.old out.new }
 {
     let words = filled_len(front, numbers) + filled_len(back, others);
     if out.len() < words {
@@ -116,8 +116,8 @@ fn put_named(
     others: &[u64],
     out: &mut [u8],
 ) -> usize
-    requires { length (namedText front.now numbers.now name.now back.now others.now) ≤ length out.old }
-    ensures { Puts (written (namedText front.now numbers.now name.now back.now others.now)) result out.old out.new }
+    requires { length (named_text front.now numbers.now name.now back.now others.now) ≤ length out.old }
+    ensures { Puts (written (named_text front.now numbers.now name.now back.now others.now)) result out.old out.new }
 {
     let mut at = put_filled(front, numbers, out);
     at += put_shown(name, &mut out[at..]);
@@ -127,7 +127,7 @@ fn put_named(
 
 // Writes the line of a pair of the frame: its index, its key's bytes, and its value's kind and text.
 pub fn write_pair_line(index: u64, frame: &[u8], pair: Pair, out: &mut [u8]) -> Written
-    ensures { Writes (pairAnswer index frame.now pair) result out.old out.new }
+    ensures { Writes (pair_answer index frame.now pair) result out.old out.new }
 {
     let number = check_pair(pair, frame);
     if number != 0 {
@@ -147,7 +147,7 @@ pub fn write_pair_line(index: u64, frame: &[u8], pair: Pair, out: &mut [u8]) -> 
 
 // What a pair is refused with: 14 or 16, the first that holds; else 0.
 fn check_pair(pair: Pair, frame: &[u8]) -> u64
-    ensures { result ≡ inOrder (pairLineChecks frame.now pair) 0 }
+    ensures { result ≡ in_order (pair_line_checks frame.now pair) 0 }
 {
     if !types::writable(pair.value) {
         return NOT_WRITABLE;
@@ -167,7 +167,7 @@ fn check_pair(pair: Pair, frame: &[u8]) -> u64
 
 // Writes the line of an action of the frame: its index, what it does, its scope, its variable's name, and what it sets it to.
 pub fn write_action_line(index: u64, frame: &[u8], action: Action, out: &mut [u8]) -> Written
-    ensures { Writes (actionAnswer index frame.now action) result out.old out.new }
+    ensures { Writes (action_answer index frame.now action) result out.old out.new }
 {
     let number = check_action(action, frame);
     if number != 0 {
@@ -197,7 +197,7 @@ pub fn write_action_line(index: u64, frame: &[u8], action: Action, out: &mut [u8
 
 // What an action is refused with: 14 or 16, the first that holds; else 0.
 fn check_action(action: Action, frame: &[u8]) -> u64
-    ensures { result ≡ inOrder ((14, isAction action) ∷ pairLineChecks frame.now action.pair) 0 }
+    ensures { result ≡ in_order ((14, is_action action) ∷ pair_line_checks frame.now action.pair) 0 }
 {
     if !is_action(action) {
         return NOT_WRITABLE;
@@ -207,7 +207,7 @@ fn check_action(action: Action, frame: &[u8]) -> u64
 
 // Whether it is a set or an unset, of a scope that there is. What an unset does not have must not be lost in its line.
 fn is_action(action: Action) -> bool
-    ensures { result ≡ isAction action }
+    ensures { result ≡ is_action action }
 {
     if 4 < action.scope {
         return false;
@@ -235,7 +235,7 @@ fn write_valued(
 ) -> Written
     requires front_len_bound { length front.now ≤ 64 }
     requires listed { Listed frame.now value }
-    ensures { Writes (written (valuedText front.now numbers.now key.now frame.now value)) result out.old out.new }
+    ensures { Writes (written (valued_text front.now numbers.now key.now frame.now value)) result out.old out.new }
 {
     let words = filled_len(front, numbers) + filled_len(b" kind # value ", &[value.kind]) + 1;
     if out.len() < words {
@@ -255,7 +255,7 @@ fn write_valued(
 // How many bytes the text of a value has.
 fn text_len(value: Value, frame: &[u8]) -> u64
     requires { Listed frame.now value }
-    ensures { result ≡ length (valueText frame.now (recordOf value)) }
+    ensures { result ≡ length (value_text frame.now (record_of value)) }
 {
     let kind = value.kind;
     if kind == 0 {
@@ -283,8 +283,8 @@ fn put_valued(
     out: &mut [u8],
 ) -> usize
     requires listed { Listed frame.now value }
-    requires value_in_bounds { length (valuedText front.now numbers.now key.now frame.now value) ≤ length out.old }
-    ensures { Puts (written (valuedText front.now numbers.now key.now frame.now value)) result out.old out.new }
+    requires value_in_bounds { length (valued_text front.now numbers.now key.now frame.now value) ≤ length out.old }
+    ensures { Puts (written (valued_text front.now numbers.now key.now frame.now value)) result out.old out.new }
 {
     let mut at = put_filled(front, numbers, out);
     at += put_shown(key, &mut out[at..]);
@@ -297,8 +297,8 @@ fn put_valued(
 // Writes the text of a value where there is room.
 fn put_text(value: Value, frame: &[u8], out: &mut [u8]) -> usize
     requires listed { Listed frame.now value }
-    requires value_in_bounds { length (valueText frame.now (recordOf value)) ≤ length out.old }
-    ensures { Puts (written (valueText frame.now (recordOf value))) result out.old out.new }
+    requires value_in_bounds { length (value_text frame.now (record_of value)) ≤ length out.old }
+    ensures { Puts (written (value_text frame.now (record_of value))) result out.old out.new }
 {
     let kind = value.kind;
     if kind == 0 {

@@ -2,9 +2,9 @@
 // ACK, one for each action of a table.
 ghost use Rattle.std.specs.Prelude.{◌≡◌, ◌+◌, ◌-◌};
 ghost use Rattle.answer.specs.Writes.{Writes};
-ghost use Rattle.frame.specs.Records.{messageWidth, pairWidth, actionWidth, messageAt, pair_at, actionAt};
-ghost use Rattle.listing.specs.Check.{messageAnswer, pairAnswer, actionAnswer};
-ghost use Rattle.listing.specs.Order.{pairNext, behindPair, behindMessage, in_table, line, coming, step_of, Comes};
+ghost use Rattle.frame.specs.Records.{message_width, pair_width, action_width, message_at, pair_at, action_at};
+ghost use Rattle.listing.specs.Check.{message_answer, pair_answer, action_answer};
+ghost use Rattle.listing.specs.Order.{pair_next, behind_pair, behind_message, in_table, line, coming, step_of, Comes};
 
 use crate::line::{write_action_line, write_message_line, write_pair_line};
 use crate::{Place, Step};
@@ -34,7 +34,7 @@ pub fn write_next_line(
 
 // Whether a pair is next.
 fn is_pair_next(count: usize, total: usize, place: Place) -> bool
-    ensures { result ≡ pairNext count total place }
+    ensures { result ≡ pair_next count total place }
 {
     if total <= place.pairs {
         return false;
@@ -47,7 +47,7 @@ fn is_pair_next(count: usize, total: usize, place: Place) -> bool
 
 // Writes the line of the pair at a place.
 fn write_pair_at(frame: &[u8], pairs: &[u64], place: Place, out: &mut [u8]) -> Step
-    ensures { Comes (line (in_table pairWidth pair_at pairAnswer frame.now pairs.now place.pairs) (behindPair place)) result out.old out.new }
+    ensures { Comes (line (in_table pair_width pair_at pair_answer frame.now pairs.now place.pairs) (behind_pair place)) result out.old out.new }
 {
     let k = place.pairs;
     if pairs.len() / PAIR_WIDTH <= k {
@@ -63,7 +63,7 @@ fn write_pair_at(frame: &[u8], pairs: &[u64], place: Place, out: &mut [u8]) -> S
 
 // Writes the line of the message at a place.
 fn write_message_at(frame: &[u8], messages: &[u64], place: Place, out: &mut [u8]) -> Step
-    ensures { Comes (line (in_table messageWidth messageAt messageAnswer frame.now messages.now place.messages) (behindMessage place (messageAt messages.now place.messages).count)) result out.old out.new }
+    ensures { Comes (line (in_table message_width message_at message_answer frame.now messages.now place.messages) (behind_message place (message_at messages.now place.messages).count)) result out.old out.new }
 {
     let i = place.messages;
     if messages.len() / MESSAGE_WIDTH <= i {
@@ -96,7 +96,7 @@ fn step(answer: Written, messages: usize, pairs: usize, left: u64) -> Step
 
 // Writes the line of action k of a table.
 pub fn write_action_at(frame: &[u8], actions: &[u64], k: usize, out: &mut [u8]) -> Written
-    ensures { Writes (in_table actionWidth actionAt actionAnswer frame.now actions.now k) result out.old out.new }
+    ensures { Writes (in_table action_width action_at action_answer frame.now actions.now k) result out.old out.new }
 {
     if actions.len() / ACTION_WIDTH <= k {
         return Written::Refused(Refusal {

@@ -7,59 +7,59 @@ use Rattle.answer.specs.Table.{joined}
 use Rattle.frame.specs.declared.Head.{Head}
 use Rattle.frame.specs.declared.Side.TheVariants as side
 use Rattle.frame.specs.Read.{Reading, wait, answered, Sender, head}
-use Rattle.frame.specs.Records.{messageNumbers, actionNumbers}
+use Rattle.frame.specs.Records.{message_numbers, action_numbers}
 use Rattle.payload.specs.declared.Counts.{Counts}
 use Rattle.payload.specs.declared.Payload.{Payload}
 use Rattle.payload.specs.declared.PayloadRead.{PayloadRead}
 use Rattle.payload.specs.Payload.{Contents, payload}
-use Rattle.payload.specs.Promise.{payloadSaid, payloadTells, rooms_of, tableLeft, ReadPayload}
+use Rattle.payload.specs.Promise.{payload_said, payload_tells, rooms_of, table_left, ReadPayload}
 use Rattle.parser.specs.declared.FrameRead.{FrameRead}
-use Rattle.parser.specs.Frame.{payloadOf, framed, frameRead}
-use Rattle.parser.specs.Promise.{frameSaid, frameTells, contentsRead, FrameFills}
+use Rattle.parser.specs.Frame.{payload_of, framed, frame_read}
+use Rattle.parser.specs.Promise.{frame_said, frame_tells, contents_read, FrameFills}
 use Rattle.parser.specs.Inner.{headed}
-use Rattle.parser.proofs.Frames.{inFrame, framed-payload, frame-cut, haproxy-actions, agent-messages}
+use Rattle.parser.proofs.Frames.{in_frame_lem, framed_payload, frame_cut, haproxy_actions, agent_messages}
 
 -- ---- what is not accepted fills nothing
 
 abbrev pub Unread : Reading (Head × Contents) → Type 0
-Unread x = (number : ℕ) × (place : ℕ) × (contentsRead x ≡ refused number place)
+Unread x = (number : ℕ) × (place : ℕ) × (contents_read x ≡ refused number place)
 
-pub unread : (x y : Reading (Head × Contents)) (r : FrameRead) (messages pairs actions : List ℕ) → x ≡ y → Unread y → frameSaid r ≡ frameTells y
+pub unread : (x y : Reading (Head × Contents)) (r : FrameRead) (messages pairs actions : List ℕ) → x ≡ y → Unread y → frame_said r ≡ frame_tells y
     → FrameFills x r messages messages pairs pairs actions actions
 unread x y r messages pairs actions e none says =
-    let is : contentsRead x ≡ refused none.0 none.1 = ap contentsRead e ∙ none.2 in
-    record { says = says ∙ ap frameTells (sym e); fills = rw is (record { messages = refl; pairs = refl; actions = refl }) }
+    let is : contents_read x ≡ refused none.0 none.1 = ap contents_read e ∙ none.2 in
+    record { says = says ∙ ap frame_tells (sym e); fills = rw is (record { messages = refl; pairs = refl; actions = refl }) }
 
 -- ---- a payload in its frame
 
-tells-in : (h : Head) (a : Answer Contents) → answered (headed h (payloadTells a)) ≡ frameTells (answered (inFrame h a))
-tells-in h (done c used) = refl
-tells-in h (refused number place) = refl
+tells_in : (h : Head) (a : Answer Contents) → answered (headed h (payload_tells a)) ≡ frame_tells (answered (in_frame_lem h a))
+tells_in h (done c used) = refl
+tells_in h (refused number place) = refl
 
-holds-in : (h : Head) (a : Answer Contents) → contentsRead (answered (inFrame h a)) ≡ a
-holds-in h (done c used) = refl
-holds-in h (refused number place) = refl
+holds_in : (h : Head) (a : Answer Contents) → contents_read (answered (in_frame_lem h a)) ≡ a
+holds_in h (done c used) = refl
+holds_in h (refused number place) = refl
 
 -- A frame with this head, of which the payload came to this: what is said of it, and what is filled.
-module _ (sent : Sender) (rooms : Counts) (f : List ℕ) (h : Head) (start : ℕ) (e : head sent f ≡ done h start) (kind : Payload) (is : kind ≡ payloadOf h.frame_type)
-    (r : FrameRead) (found : PayloadRead) (said : frameSaid r ≡ answered (headed h (payloadSaid found))) where
-  whole : framed sent rooms f ≡ inFrame h (payload kind rooms start f)
-  whole = framed-payload sent rooms f h start e ∙ ap (λ (y : Payload). inFrame h (payload y rooms start f)) (sym is)
+module _ (sent : Sender) (rooms : Counts) (f : List ℕ) (h : Head) (start : ℕ) (e : head sent f ≡ done h start) (kind : Payload) (is : kind ≡ payload_of h.frame_type)
+    (r : FrameRead) (found : PayloadRead) (said : frame_said r ≡ answered (headed h (payload_said found))) where
+  whole : framed sent rooms f ≡ in_frame_lem h (payload kind rooms start f)
+  whole = framed_payload sent rooms f h start e ∙ ap (λ (y : Payload). in_frame_lem h (payload y rooms start f)) (sym is)
 
-  pub whole_says : payloadSaid found ≡ payloadTells (payload kind rooms start f) → frameSaid r ≡ frameTells (answered (framed sent rooms f))
+  pub whole_says : payload_said found ≡ payload_tells (payload kind rooms start f) → frame_said r ≡ frame_tells (answered (framed sent rooms f))
   whole_says p =
       said
       ∙ ap (λ (a : Answer Counts). answered (headed h a)) p
-      ∙ tells-in h (payload kind rooms start f)
-      ∙ ap (λ (a : Answer (Head × Contents)). frameTells (answered a)) (sym whole)
+      ∙ tells_in h (payload kind rooms start f)
+      ∙ ap (λ (a : Answer (Head × Contents)). frame_tells (answered a)) (sym whole)
 
-  pub whole-fills : (oldMessages newMessages oldPairs newPairs oldActions newActions : List ℕ) → rooms ≡ rooms_of oldMessages oldPairs oldActions
-      → ReadPayload kind start f found oldMessages newMessages oldPairs newPairs oldActions newActions
-      → FrameFills (answered (framed sent rooms f)) r oldMessages newMessages oldPairs newPairs oldActions newActions
-  whole-fills om nm op np oa na room p =
+  pub whole_fills : (old_messages new_messages old_pairs new_pairs old_actions new_actions : List ℕ) → rooms ≡ rooms_of old_messages old_pairs old_actions
+      → ReadPayload kind start f found old_messages new_messages old_pairs new_pairs old_actions new_actions
+      → FrameFills (answered (framed sent rooms f)) r old_messages new_messages old_pairs new_pairs old_actions new_actions
+  whole_fills om nm op np oa na room p =
       record {
-        says = whole_says (p.says ∙ ap (λ (n : Counts). payloadTells (payload kind n start f)) (sym room));
-        fills = rw (ap (λ (a : Answer (Head × Contents)). contentsRead (answered a)) whole ∙ holds-in h (payload kind rooms start f), room) p.fills;
+        says = whole_says (p.says ∙ ap (λ (n : Counts). payload_tells (payload kind n start f)) (sym room));
+        fills = rw (ap (λ (a : Answer (Head × Contents)). contents_read (answered a)) whole ∙ holds_in h (payload kind rooms start f), room) p.fills;
       }
 
 -- ---- a side's frames leave the other's table alone
@@ -68,20 +68,20 @@ none_left : {A : Type 0} (numbers : A → List ℕ) (xs : List A) → xs ≡ [] 
 unfolding joined
 none_left numbers xs e = rw e
 
-by-contents : {G : Type 0} (x : Reading (Head × Contents)) → ((h : Head) (c : Contents) (used : ℕ) → x ≡ answered (done (h, c) used) → contentsRead x ≡ done c used → G)
-    → ((number place : ℕ) → contentsRead x ≡ refused number place → G) → G
-by-contents (wait n) f g = g 1 n refl
-by-contents (answered (done y used)) f g = f y.0 y.1 used refl refl
-by-contents (answered (refused number place)) f g = g number place refl
+by_contents : {G : Type 0} (x : Reading (Head × Contents)) → ((h : Head) (c : Contents) (used : ℕ) → x ≡ answered (done (h, c) used) → contents_read x ≡ done c used → G)
+    → ((number place : ℕ) → contents_read x ≡ refused number place → G) → G
+by_contents (wait n) f g = g 1 n refl
+by_contents (answered (done y used)) f g = f y.0 y.1 used refl refl
+by_contents (answered (refused number place)) f g = g number place refl
 
-pub no-actions : (limit : ℕ) (rooms : Counts) (s : List ℕ) → [] ≡ tableLeft actionNumbers (λ c. c.actions) (contentsRead (frameRead side.HAProxy limit rooms s)) []
-no-actions limit rooms s =
-    by-contents (frameRead side.HAProxy limit rooms s)
-    (λ h c used e is. rw is (none_left actionNumbers c.actions (haproxy-actions rooms _ h c used (frame-cut side.HAProxy limit rooms s h c used e).held)))
+pub no_actions : (limit : ℕ) (rooms : Counts) (s : List ℕ) → [] ≡ table_left action_numbers (λ c. c.actions) (contents_read (frame_read side.HAProxy limit rooms s)) []
+no_actions limit rooms s =
+    by_contents (frame_read side.HAProxy limit rooms s)
+    (λ h c used e is. rw is (none_left action_numbers c.actions (haproxy_actions rooms _ h c used (frame_cut side.HAProxy limit rooms s h c used e).held)))
     (λ n place is. rw is)
 
-pub no-messages : (limit : ℕ) (rooms : Counts) (s : List ℕ) → [] ≡ tableLeft messageNumbers (λ c. c.messages) (contentsRead (frameRead side.Agents limit rooms s)) []
-no-messages limit rooms s =
-    by-contents (frameRead side.Agents limit rooms s)
-    (λ h c used e is. rw is (none_left messageNumbers c.messages (agent-messages rooms _ h c used (frame-cut side.Agents limit rooms s h c used e).held)))
+pub no_messages : (limit : ℕ) (rooms : Counts) (s : List ℕ) → [] ≡ table_left message_numbers (λ c. c.messages) (contents_read (frame_read side.Agents limit rooms s)) []
+no_messages limit rooms s =
+    by_contents (frame_read side.Agents limit rooms s)
+    (λ h c used e is. rw is (none_left message_numbers c.messages (agent_messages rooms _ h c used (frame_cut side.Agents limit rooms s h c used e).held)))
     (λ n place is. rw is)

@@ -15,37 +15,37 @@ use Rattle.answer.proofs.Cases.{bool_cases, both_true}
 use Rattle.frame.specs.declared.Head.{Head}
 use Rattle.frame.specs.declared.Side.{Side}
 use Rattle.frame.specs.declared.Side.TheVariants as side
-use Rattle.frame.specs.Head.{fourNumber}
-use Rattle.frame.specs.Read.{Reading, answered, onward, cut, Sender, sender, head, haproxyTypes, agentTypes}
-use Rattle.frame.proofs.Answers.{answered-same, onward-done}
-use Rattle.answer.proofs.Answers.{done-same, next-done}
+use Rattle.frame.specs.Head.{four_number}
+use Rattle.frame.specs.Read.{Reading, answered, onward, cut, Sender, sender, head, haproxy_types, agent_types}
+use Rattle.frame.proofs.Answers.{answered_same, onward_done}
+use Rattle.answer.proofs.Answers.{done_same, next_done}
 use Rattle.frame.proofs.Cutting.{cut_out}
-use Rattle.frame.proofs.Heads.{HeadSays, head-says, three}
+use Rattle.frame.proofs.Heads.{HeadSays, head_says, three}
 use Rattle.payload.specs.declared.Counts.{Counts}
 use Rattle.payload.specs.declared.Payload.{Payload}
 use Rattle.payload.specs.declared.Payload.TheVariants as k
 use Rattle.payload.specs.Payload.{Contents, payload}
-use Rattle.payload.proofs.Accepted.{payload-all, kv-run, messages-run, actions-run}
-use Rattle.parser.specs.Frame.{payloadOf, framed, frameRead}
+use Rattle.payload.proofs.Accepted.{payload_all, kv_run, messages_run, actions_run}
+use Rattle.parser.specs.Frame.{payload_of, framed, frame_read}
 
 -- ---- by its head and its payload
 
 -- a payload in its frame
-abbrev pub inFrame : Head → Answer Contents → Answer (Head × Contents)
-inFrame h a = next a (λ c end. done (h, c) end)
+abbrev pub in_frame_lem : Head → Answer Contents → Answer (Head × Contents)
+in_frame_lem h a = next a (λ c end. done (h, c) end)
 
 module _ (sent : Sender) (rooms : Counts) (f : List ℕ) where
-  pub framed-refused : (number place : ℕ) → head sent f ≡ refused number place → framed sent rooms f ≡ refused number place
+  pub framed_refused : (number place : ℕ) → head sent f ≡ refused number place → framed sent rooms f ≡ refused number place
   unfolding framed
-  framed-refused number place e = rw e
+  framed_refused number place e = rw e
 
-  pub framed-payload : (h : Head) (start : ℕ) → head sent f ≡ done h start → framed sent rooms f ≡ inFrame h (payload (payloadOf h.frame_type) rooms start f)
+  pub framed_payload : (h : Head) (start : ℕ) → head sent f ≡ done h start → framed sent rooms f ≡ in_frame_lem h (payload (payload_of h.frame_type) rooms start f)
   unfolding framed
-  framed-payload h start e = rw e
+  framed_payload h start e = rw e
 
 -- what is read goes on with the frame that was cut out
-pub frame_on : (x : Side) (limit : ℕ) (rooms : Counts) (s : List ℕ) {r : Reading (List ℕ)} → cut limit s ≡ r → frameRead x limit rooms s ≡ onward r (framed (sender x) rooms)
-unfolding frameRead
+pub frame_on : (x : Side) (limit : ℕ) (rooms : Counts) (s : List ℕ) {r : Reading (List ℕ)} → cut limit s ≡ r → frame_read x limit rooms s ≡ onward r (framed (sender x) rooms)
+unfolding frame_read
 frame_on x limit rooms s e = ap (λ (y : Reading (List ℕ)). onward y (framed (sender x) rooms)) e
 
 -- ---- an accepted frame
@@ -54,44 +54,44 @@ frame_on x limit rooms s e = ap (λ (y : Reading (List ℕ)). onward y (framed (
 pub record Held (sent : Sender) (rooms : Counts) (f : List ℕ) (h : Head) (c : Contents) (used : ℕ) : Type 0 where
   pub start : ℕ
   pub reads : head sent f ≡ done h start
-  pub holds : payload (payloadOf h.frame_type) rooms start f ≡ done c used
+  pub holds : payload (payload_of h.frame_type) rooms start f ≡ done c used
 
 -- and how it stands in the bytes that it was read from
 pub record Cut (x : Side) (limit : ℕ) (rooms : Counts) (s : List ℕ) (h : Head) (c : Contents) (used : ℕ) : Type 0 where
   pub four : 4 ≤ used
   pub there : used ≤ length s
-  pub says : used ≡ 4 + fourNumber s
-  pub fits : fourNumber s ≤ limit
+  pub says : used ≡ 4 + four_number s
+  pub fits : four_number s ≤ limit
   pub is : framed (sender x) rooms (take used s) ≡ done (h, c) used
   pub held : Held (sender x) rooms (take used s) h c used
 
 module _ (sent : Sender) (rooms : Counts) (f : List ℕ) (h : Head) (c : Contents) (used : ℕ) (e : framed sent rooms f ≡ done (h, c) used) where
-  pub framed-holds : Held sent rooms f h c used
+  pub framed_holds : Held sent rooms f h c used
   unfolding framed
-  framed-holds =
-      let o = next-done (head sent f) _ e in
-      let p = next-done (payload (payloadOf o.0.frame_type) rooms o.1 f) _ o.3 in
-      let q = done-same p.3 in
+  framed_holds =
+      let o = next_done (head sent f) _ e in
+      let p = next_done (payload (payload_of o.0.frame_type) rooms o.1 f) _ o.3 in
+      let q = done_same p.3 in
       let one : o.0 ≡ h = ap (λ (y : Head × Contents). y.0) q.0 in
       let two : p.0 ≡ c = ap (λ (y : Head × Contents). y.1) q.0 in
       record {
         start = o.1;
         reads = o.2 ∙ ap (λ (y : Head). done y o.1) one;
-        holds = ap (λ (y : Head). payload (payloadOf y.frame_type) rooms o.1 f) (sym one) ∙ p.2 ∙ ap₂ done two q.1;
+        holds = ap (λ (y : Head). payload (payload_of y.frame_type) rooms o.1 f) (sym one) ∙ p.2 ∙ ap₂ done two q.1;
       }
 
   -- Law: it takes all of its bytes.
-  pub framed-all : used ≡ length f
-  framed-all = let x = framed-holds in payload-all (payloadOf h.frame_type) rooms x.start f c used x.holds
+  pub framed_all : used ≡ length f
+  framed_all = let x = framed_holds in payload_all (payload_of h.frame_type) rooms x.start f c used x.holds
 
 -- Law: of the bytes that a frame was read from, it takes those that its length says, which are there.
-pub frame-cut : (x : Side) (limit : ℕ) (rooms : Counts) (s : List ℕ) (h : Head) (c : Contents) (used : ℕ) → frameRead x limit rooms s ≡ answered (done (h, c) used)
+pub frame_cut : (x : Side) (limit : ℕ) (rooms : Counts) (s : List ℕ) (h : Head) (c : Contents) (used : ℕ) → frame_read x limit rooms s ≡ answered (done (h, c) used)
     → Cut x limit rooms s h c used
-unfolding frameRead
-frame-cut x limit rooms s h c used e =
-    let o = onward-done (framed (sender x) rooms) (cut limit s) e in
+unfolding frame_read
+frame_cut x limit rooms s h c used e =
+    let o = onward_done (framed (sender x) rooms) (cut limit s) e in
     let q = cut_out limit s o.2 in
-    let all = framed-all (sender x) rooms o.0 h c used o.3 in
+    let all = framed_all (sender x) rooms o.0 h c used o.3 in
     let end : o.1 ≡ used = sym (length-take-le o.1 s q.all) ∙ ap length (sym q.is) ∙ sym all in
     let is : framed (sender x) rooms (take used s) ≡ done (h, c) used = ap (λ (n : ℕ). framed (sender x) rooms (take n s)) (sym end) ∙ ap (framed (sender x) rooms) (sym q.is) ∙ o.3 in
     record {
@@ -100,14 +100,14 @@ frame-cut x limit rooms s h c used e =
       says = sym end ∙ q.says;
       fits = q.fits;
       is = is;
-      held = framed-holds (sender x) rooms (take used s) h c used is;
+      held = framed_holds (sender x) rooms (take used s) h c used is;
     }
 
 -- ---- what each side's frames hold
 
 -- a law about a payload goes by its kind
-pub by_kind : {G : Type 0} (type : ℕ) → (type ≡ 3 → payloadOf type ≡ k.Messages → G) → (type ≡ 103 → payloadOf type ≡ k.Actions → G)
-    → ((type ≡ 3 → ⊥) → (type ≡ 103 → ⊥) → payloadOf type ≡ k.KvList → G) → G
+pub by_kind : {G : Type 0} (type : ℕ) → (type ≡ 3 → payload_of type ≡ k.Messages → G) → (type ≡ 103 → payload_of type ≡ k.Actions → G)
+    → ((type ≡ 3 → ⊥) → (type ≡ 103 → ⊥) → payload_of type ≡ k.KvList → G) → G
 by_kind type messages actions list =
     bool_cases (eqb type 3) (λ a. messages (eqb-true type 3 a) (rw a))
     (λ a.
@@ -115,28 +115,28 @@ by_kind type messages actions list =
     (λ b. list (eqb-false type 3 a) (eqb-false type 103 b) (rw (a, b))))
 
 -- the types of each side
-pub haproxy-type : (f : List ℕ) (h : Head) (start : ℕ) → head (sender side.HAProxy) f ≡ done h start → h.frame_type ≤ 3
-haproxy-type f h start e =
+pub haproxy_type : (f : List ℕ) (h : Head) (start : ℕ) → head (sender side.HAProxy) f ≡ done h start → h.frame_type ≤ 3
+haproxy_type f h start e =
     let t = h.frame_type in
-    leb-true t 3 (both_true (leb 1 t) (leb t 3) (sym (three 1 t) ∙ (head-says (sender side.HAProxy) f h start e).own)).1
+    leb-true t 3 (both_true (leb 1 t) (leb t 3) (sym (three 1 t) ∙ (head_says (sender side.HAProxy) f h start e).own)).1
 
-pub agent-type : (f : List ℕ) (h : Head) (start : ℕ) → head (sender side.Agents) f ≡ done h start → 101 ≤ h.frame_type
-agent-type f h start e =
+pub agent_type : (f : List ℕ) (h : Head) (start : ℕ) → head (sender side.Agents) f ≡ done h start → 101 ≤ h.frame_type
+agent_type f h start e =
     let t = h.frame_type in
-    leb-true 101 t (both_true (leb 101 t) (leb t 103) (sym (three 101 t) ∙ (head-says (sender side.Agents) f h start e).own)).0
+    leb-true 101 t (both_true (leb 101 t) (leb t 103) (sym (three 101 t) ∙ (head_says (sender side.Agents) f h start e).own)).0
 
 -- Law: a frame that HAProxy sends has no actions, and one that an agent sends has no messages.
 module _ (rooms : Counts) (f : List ℕ) (h : Head) (c : Contents) (used : ℕ) where
-  pub haproxy-actions : Held (sender side.HAProxy) rooms f h c used → c.actions ≡ []
-  haproxy-actions x =
+  pub haproxy_actions : Held (sender side.HAProxy) rooms f h c used → c.actions ≡ []
+  haproxy_actions x =
       by_kind h.frame_type
-      (λ t is. (messages-run rooms x.start f c used (ap (λ (y : Payload). payload y rooms x.start f) (sym is) ∙ x.holds)).actions)
-      (λ t is. absurd (omega (arith, haproxy-type f h x.start x.reads)))
-      (λ t u is. (kv-run rooms x.start f c used (ap (λ (y : Payload). payload y rooms x.start f) (sym is) ∙ x.holds)).actions)
+      (λ t is. (messages_run rooms x.start f c used (ap (λ (y : Payload). payload y rooms x.start f) (sym is) ∙ x.holds)).actions)
+      (λ t is. absurd (omega (arith, haproxy_type f h x.start x.reads)))
+      (λ t u is. (kv_run rooms x.start f c used (ap (λ (y : Payload). payload y rooms x.start f) (sym is) ∙ x.holds)).actions)
 
-  pub agent-messages : Held (sender side.Agents) rooms f h c used → c.messages ≡ []
-  agent-messages x =
+  pub agent_messages : Held (sender side.Agents) rooms f h c used → c.messages ≡ []
+  agent_messages x =
       by_kind h.frame_type
-      (λ t is. absurd (omega (arith, agent-type f h x.start x.reads)))
-      (λ t is. (actions-run rooms x.start f c used (ap (λ (y : Payload). payload y rooms x.start f) (sym is) ∙ x.holds)).messages)
-      (λ t u is. (kv-run rooms x.start f c used (ap (λ (y : Payload). payload y rooms x.start f) (sym is) ∙ x.holds)).messages)
+      (λ t is. absurd (omega (arith, agent_type f h x.start x.reads)))
+      (λ t is. (actions_run rooms x.start f c used (ap (λ (y : Payload). payload y rooms x.start f) (sym is) ∙ x.holds)).messages)
+      (λ t u is. (kv_run rooms x.start f c used (ap (λ (y : Payload). payload y rooms x.start f) (sym is) ∙ x.holds)).messages)

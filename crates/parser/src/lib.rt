@@ -5,9 +5,9 @@
 // call has a `requires`: each does its own refusing.
 ghost use Rattle.std.specs.Prelude.{◌≡◌};
 ghost use Rattle.frame.specs.Read.{sender, answered};
-ghost use Rattle.payload.specs.Promise.{payloadSaid, rooms_of};
-ghost use Rattle.parser.specs.Frame.{payloadOf, framed, frameRead};
-ghost use Rattle.parser.specs.Promise.{frameSaid, frameTells, FrameFills, ReadFrame, ReadAgentFrame, LookFrame};
+ghost use Rattle.payload.specs.Promise.{payload_said, rooms_of};
+ghost use Rattle.parser.specs.Frame.{payload_of, framed, frame_read};
+ghost use Rattle.parser.specs.Promise.{frame_said, frame_tells, FrameFills, ReadFrame, ReadAgentFrame, LookFrame};
 ghost use Rattle.parser.specs.Inner.{headed};
 
 use answer::{OVERSIZE, Refusal};
@@ -28,7 +28,7 @@ pub enum FrameRead {
 
 // What the payload of a frame of this type is a list of.
 fn payload_of(frame_type: u8) -> Payload
-    ensures { result ≡ payloadOf frame_type }
+    ensures { result ≡ payload_of frame_type }
 {
     if frame_type == NOTIFY {
         return Payload::Messages;
@@ -41,7 +41,7 @@ fn payload_of(frame_type: u8) -> Payload
 
 // What is said of a frame with this head, whose payload came to this.
 fn with_head(head: Head, found: PayloadRead) -> FrameRead
-    ensures { frameSaid result ≡ answered (headed head (payloadSaid found)) }
+    ensures { frame_said result ≡ answered (headed head (payload_said found)) }
 {
     match found {
         PayloadRead::Refused(r) => FrameRead::Refused(r),
@@ -92,7 +92,7 @@ fn read_side(
     pairs: &mut [u64],
     actions: &mut [u64],
 ) -> FrameRead
-    ensures { FrameFills (frameRead side limit (rooms_of messages.old pairs.old actions.old) input.now) result messages.old messages.new pairs.old pairs.new actions.old actions.new }
+    ensures { FrameFills (frame_read side limit (rooms_of messages.old pairs.old actions.old) input.now) result messages.old messages.new pairs.old pairs.new actions.old actions.new }
 {
     match frame::cut(input, limit) {
         FrameCut::Wait(missing) => {
@@ -130,7 +130,7 @@ pub fn read_agent_frame(
 
 // What reading a frame that was cut out comes to, with tables of such rooms.
 fn look_whole(f: &[u8], side: Side, rooms: Counts) -> FrameRead
-    ensures { frameSaid result ≡ frameTells (answered (framed (sender side) rooms f.now)) }
+    ensures { frame_said result ≡ frame_tells (answered (framed (sender side) rooms f.now)) }
 {
     match frame::read_head(f, side) {
         HeadRead::Refused(r) => {

@@ -11,16 +11,16 @@ use lib.ListN.{length, take, drop, length-append}
 use lib.Seq.{take_at, drop_at, drop-drop}
 use borrow.Author.Tests.{lt-ltb, le-ltb}
 use Rattle.answer.specs.Answer.{Answer, done, refused, written, leaves}
-use Rattle.answer.specs.Order.{inOrder}
+use Rattle.answer.specs.Order.{in_order}
 use Rattle.answer.specs.Table.{joined}
 use Rattle.answer.specs.declared.Refusal.{Refusal}
-use Rattle.answer.proofs.Cases.{lt-or-le, bool_cases, true-false, not-both}
-use Rattle.answer.proofs.Output.{leaves-length}
-use Rattle.answer.proofs.Records.{joined-none, joined-on, joined-both}
+use Rattle.answer.proofs.Cases.{lt_or_le, bool_cases, true_false, not_both}
+use Rattle.answer.proofs.Output.{leaves_length}
+use Rattle.answer.proofs.Records.{joined_none, joined_on, joined_both}
 use Rattle.frame.specs.declared.Pair.{Pair}
 use Rattle.frame.specs.declared.Message.{Message}
 use Rattle.frame.specs.declared.Action.{Action}
-use Rattle.frame.specs.Records.{messageWidth, messageNumbers, pairWidth, pairNumbers, actionWidth, actionNumbers}
+use Rattle.frame.specs.Records.{message_width, message_numbers, pair_width, pair_numbers, action_width, action_numbers}
 use Rattle.payload.specs.declared.Counts.{Counts}
 use Rattle.payload.specs.declared.Cursor.{Cursor}
 use Rattle.payload.specs.declared.Item.{Item}
@@ -31,27 +31,27 @@ use Rattle.payload.specs.declared.Payload.{Payload}
 use Rattle.payload.specs.Payload.{Contents, empty, met, payload}
 use Rattle.payload.specs.Item.{item_at}
 use Rattle.payload.specs.Promise.{rooms_of, Fills}
-use Rattle.payload.specs.Inner.{began, afterItem, follows, refusedAt, tests, Stands, Goes, Fits, put_at, Stores, Accepted, Leaves}
-use Rattle.payload.proofs.Passing.{withItem, goes-start, stands-start, goes_then, Then}
+use Rattle.payload.specs.Inner.{began, after_item, follows, refused_at, tests, Stands, Goes, Fits, put_at, Stores, Accepted, Leaves}
+use Rattle.payload.proofs.Passing.{with_item, goes_start, stands_start, goes_then, Then}
 
 -- ---- records, one after the other
 
 module _ {A : Type 0} (numbers : A → List ℕ) where
   -- one more
-  pub joined-more : (xs : List A) (x : A) → joined numbers (xs ++ (x ∷ [])) ≡ joined numbers xs ++ numbers x
-  joined-more xs x =
-      joined-both numbers xs (x ∷ [])
-      ∙ ap (λ (l : List ℕ). joined numbers xs ++ l) (joined-on numbers x [] ∙ ap (λ (l : List ℕ). numbers x ++ l) (joined-none numbers) ∙ append-nil (numbers x))
+  pub joined_more : (xs : List A) (x : A) → joined numbers (xs ++ (x ∷ [])) ≡ joined numbers xs ++ numbers x
+  joined_more xs x =
+      joined_both numbers xs (x ∷ [])
+      ∙ ap (λ (l : List ℕ). joined numbers xs ++ l) (joined_on numbers x [] ∙ ap (λ (l : List ℕ). numbers x ++ l) (joined_none numbers) ∙ append-nil (numbers x))
 
   -- of a width
-  pub joined-width : (width : ℕ) → ((x : A) → length (numbers x) ≡ width) → (xs : List A) → length (joined numbers xs) ≡ length xs * width
-  joined-width width each [] = ap length (joined-none numbers) ∙ sym (zero-mul width)
-  joined-width width each (x ∷ xs) =
+  pub joined_width : (width : ℕ) → ((x : A) → length (numbers x) ≡ width) → (xs : List A) → length (joined numbers xs) ≡ length xs * width
+  joined_width width each [] = ap length (joined_none numbers) ∙ sym (zero-mul width)
+  joined_width width each (x ∷ xs) =
       let one : suc (length xs) ≡ 1 + length xs = omega arith in
-      ap length (joined-on numbers x xs)
+      ap length (joined_on numbers x xs)
       ∙ length-append (numbers x) (joined numbers xs)
       ∙ ap (λ (n : ℕ). n + length (joined numbers xs)) (each x)
-      ∙ ap (λ (n : ℕ). width + n) (joined-width width each xs)
+      ∙ ap (λ (n : ℕ). width + n) (joined_width width each xs)
       ∙ ap (λ (n : ℕ). n + length xs * width) (sym (one-mul width))
       ∙ sym (add-mul 1 (length xs) width)
       ∙ ap (λ (n : ℕ). n * width) (sym one)
@@ -65,16 +65,16 @@ pub record Filled {A : Type 0} (numbers : A → List ℕ) (old : List ℕ) (xs :
 
 pub filled_none : {A : Type 0} (numbers : A → List ℕ) (old : List ℕ) → Filled numbers old [] old
 filled_none numbers old =
-    record { room = rw (joined-none numbers) (omega arith); holds = ap (λ (l : List ℕ). leaves (written l) old) (sym (joined-none numbers)) }
+    record { room = rw (joined_none numbers) (omega arith); holds = ap (λ (l : List ℕ). leaves (written l) old) (sym (joined_none numbers)) }
 
 module _ {A : Type 0} {numbers : A → List ℕ} {old : List ℕ} {xs : List A} {table : List ℕ} (f : Filled numbers old xs table) where
-  pub filled-length : length table ≡ length old
-  filled-length = ap length f.holds ∙ leaves-length (joined numbers xs) old f.room
+  pub filled_length : length table ≡ length old
+  filled_length = ap length f.holds ∙ leaves_length (joined numbers xs) old f.room
 
   -- one more goes behind them
   pub filled_more : (x : A) (n : ℕ) → length (joined numbers xs) ≡ n → n + length (numbers x) ≤ length old → Filled numbers old (xs ++ (x ∷ [])) (put_at n (numbers x) table)
   filled_more x n count room =
-      let all = joined-more numbers xs x in
+      let all = joined_more numbers xs x in
       let both = length-append (joined numbers xs) (numbers x) in
       let front = joined numbers xs in
       record {
@@ -99,19 +99,19 @@ Roomy rooms x i.End = Unit
 Roomy rooms x (i.Refused q) = Unit
 
 -- steps of two sorts are not the same
-pub on-end : {G : Type 0} {y : Cursor} → v.On y ≡ v.End → G
-on-end e = let z : ◌≡◌ {A = ℕ} 0 1 = cc in absurd (omega arith)
+pub on_end : {G : Type 0} {y : Cursor} → v.On y ≡ v.End → G
+on_end e = let z : ◌≡◌ {A = ℕ} 0 1 = cc in absurd (omega arith)
 
-pub on-refused : {G : Type 0} {y : Cursor} {q : Refusal} → v.On y ≡ v.Refused q → G
-on-refused e = let z : ◌≡◌ {A = ℕ} 0 1 = cc in absurd (omega arith)
+pub on_refused : {G : Type 0} {y : Cursor} {q : Refusal} → v.On y ≡ v.Refused q → G
+on_refused e = let z : ◌≡◌ {A = ℕ} 0 1 = cc in absurd (omega arith)
 
 module _ (rooms : Counts) (s : List ℕ) (x : Cursor) (c : Contents) where
   -- Of a record that comes next the tests are passed, where there is room, or it is refused.
   pub by_tests : {G : Type 0} (item : Item) → follows item ≡ true
-      → (tests rooms s x c item ≡ v.On (afterItem x item) → Roomy rooms x item → G)
-      → ((n place : ℕ) → tests rooms s x c item ≡ refusedAt n place → G)
+      → (tests rooms s x c item ≡ v.On (after_item x item) → Roomy rooms x item → G)
+      → ((n place : ℕ) → tests rooms s x c item ≡ refused_at n place → G)
       → G
-  unfolding tests inOrder
+  unfolding tests in_order
   by_tests (i.Pair p end) t on stop =
       bool_cases (eqb x.left 0 && met s c.pairs p)
       (λ m. stop 9 end (rw m))
@@ -119,34 +119,34 @@ module _ (rooms : Counts) (s : List ℕ) (x : Cursor) (c : Contents) where
       ⊎_elim
       (λ h. on (rw (m, lt-ltb x.pairs rooms.pairs h)) h)
       (λ h. stop 10 end (rw (m, le-ltb x.pairs rooms.pairs h)))
-      (lt-or-le x.pairs rooms.pairs))
+      (lt_or_le x.pairs rooms.pairs))
   by_tests (i.Message m end) t on stop =
       ⊎_elim
       (λ h. on (rw (lt-ltb x.messages rooms.messages h)) h)
       (λ h. stop 10 end (rw (le-ltb x.messages rooms.messages h)))
-      (lt-or-le x.messages rooms.messages)
+      (lt_or_le x.messages rooms.messages)
   by_tests (i.Action a end) t on stop =
       ⊎_elim
       (λ h. on (rw (lt-ltb x.actions rooms.actions h)) h)
       (λ h. stop 10 end (rw (le-ltb x.actions rooms.actions h)))
-      (lt-or-le x.actions rooms.actions)
-  by_tests i.End t on stop = true-false t refl
-  by_tests (i.Refused q) t on stop = true-false t refl
+      (lt_or_le x.actions rooms.actions)
+  by_tests i.End t on stop = true_false t refl
+  by_tests (i.Refused q) t on stop = true_false t refl
 
   -- and where the pass goes on, it was a record, and they are passed
-  pub tests-room : (item : Item) (y : Cursor) → tests rooms s x c item ≡ v.On y → (follows item ≡ true) × Roomy rooms x item
+  pub tests_room : (item : Item) (y : Cursor) → tests rooms s x c item ≡ v.On y → (follows item ≡ true) × Roomy rooms x item
   unfolding tests
-  tests-room (i.Pair p end) y e = (refl, by_tests (i.Pair p end) refl (λ f r. r) (λ n place f. on-refused (sym e ∙ f)))
-  tests-room (i.Message m end) y e = (refl, by_tests (i.Message m end) refl (λ f r. r) (λ n place f. on-refused (sym e ∙ f)))
-  tests-room (i.Action a end) y e = (refl, by_tests (i.Action a end) refl (λ f r. r) (λ n place f. on-refused (sym e ∙ f)))
-  tests-room i.End y e = on-end (sym e)
-  tests-room (i.Refused q) y e = on-refused (sym e)
+  tests_room (i.Pair p end) y e = (refl, by_tests (i.Pair p end) refl (λ f r. r) (λ n place f. on_refused (sym e ∙ f)))
+  tests_room (i.Message m end) y e = (refl, by_tests (i.Message m end) refl (λ f r. r) (λ n place f. on_refused (sym e ∙ f)))
+  tests_room (i.Action a end) y e = (refl, by_tests (i.Action a end) refl (λ f r. r) (λ n place f. on_refused (sym e ∙ f)))
+  tests_room i.End y e = on_end (sym e)
+  tests_room (i.Refused q) y e = on_refused (sym e)
 
 -- ---- how far a pass is that fills
 
-module _ (kind : Payload) (start : ℕ) (s oldMessages oldPairs oldActions : List ℕ) where
+module _ (kind : Payload) (start : ℕ) (s old_messages old_pairs old_actions : List ℕ) where
   abbrev pub rooms : Counts
-  rooms = rooms_of oldMessages oldPairs oldActions
+  rooms = rooms_of old_messages old_pairs old_actions
 
   abbrev pub all : Answer Contents
   all = payload kind rooms start s
@@ -156,134 +156,134 @@ module _ (kind : Payload) (start : ℕ) (s oldMessages oldPairs oldActions : Lis
     pub met : Contents
     pub stands : Stands kind start s x met
     pub goes : Goes kind rooms s x met all
-    pub in-messages : Filled messageNumbers oldMessages met.messages messages
-    pub in_pairs : Filled pairNumbers oldPairs met.pairs pairs
-    pub in-actions : Filled actionNumbers oldActions met.actions actions
+    pub in_messages_lem : Filled message_numbers old_messages met.messages messages
+    pub in_pairs : Filled pair_numbers old_pairs met.pairs pairs
+    pub in_actions_lem : Filled action_numbers old_actions met.actions actions
 
-  pub filling-start : start ≤ length s → Filling (began start) oldMessages oldPairs oldActions
-  filling-start there =
+  pub filling_start : start ≤ length s → Filling (began start) old_messages old_pairs old_actions
+  filling_start there =
       record {
         met = empty;
-        stands = stands-start kind start s there;
-        goes = goes-start kind start s there rooms;
-        in-messages = filled_none messageNumbers oldMessages;
-        in_pairs = filled_none pairNumbers oldPairs;
-        in-actions = filled_none actionNumbers oldActions;
+        stands = stands_start kind start s there;
+        goes = goes_start kind start s there rooms;
+        in_messages_lem = filled_none message_numbers old_messages;
+        in_pairs = filled_none pair_numbers old_pairs;
+        in_actions_lem = filled_none action_numbers old_actions;
       }
 
   module _ {x : Cursor} {messages pairs actions : List ℕ} (f : Filling x messages pairs actions) where
     -- so many numbers are filled in, which lie in the tables
-    message-count : length (joined messageNumbers f.met.messages) ≡ x.messages * messageWidth
-    message-count = joined-width messageNumbers messageWidth (λ m. refl) f.met.messages ∙ ap (λ (n : ℕ). n * messageWidth) f.stands.messages
+    message_count : length (joined message_numbers f.met.messages) ≡ x.messages * message_width
+    message_count = joined_width message_numbers message_width (λ m. refl) f.met.messages ∙ ap (λ (n : ℕ). n * message_width) f.stands.messages
 
-    pair-count : length (joined pairNumbers f.met.pairs) ≡ x.pairs * pairWidth
-    pair-count = joined-width pairNumbers pairWidth (λ p. refl) f.met.pairs ∙ ap (λ (n : ℕ). n * pairWidth) f.stands.pairs
+    pair_count : length (joined pair_numbers f.met.pairs) ≡ x.pairs * pair_width
+    pair_count = joined_width pair_numbers pair_width (λ p. refl) f.met.pairs ∙ ap (λ (n : ℕ). n * pair_width) f.stands.pairs
 
-    action-count : length (joined actionNumbers f.met.actions) ≡ x.actions * actionWidth
-    action-count = joined-width actionNumbers actionWidth (λ a. refl) f.met.actions ∙ ap (λ (n : ℕ). n * actionWidth) f.stands.actions
+    action_count : length (joined action_numbers f.met.actions) ≡ x.actions * action_width
+    action_count = joined_width action_numbers action_width (λ a. refl) f.met.actions ∙ ap (λ (n : ℕ). n * action_width) f.stands.actions
 
-    pub tables-in : (x.messages * messageWidth ≤ length oldMessages) × (x.pairs * pairWidth ≤ length oldPairs) × (x.actions * actionWidth ≤ length oldActions)
-    tables-in = (
-      omega (arith, message-count, f.in-messages.room),
-      omega (arith, pair-count, f.in_pairs.room),
-      omega (arith, action-count, f.in-actions.room),
+    pub tables_in : (x.messages * message_width ≤ length old_messages) × (x.pairs * pair_width ≤ length old_pairs) × (x.actions * action_width ≤ length old_actions)
+    tables_in = (
+      omega (arith, message_count, f.in_messages_lem.room),
+      omega (arith, pair_count, f.in_pairs.room),
+      omega (arith, action_count, f.in_actions_lem.room),
     )
 
-    pub tables-length : (length messages ≡ length oldMessages) × (length pairs ≡ length oldPairs) × (length actions ≡ length oldActions)
-    tables-length = (filled-length f.in-messages, filled-length f.in_pairs, filled-length f.in-actions)
+    pub tables_length : (length messages ≡ length old_messages) × (length pairs ≡ length old_pairs) × (length actions ≡ length old_actions)
+    tables_length = (filled_length f.in_messages_lem, filled_length f.in_pairs, filled_length f.in_actions_lem)
 
     -- there is room in the tables where the tests are passed
-    pub filling-fits : (item : Item) → Roomy rooms x item → Fits item x messages pairs actions
-    filling-fits (i.Pair p end) r = omega (arith, tables-length.1, r)
-    filling-fits (i.Message m end) r = omega (arith, tables-length.0, r)
-    filling-fits (i.Action a end) r = omega (arith, tables-length.2, r)
-    filling-fits i.End r = tt
-    filling-fits (i.Refused q) r = tt
+    pub filling_fits : (item : Item) → Roomy rooms x item → Fits item x messages pairs actions
+    filling_fits (i.Pair p end) r = omega (arith, tables_length.1, r)
+    filling_fits (i.Message m end) r = omega (arith, tables_length.0, r)
+    filling_fits (i.Action a end) r = omega (arith, tables_length.2, r)
+    filling_fits i.End r = tt
+    filling_fits (i.Refused q) r = tt
 
     -- one more
-    pub filling-on : (item : Item) (y : Cursor) → item ≡ item_at kind s x → tests rooms s x f.met item ≡ v.On y
-        → (newMessages newPairs newActions : List ℕ) → Stores item x messages newMessages pairs newPairs actions newActions
-        → (x.at < y.at) × Filling y newMessages newPairs newActions
-    filling-on item y is t newMessages newPairs newActions stored = (n.1, go item n.2 n.3 (tests-room rooms s x f.met item y t).1 stored)
+    pub filling_on : (item : Item) (y : Cursor) → item ≡ item_at kind s x → tests rooms s x f.met item ≡ v.On y
+        → (new_messages new_pairs new_actions : List ℕ) → Stores item x messages new_messages pairs new_pairs actions new_actions
+        → (x.at < y.at) × Filling y new_messages new_pairs new_actions
+    filling_on item y is t new_messages new_pairs new_actions stored = (n.1, go item n.2 n.3 (tests_room rooms s x f.met item y t).1 stored)
       where
         n : Then f.stands f.goes item (v.On y)
         n = subst (λ (z : Step). Then f.stands f.goes item z) t (rw is (goes_then f.stands f.goes))
 
-        go : (item : Item) → Stands kind start s y (withItem f.met item) → Goes kind rooms s y (withItem f.met item) all → Roomy rooms x item
-            → Stores item x messages newMessages pairs newPairs actions newActions → Filling y newMessages newPairs newActions
+        go : (item : Item) → Stands kind start s y (with_item f.met item) → Goes kind rooms s y (with_item f.met item) all → Roomy rooms x item
+            → Stores item x messages new_messages pairs new_pairs actions new_actions → Filling y new_messages new_pairs new_actions
         go (i.Pair p end) st g room stored =
             record {
-              met = withItem f.met (i.Pair p end);
+              met = with_item f.met (i.Pair p end);
               stands = st;
               goes = g;
-              in-messages = rw stored.0 f.in-messages;
-              in_pairs = rw stored.1 (filled_more f.in_pairs p (x.pairs * pairWidth) pair-count (omega (arith, room)));
-              in-actions = rw stored.2 f.in-actions;
+              in_messages_lem = rw stored.0 f.in_messages_lem;
+              in_pairs = rw stored.1 (filled_more f.in_pairs p (x.pairs * pair_width) pair_count (omega (arith, room)));
+              in_actions_lem = rw stored.2 f.in_actions_lem;
             }
         go (i.Message m end) st g room stored =
             record {
-              met = withItem f.met (i.Message m end);
+              met = with_item f.met (i.Message m end);
               stands = st;
               goes = g;
-              in-messages = rw stored.0 (filled_more f.in-messages m (x.messages * messageWidth) message-count (omega (arith, room)));
+              in_messages_lem = rw stored.0 (filled_more f.in_messages_lem m (x.messages * message_width) message_count (omega (arith, room)));
               in_pairs = rw stored.1 f.in_pairs;
-              in-actions = rw stored.2 f.in-actions;
+              in_actions_lem = rw stored.2 f.in_actions_lem;
             }
         go (i.Action a end) st g room stored =
             record {
-              met = withItem f.met (i.Action a end);
+              met = with_item f.met (i.Action a end);
               stands = st;
               goes = g;
-              in-messages = rw stored.0 f.in-messages;
+              in_messages_lem = rw stored.0 f.in_messages_lem;
               in_pairs = rw stored.1 f.in_pairs;
-              in-actions = rw stored.2 (filled_more f.in-actions a (x.actions * actionWidth) action-count (omega (arith, room)));
+              in_actions_lem = rw stored.2 (filled_more f.in_actions_lem a (x.actions * action_width) action_count (omega (arith, room)));
             }
         go i.End st g room stored =
             record {
               met = f.met;
               stands = st;
               goes = g;
-              in-messages = rw stored.0 f.in-messages;
+              in_messages_lem = rw stored.0 f.in_messages_lem;
               in_pairs = rw stored.1 f.in_pairs;
-              in-actions = rw stored.2 f.in-actions;
+              in_actions_lem = rw stored.2 f.in_actions_lem;
             }
         go (i.Refused q) st g room stored =
             record {
               met = f.met;
               stands = st;
               goes = g;
-              in-messages = rw stored.0 f.in-messages;
+              in_messages_lem = rw stored.0 f.in_messages_lem;
               in_pairs = rw stored.1 f.in_pairs;
-              in-actions = rw stored.2 f.in-actions;
+              in_actions_lem = rw stored.2 f.in_actions_lem;
             }
 
     -- at the end all is filled in
-    pub filling-fills : all ≡ done f.met x.at → Leaves kind start s oldMessages messages oldPairs pairs oldActions actions
-    filling-fills e = rw e (record { messages = f.in-messages.holds; pairs = f.in_pairs.holds; actions = f.in-actions.holds })
+    pub filling_fills : all ≡ done f.met x.at → Leaves kind start s old_messages messages old_pairs pairs old_actions actions
+    filling_fills e = rw e (record { messages = f.in_messages_lem.holds; pairs = f.in_pairs.holds; actions = f.in_actions_lem.holds })
 
     -- of a payload that is accepted, a record passes its tests, and else all is filled in
     module _ (ok : Accepted kind rooms start s) where
-      then-of : Then f.stands f.goes (item_at kind s x) (tests rooms s x f.met (item_at kind s x))
-      then-of = goes_then f.stands f.goes
+      then_of : Then f.stands f.goes (item_at kind s x) (tests rooms s x f.met (item_at kind s x))
+      then_of = goes_then f.stands f.goes
 
-      pub accepted-on : (item : Item) → item ≡ item_at kind s x → follows item ≡ true → (tests rooms s x f.met item ≡ v.On (afterItem x item)) × Roomy rooms x item
-      accepted-on item is t =
+      pub accepted_on : (item : Item) → item ≡ item_at kind s x → follows item ≡ true → (tests rooms s x f.met item ≡ v.On (after_item x item)) × Roomy rooms x item
+      accepted_on item is t =
           by_tests rooms s x f.met item t (λ e r. (e, r))
-          (λ n place e. not-both ok.is (subst (λ (z : Step). Then f.stands f.goes item z) e (rw is then-of)))
+          (λ n place e. not_both ok.is (subst (λ (z : Step). Then f.stands f.goes item z) e (rw is then_of)))
 
-      pub accepted-fits : (item : Item) → item ≡ item_at kind s x → follows item ≡ true → Fits item x messages pairs actions
-      accepted-fits item is t = filling-fits item (accepted-on item is t).1
+      pub accepted_fits : (item : Item) → item ≡ item_at kind s x → follows item ≡ true → Fits item x messages pairs actions
+      accepted_fits item is t = filling_fits item (accepted_on item is t).1
 
-      pub accepted-more : (item : Item) → item ≡ item_at kind s x → follows item ≡ true → (y : Cursor) → y ≡ afterItem x item
-          → (newMessages newPairs newActions : List ℕ) → Stores item x messages newMessages pairs newPairs actions newActions
-          → (x.at < y.at) × Filling y newMessages newPairs newActions
-      accepted-more item is t y e newMessages newPairs newActions stored =
-          filling-on item y is ((accepted-on item is t).0 ∙ ap v.On (sym e)) newMessages newPairs newActions stored
+      pub accepted_more : (item : Item) → item ≡ item_at kind s x → follows item ≡ true → (y : Cursor) → y ≡ after_item x item
+          → (new_messages new_pairs new_actions : List ℕ) → Stores item x messages new_messages pairs new_pairs actions new_actions
+          → (x.at < y.at) × Filling y new_messages new_pairs new_actions
+      accepted_more item is t y e new_messages new_pairs new_actions stored =
+          filling_on item y is ((accepted_on item is t).0 ∙ ap v.On (sym e)) new_messages new_pairs new_actions stored
 
-      pub accepted-end : (item : Item) → item ≡ item_at kind s x → follows item ≡ false → Leaves kind start s oldMessages messages oldPairs pairs oldActions actions
+      pub accepted_end : (item : Item) → item ≡ item_at kind s x → follows item ≡ false → Leaves kind start s old_messages messages old_pairs pairs old_actions actions
       unfolding tests
-      accepted-end (i.Pair p end) is t = true-false refl t
-      accepted-end (i.Message m end) is t = true-false refl t
-      accepted-end (i.Action a end) is t = true-false refl t
-      accepted-end i.End is t = filling-fills (subst (λ (z : Item). Then f.stands f.goes z (tests rooms s x f.met z)) (sym is) then-of)
-      accepted-end (i.Refused q) is t = not-both ok.is (subst (λ (z : Item). Then f.stands f.goes z (tests rooms s x f.met z)) (sym is) then-of)
+      accepted_end (i.Pair p end) is t = true_false refl t
+      accepted_end (i.Message m end) is t = true_false refl t
+      accepted_end (i.Action a end) is t = true_false refl t
+      accepted_end i.End is t = filling_fills (subst (λ (z : Item). Then f.stands f.goes z (tests rooms s x f.met z)) (sym is) then_of)
+      accepted_end (i.Refused q) is t = not_both ok.is (subst (λ (z : Item). Then f.stands f.goes z (tests rooms s x f.met z)) (sym is) then_of)

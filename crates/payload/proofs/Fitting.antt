@@ -9,22 +9,22 @@ use lib.Seq.{take_at}
 use borrow.Author.Tests.{lt-leb}
 use Rattle.answer.specs.declared.Refusal.{Refusal}
 use Rattle.answer.specs.Answer.{Answer, done, refused, written, leaves}
-use Rattle.answer.specs.Order.{inOrder}
+use Rattle.answer.specs.Order.{in_order}
 use Rattle.answer.specs.Table.{joined}
-use Rattle.answer.proofs.Cases.{not-both}
-use Rattle.frame.specs.Records.{messageWidth, messageNumbers, pairWidth, pairNumbers, actionWidth, actionNumbers}
+use Rattle.answer.proofs.Cases.{not_both}
+use Rattle.frame.specs.Records.{message_width, message_numbers, pair_width, pair_numbers, action_width, action_numbers}
 use Rattle.payload.specs.declared.Counts.{Counts}
 use Rattle.payload.specs.declared.Cursor.{Cursor}
 use Rattle.payload.specs.declared.Passed.{Passed}
 use Rattle.payload.specs.declared.Passed.TheVariants as p
 use Rattle.payload.specs.declared.Payload.{Payload}
 use Rattle.payload.specs.Payload.{Contents, payload}
-use Rattle.payload.specs.Promise.{countsOf, payloadTells, rooms_of, Fills}
-use Rattle.payload.specs.Inner.{passedSaid, Passes, Accepted, Leaves, LeavesAccepted}
-use Rattle.answer.proofs.Answers.{done-same}
-use Rattle.payload.proofs.Filling.{joined-width}
+use Rattle.payload.specs.Promise.{counts_of, payload_tells, rooms_of, Fills}
+use Rattle.payload.specs.Inner.{passed_said, Passes, Accepted, Leaves, LeavesAccepted}
+use Rattle.answer.proofs.Answers.{done_same}
+use Rattle.payload.proofs.Filling.{joined_width}
 use Rattle.payload.proofs.Kept.{Within}
-use Rattle.payload.proofs.Holding.{payload-fits}
+use Rattle.payload.proofs.Holding.{payload_fits}
 
 -- the front of a table that was filled
 front : (numbers old new : List ℕ) (n : ℕ) → length numbers ≡ n → new ≡ leaves (written numbers) old → (take n new ≡ numbers) × (n ≤ length new)
@@ -34,84 +34,84 @@ front numbers old new n count e = (
 )
 
 -- what is said to be read with counts is accepted, and has them
-pub tells-done : (a : Answer Contents) (n : Counts) (used : ℕ) → done n used ≡ payloadTells a → (c : Contents) × (a ≡ done c used) × (countsOf c ≡ n)
-tells-done (done c m) n used e = let q = done-same e in (c, ap (done c) (sym q.1), sym q.0)
-tells-done (refused m place) n used e = not-both (sym e) refl
+pub tells_done : (a : Answer Contents) (n : Counts) (used : ℕ) → done n used ≡ payload_tells a → (c : Contents) × (a ≡ done c used) × (counts_of c ≡ n)
+tells_done (done c m) n used e = let q = done_same e in (c, ap (done c) (sym q.1), sym q.0)
+tells_done (refused m place) n used e = not_both (sym e) refl
 
-module _ (kind : Payload) (start : ℕ) (s ownMessages newMessages ownPairs newPairs ownActions newActions : List ℕ) (n : Counts) (used : ℕ)
-    (says : done n used ≡ payloadTells (payload kind (rooms_of ownMessages ownPairs ownActions) start s))
-    (fills : LeavesAccepted kind start s ownMessages newMessages ownPairs newPairs ownActions newActions) where
-  pub found : (c : Contents) × (payload kind (rooms_of ownMessages ownPairs ownActions) start s ≡ done c used) × (countsOf c ≡ n)
-  found = tells-done (payload kind (rooms_of ownMessages ownPairs ownActions) start s) n used says
+module _ (kind : Payload) (start : ℕ) (s own_messages new_messages own_pairs new_pairs own_actions new_actions : List ℕ) (n : Counts) (used : ℕ)
+    (says : done n used ≡ payload_tells (payload kind (rooms_of own_messages own_pairs own_actions) start s))
+    (fills : LeavesAccepted kind start s own_messages new_messages own_pairs new_pairs own_actions new_actions) where
+  pub found : (c : Contents) × (payload kind (rooms_of own_messages own_pairs own_actions) start s ≡ done c used) × (counts_of c ≡ n)
+  found = tells_done (payload kind (rooms_of own_messages own_pairs own_actions) start s) n used says
 
-  filled : Fills (done found.0 used) ownMessages newMessages ownPairs newPairs ownActions newActions
+  filled : Fills (done found.0 used) own_messages new_messages own_pairs new_pairs own_actions new_actions
   filled = rw found.1 at (fills (record { contents = found.0; end = used; is = found.1 }))
 
   -- the records stand at the front of these tables
-  pub own-messages : (take (n.messages * messageWidth) newMessages ≡ joined messageNumbers found.0.messages) × (n.messages * messageWidth ≤ length newMessages)
-  own-messages =
-      front _ ownMessages newMessages (n.messages * messageWidth)
-      (joined-width messageNumbers messageWidth (λ m. refl) found.0.messages ∙ ap (λ (k : Counts). k.messages * messageWidth) found.2) filled.messages
+  pub own_messages_lem : (take (n.messages * message_width) new_messages ≡ joined message_numbers found.0.messages) × (n.messages * message_width ≤ length new_messages)
+  own_messages_lem =
+      front _ own_messages new_messages (n.messages * message_width)
+      (joined_width message_numbers message_width (λ m. refl) found.0.messages ∙ ap (λ (k : Counts). k.messages * message_width) found.2) filled.messages
 
-  pub own-pairs : (take (n.pairs * pairWidth) newPairs ≡ joined pairNumbers found.0.pairs) × (n.pairs * pairWidth ≤ length newPairs)
-  own-pairs =
-      front _ ownPairs newPairs (n.pairs * pairWidth)
-      (joined-width pairNumbers pairWidth (λ p. refl) found.0.pairs ∙ ap (λ (k : Counts). k.pairs * pairWidth) found.2) filled.pairs
+  pub own_pairs_lem : (take (n.pairs * pair_width) new_pairs ≡ joined pair_numbers found.0.pairs) × (n.pairs * pair_width ≤ length new_pairs)
+  own_pairs_lem =
+      front _ own_pairs new_pairs (n.pairs * pair_width)
+      (joined_width pair_numbers pair_width (λ p. refl) found.0.pairs ∙ ap (λ (k : Counts). k.pairs * pair_width) found.2) filled.pairs
 
-  pub own-actions : (take (n.actions * actionWidth) newActions ≡ joined actionNumbers found.0.actions) × (n.actions * actionWidth ≤ length newActions)
-  own-actions =
-      front _ ownActions newActions (n.actions * actionWidth)
-      (joined-width actionNumbers actionWidth (λ a. refl) found.0.actions ∙ ap (λ (k : Counts). k.actions * actionWidth) found.2) filled.actions
+  pub own_actions_lem : (take (n.actions * action_width) new_actions ≡ joined action_numbers found.0.actions) × (n.actions * action_width ≤ length new_actions)
+  own_actions_lem =
+      front _ own_actions new_actions (n.actions * action_width)
+      (joined_width action_numbers action_width (λ a. refl) found.0.actions ∙ ap (λ (k : Counts). k.actions * action_width) found.2) filled.actions
 
   -- and are copied to the front of others that have room for them
-  module _ (messages pairs actions : List ℕ) (hm : n.messages * messageWidth ≤ length messages) (hp : n.pairs * pairWidth ≤ length pairs) (ha : n.actions * actionWidth ≤ length actions) where
+  module _ (messages pairs actions : List ℕ) (hm : n.messages * message_width ≤ length messages) (hp : n.pairs * pair_width ≤ length pairs) (ha : n.actions * action_width ≤ length actions) where
     same : payload kind (rooms_of messages pairs actions) start s ≡ done found.0 used
     same =
-        payload-fits (rooms_of ownMessages ownPairs ownActions) (rooms_of messages pairs actions) s kind start found.0 used found.1
+        payload_fits (rooms_of own_messages own_pairs own_actions) (rooms_of messages pairs actions) s kind start found.0 used found.1
         (rw found.2 (record { messages = omega (arith, hm); pairs = omega (arith, hp); actions = omega (arith, ha) }))
 
-    pub copied-says : done n used ≡ payloadTells (payload kind (rooms_of messages pairs actions) start s)
-    copied-says = ap (λ (k : Counts). done k used) (sym found.2) ∙ ap payloadTells (sym same)
+    pub copied_says : done n used ≡ payload_tells (payload kind (rooms_of messages pairs actions) start s)
+    copied_says = ap (λ (k : Counts). done k used) (sym found.2) ∙ ap payload_tells (sym same)
 
-    pub copied-fills : (afterMessages afterPairs afterActions : List ℕ)
-        → afterMessages ≡ leaves (written (take (n.messages * messageWidth) newMessages)) messages
-        → afterPairs ≡ leaves (written (take (n.pairs * pairWidth) newPairs)) pairs
-        → afterActions ≡ leaves (written (take (n.actions * actionWidth) newActions)) actions
-        → Leaves kind start s messages afterMessages pairs afterPairs actions afterActions
-    copied-fills afterMessages afterPairs afterActions em ep ea =
+    pub copied_fills : (after_messages after_pairs after_actions : List ℕ)
+        → after_messages ≡ leaves (written (take (n.messages * message_width) new_messages)) messages
+        → after_pairs ≡ leaves (written (take (n.pairs * pair_width) new_pairs)) pairs
+        → after_actions ≡ leaves (written (take (n.actions * action_width) new_actions)) actions
+        → Leaves kind start s messages after_messages pairs after_pairs actions after_actions
+    copied_fills after_messages after_pairs after_actions em ep ea =
         rw same
         (record {
-          messages = em ∙ ap (λ (l : List ℕ). leaves (written l) messages) own-messages.0;
-          pairs = ep ∙ ap (λ (l : List ℕ). leaves (written l) pairs) own-pairs.0;
-          actions = ea ∙ ap (λ (l : List ℕ). leaves (written l) actions) own-actions.0;
+          messages = em ∙ ap (λ (l : List ℕ). leaves (written l) messages) own_messages_lem.0;
+          pairs = ep ∙ ap (λ (l : List ℕ). leaves (written l) pairs) own_pairs_lem.0;
+          actions = ea ∙ ap (λ (l : List ℕ). leaves (written l) actions) own_actions_lem.0;
         })
 
 -- ---- a payload that starts behind the bytes
 
 module _ (kind : Payload) (rooms : Counts) (start : ℕ) (s : List ℕ) (h : length s < start) where
-  pub behind-refused : payload kind rooms start s ≡ refused 3 (length s)
-  unfolding payload inOrder
-  behind-refused = rw (lt-leb start (length s) h)
+  pub behind_refused : payload kind rooms start s ≡ refused 3 (length s)
+  unfolding payload in_order
+  behind_refused = rw (lt-leb start (length s) h)
 
-  pub behind-tells : refused 3 (length s) ≡ payloadTells (payload kind rooms start s)
-  behind-tells = rw behind-refused
+  pub behind_tells : refused 3 (length s) ≡ payload_tells (payload kind rooms start s)
+  behind_tells = rw behind_refused
 
-  pub behind-fills : (messages pairs actions : List ℕ) → Fills (payload kind rooms start s) messages messages pairs pairs actions actions
-  behind-fills messages pairs actions = rw behind-refused (record { messages = refl; pairs = refl; actions = refl })
+  pub behind_fills : (messages pairs actions : List ℕ) → Fills (payload kind rooms start s) messages messages pairs pairs actions actions
+  behind_fills messages pairs actions = rw behind_refused (record { messages = refl; pairs = refl; actions = refl })
 
 -- ---- what a pass says of the payload
 
 module _ {kind : Payload} {rooms : Counts} {start : ℕ} {s : List ℕ} {r : Passed} (g : Passes kind rooms start s r) where
-  pub passed-accepted : {x : Cursor} → r ≡ p.Done x → Accepted kind rooms start s
-  passed-accepted {x} e =
-      let o = tells-done (payload kind rooms start s) (record { messages = x.messages; pairs = x.pairs; actions = x.actions }) x.at (ap passedSaid (sym e) ∙ g.says) in
+  pub passed_accepted : {x : Cursor} → r ≡ p.Done x → Accepted kind rooms start s
+  passed_accepted {x} e =
+      let o = tells_done (payload kind rooms start s) (record { messages = x.messages; pairs = x.pairs; actions = x.actions }) x.at (ap passed_said (sym e) ∙ g.says) in
       record { contents = o.0; end = x.at; is = o.1 }
 
-  pub passed-nothing : {q : Refusal} {x : Cursor} → r ≡ p.Refused q x → (messages pairs actions : List ℕ) → Fills (payload kind rooms start s) messages messages pairs pairs actions actions
-  passed-nothing {q} e messages pairs actions =
-      let says : refused q.number q.place ≡ payloadTells (payload kind rooms start s) = ap passedSaid (sym e) ∙ g.says in
+  pub passed_nothing : {q : Refusal} {x : Cursor} → r ≡ p.Refused q x → (messages pairs actions : List ℕ) → Fills (payload kind rooms start s) messages messages pairs pairs actions actions
+  passed_nothing {q} e messages pairs actions =
+      let says : refused q.number q.place ≡ payload_tells (payload kind rooms start s) = ap passed_said (sym e) ∙ g.says in
       go (payload kind rooms start s) says
     where
-      go : (a : Answer Contents) → refused q.number q.place ≡ payloadTells a → Fills a messages messages pairs pairs actions actions
-      go (done c n) f = not-both refl (sym f)
+      go : (a : Answer Contents) → refused q.number q.place ≡ payload_tells a → Fills a messages messages pairs pairs actions actions
+      go (done c n) f = not_both refl (sym f)
       go (refused n place) f = record { messages = refl; pairs = refl; actions = refl }

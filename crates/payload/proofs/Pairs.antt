@@ -8,46 +8,46 @@ use native.Mathlib.Nat.{add-zero}
 use native.Mathlib.Omega.{arith}
 use lib.ListN.{length, take, drop, length-drop, drop_of_length-le}
 use Rattle.answer.specs.Answer.{Answer, done, refused, behind}
-use Rattle.answer.proofs.Cases.{not-both, answer-cases}
-use Rattle.answer.proofs.Answers.{done-same, refused-same}
-use Rattle.answer.proofs.Output.{lent-tail}
-use Rattle.varint.proofs.Reading.{number-none}
+use Rattle.answer.proofs.Cases.{not_both, answer_cases}
+use Rattle.answer.proofs.Answers.{done_same, refused_same}
+use Rattle.answer.proofs.Output.{lent_tail_lem}
+use Rattle.varint.proofs.Reading.{number_none}
 use Rattle.types.specs.Value.{Span, span, string, Record, value, points, shape, moved, typed}
-use Rattle.types.proofs.Reading.{string-refused, string-accepted, string-place, typed-accepted, typed-place}
-use Rattle.types.proofs.Shapes.{points-yes}
+use Rattle.types.proofs.Reading.{string_refused, string_accepted, string_place, typed_accepted, typed_place}
+use Rattle.types.proofs.Shapes.{points_yes}
 use Rattle.frame.specs.declared.Pair.{Pair}
-use Rattle.payload.specs.Pair.{pair_of, movedPair, pair, pairFrom}
+use Rattle.payload.specs.Pair.{pair_of, moved_pair, pair, pair_from}
 
 -- ---- how it unrolls
 
 module _ (s : List ℕ) where
-  pub pair-key : (n place : ℕ) → string s ≡ refused n place → pair s ≡ refused n place
+  pub pair_key : (n place : ℕ) → string s ≡ refused n place → pair s ≡ refused n place
   unfolding pair
-  pair-key n place e = rw e
+  pair_key n place e = rw e
 
   module _ (start len used : ℕ) (key : string s ≡ done (span start len) used) where
-    pub pair-value : (n place : ℕ) → typed (drop used s) ≡ refused n place → pair s ≡ refused n (used + place)
+    pub pair_value : (n place : ℕ) → typed (drop used s) ≡ refused n place → pair s ≡ refused n (used + place)
     unfolding pair
-    pair-value n place e = rw (key, e)
+    pair_value n place e = rw (key, e)
 
-    pub pair-whole : (v : Record) (n : ℕ) → typed (drop used s) ≡ done v n → pair s ≡ done (pair_of (span start len) (moved used v)) (used + n)
+    pub pair_whole : (v : Record) (n : ℕ) → typed (drop used s) ≡ done v n → pair s ≡ done (pair_of (span start len) (moved used v)) (used + n)
     unfolding pair
-    pair-whole v n e = rw (key, e)
+    pair_whole v n e = rw (key, e)
 
   -- a law about a pair goes by its key and its value
-  pub pair-cases : {G : Type 0}
+  pub pair_cases : {G : Type 0}
       → ((n place : ℕ) → string s ≡ refused n place → G)
       → ((start len used : ℕ) → string s ≡ done (span start len) used → (n place : ℕ) → typed (drop used s) ≡ refused n place → G)
       → ((start len used : ℕ) → string s ≡ done (span start len) used → (kind a b f n : ℕ) → typed (drop used s) ≡ done (value kind a b f) n → G)
       → G
-  pair-cases {G} bad-key bad-value whole = go (string s) refl
+  pair_cases {G} bad-key bad-value whole = go (string s) refl
     where
-      after-key : (start len used : ℕ) → string s ≡ done (span start len) used → (x : Answer Record) → typed (drop used s) ≡ x → G
-      after-key start len used key (done (value kind a b f) n) e = whole start len used key kind a b f n e
-      after-key start len used key (refused n place) e = bad-value start len used key n place e
+      after_key : (start len used : ℕ) → string s ≡ done (span start len) used → (x : Answer Record) → typed (drop used s) ≡ x → G
+      after_key start len used key (done (value kind a b f) n) e = whole start len used key kind a b f n e
+      after_key start len used key (refused n place) e = bad-value start len used key n place e
 
       go : (x : Answer Span) → string s ≡ x → G
-      go (done (span start len) used) key = after-key start len used key (typed (drop used s)) refl
+      go (done (span start len) used) key = after_key start len used key (typed (drop used s)) refl
       go (refused n place) e = bad-key n place e
 
 -- ---- what an accepted pair says of the bytes
@@ -62,52 +62,52 @@ pub record Inside (there : ℕ) (p : Pair) (used : ℕ) : Type 0 where
   pub value : 6 ≤ p.value.kind → p.value.kind < 10 → p.value.a + p.value.b ≤ used
 
 -- Law: every accepted pair is so.
-pub pair-accepted : (s : List ℕ) (p : Pair) (used : ℕ) → pair s ≡ done p used → Inside (length s) p used
-pair-accepted s p used e =
-    pair-cases s
-    (λ n place r. not-both e (pair-key s n place r))
-    (λ start len u key n place r. not-both e (pair-value s start len u key n place r))
+pub pair_accepted : (s : List ℕ) (p : Pair) (used : ℕ) → pair s ≡ done p used → Inside (length s) p used
+pair_accepted s p used e =
+    pair_cases s
+    (λ n place r. not_both e (pair_key s n place r))
+    (λ start len u key n place r. not_both e (pair_value s start len u key n place r))
     (λ start len u key kind a b f n d.
-    let is = done-same (sym (pair-whole s start len u key (value kind a b f) n d) ∙ e) in
+    let is = done_same (sym (pair_whole s start len u key (value kind a b f) n d) ∙ e) in
     rw (sym is.0, sym is.1) (found start len u key kind a b f n d))
   where
     found : (start len u : ℕ) → string s ≡ done (span start len) u → (kind a b f n : ℕ) → typed (drop u s) ≡ done (value kind a b f) n
         → Inside (length s) (pair_of (span start len) (moved u (value kind a b f))) (u + n)
     found start len u key kind a b f n d =
-        let k = string-accepted s start len u key in
-        let v = typed-accepted (drop u s) kind a b f n d in
+        let k = string_accepted s start len u key in
+        let v = typed_accepted (drop u s) kind a b f n d in
         record {
           some = omega arith;
           most = omega (arith, length-drop u s);
           first = omega arith;
           key = omega arith;
-          value = λ h l. rw (points-yes kind h l) (let o = v.4 (points-yes kind h l) in omega arith);
+          value = λ h l. rw (points_yes kind h l) (let o = v.4 (points_yes kind h l) in omega arith);
         }
 
 -- Law: a pair is refused at a place within the bytes, their end included.
 pub pair_place : (s : List ℕ) (n place : ℕ) → pair s ≡ refused n place → place ≤ length s
 pair_place s n place e =
-    pair-cases s
-    (λ m q r. let one = refused-same (sym (pair-key s m q r) ∙ e) in omega (arith, string-place s m q r))
+    pair_cases s
+    (λ m q r. let one = refused_same (sym (pair_key s m q r) ∙ e) in omega (arith, string_place s m q r))
     (λ start len u key m q r.
-    let one = refused-same (sym (pair-value s start len u key m q r) ∙ e) in
-    omega (arith, typed-place (drop u s) m q r, string-accepted s start len u key, length-drop u s))
-    (λ start len u key kind a b f m d. not-both (pair-whole s start len u key (value kind a b f) m d) e)
+    let one = refused_same (sym (pair_value s start len u key m q r) ∙ e) in
+    omega (arith, typed_place (drop u s) m q r, string_accepted s start len u key, length-drop u s))
+    (λ start len u key kind a b f m d. not_both (pair_whole s start len u key (value kind a b f) m d) e)
 
 -- ---- the pair that stands at a place
 
 module _ (s : List ℕ) (at : ℕ) (there : at ≤ length s) where
-  pub from-none : (n place : ℕ) → pair (drop at s) ≡ refused n place → (pairFrom at s ≡ refused n (at + place)) × (at + place ≤ length s)
-  from-none n place e = (ap (behind movedPair at) e, omega (arith, pair_place (drop at s) n place e, length-drop at s))
+  pub from_none : (n place : ℕ) → pair (drop at s) ≡ refused n place → (pair_from at s ≡ refused n (at + place)) × (at + place ≤ length s)
+  from_none n place e = (ap (behind moved_pair at) e, omega (arith, pair_place (drop at s) n place e, length-drop at s))
 
-  pub from_some : (p : Pair) (used : ℕ) → pair (drop at s) ≡ done p used → (pairFrom at s ≡ done (movedPair at p) (at + used)) × Inside (length s - at) p used
-  from_some p used e = (ap (behind movedPair at) e, rw (length-drop at s) at (pair-accepted (drop at s) p used e))
+  pub from_some : (p : Pair) (used : ℕ) → pair (drop at s) ≡ done p used → (pair_from at s ≡ done (moved_pair at p) (at + used)) × Inside (length s - at) p used
+  from_some p used e = (ap (behind moved_pair at) e, rw (length-drop at s) at (pair_accepted (drop at s) p used e))
 
 -- Law: none stands behind the end.
-pub from_past : (s : List ℕ) (at : ℕ) → length s ≤ at → pairFrom at s ≡ refused 3 at
+pub from_past : (s : List ℕ) (at : ℕ) → length s ≤ at → pair_from at s ≡ refused 3 at
 from_past s at h =
-    ap (λ (t : List ℕ). behind movedPair at (pair t)) (drop_of_length-le s h)
-    ∙ ap (behind movedPair at) (pair-key [] 3 0 (string-refused [] 3 0 number-none))
+    ap (λ (t : List ℕ). behind moved_pair at (pair t)) (drop_of_length-le s h)
+    ∙ ap (behind moved_pair at) (pair_key [] 3 0 (string_refused [] 3 0 number_none))
     ∙ ap (refused 3) (add-zero at)
 
 -- Law: one that stands at a place takes at least two bytes behind it, and no more than are there; its key starts behind the place and ends before it does.
@@ -117,20 +117,20 @@ pub record Lies (there at : ℕ) (p : Pair) (end : ℕ) : Type 0 where
   pub first : at < p.start
   pub key : p.start + p.len ≤ end
 
-pub from-lies : (s : List ℕ) (at : ℕ) (p : Pair) (end : ℕ) → pairFrom at s ≡ done p end → Lies (length s) at p end
-from-lies s at p end e =
-    answer-cases (pair (drop at s))
+pub from_lies : (s : List ℕ) (at : ℕ) (p : Pair) (end : ℕ) → pair_from at s ≡ done p end → Lies (length s) at p end
+from_lies s at p end e =
+    answer_cases (pair (drop at s))
     (λ q used d.
-    let i = pair-accepted (drop at s) q used d in
-    let o = done-same (sym (ap (behind movedPair at) d) ∙ e) in
+    let i = pair_accepted (drop at s) q used d in
+    let o = done_same (sym (ap (behind moved_pair at) d) ∙ e) in
     let start : at + q.start ≡ p.start = ap (λ (x : Pair). x.start) o.0 in
     let len : q.len ≡ p.len = ap (λ (x : Pair). x.len) o.0 in
     let n = o.1 in
     record { some = omega arith; most = omega (arith, length-drop at s); first = omega arith; key = omega arith })
-    (λ n place r. not-both e (ap (behind movedPair at) r))
+    (λ n place r. not_both e (ap (behind moved_pair at) r))
 
 -- Law: moving a pair twice moves it by both.
-pub moved_twice : (m n : ℕ) (p : Pair) → movedPair m (movedPair n p) ≡ movedPair (m + n) p
+pub moved_twice : (m n : ℕ) (p : Pair) → moved_pair m (moved_pair n p) ≡ moved_pair (m + n) p
 moved_twice m n p = twice (points (shape p.value.kind))
   where
     key : m + (n + p.start) ≡ m + n + p.start

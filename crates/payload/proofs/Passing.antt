@@ -10,9 +10,9 @@ use lib.ListN.{length, length-append}
 use borrow.Author.Tests.{lt-ltb, le-ltb, le-leb, eq-eqb, ne_eqb}
 use Rattle.answer.specs.declared.Refusal.{Refusal}
 use Rattle.answer.specs.Answer.{Answer, done, refused, next}
-use Rattle.answer.specs.Order.{inOrder}
-use Rattle.answer.specs.Row.{soMany, toEnd}
-use Rattle.answer.proofs.Cases.{lt-or-le, bool_cases, answer-cases, not-both}
+use Rattle.answer.specs.Order.{in_order}
+use Rattle.answer.specs.Row.{so_many, to_end}
+use Rattle.answer.proofs.Cases.{lt_or_le, bool_cases, answer_cases, not_both}
 use Rattle.frame.specs.declared.Pair.{Pair}
 use Rattle.frame.specs.declared.Message.{Message}
 use Rattle.frame.specs.declared.Action.{Action}
@@ -25,50 +25,50 @@ use Rattle.payload.specs.declared.Step.TheVariants as v
 use Rattle.payload.specs.declared.Passed.TheVariants as p
 use Rattle.payload.specs.declared.Payload.{Payload}
 use Rattle.payload.specs.declared.Payload.TheVariants as k
-use Rattle.payload.specs.Pair.{pairFrom}
-use Rattle.payload.specs.Action.{actionFrom}
-use Rattle.payload.specs.Payload.{Contents, empty, withPair, withMessage, withAction, messageFrom, met, onePair, oneMessage, oneAction, one_of, payload}
+use Rattle.payload.specs.Pair.{pair_from}
+use Rattle.payload.specs.Action.{action_from}
+use Rattle.payload.specs.Payload.{Contents, empty, with_pair, with_message, with_action, message_from, met, one_pair, one_message, one_action, one_of, payload}
 use Rattle.payload.specs.Item.{item_of, listed, item_at}
-use Rattle.payload.specs.Inner.{began, afterItem, refusedAt, tests, Low, KeyInside, Run, Stands, Goes, Passes}
-use Rattle.payload.proofs.Pairs.{from-lies}
+use Rattle.payload.specs.Inner.{began, after_item, refused_at, tests, Low, KeyInside, Run, Stands, Goes, Passes}
+use Rattle.payload.proofs.Pairs.{from_lies}
 use Rattle.payload.proofs.Rows.{from_next, run_more}
-use Rattle.payload.proofs.Actions.{action-next}
-use Rattle.payload.proofs.Steps.{message-next, pair-refused, pair-met, pair-full, pair-taken, message-refused, message-full, message-taken, action-refused, action-full, action-taken}
+use Rattle.payload.proofs.Actions.{action_next}
+use Rattle.payload.proofs.Steps.{message_next, pair_refused, pair_met, pair_full, pair_taken, message_refused, message_full, message_taken, action_refused, action_full, action_taken}
 
 -- ---- where it begins
 
 module _ (kind : Payload) (start : ℕ) (s : List ℕ) (there : start ≤ length s) where
-  pub goes-start : (rooms : Counts) → Goes kind rooms s (began start) empty (payload kind rooms start s)
-  unfolding payload inOrder soMany
-  goes-start rooms = record { fuel = length s; enough = omega arith; is = rw (le-leb start (length s) there) }
+  pub goes_start : (rooms : Counts) → Goes kind rooms s (began start) empty (payload kind rooms start s)
+  unfolding payload in_order so_many
+  goes_start rooms = record { fuel = length s; enough = omega arith; is = rw (le-leb start (length s) there) }
 
-  pub stands-start : Stands kind start s (began start) empty
-  stands-start = record { place = there; messages = refl; pairs = refl; actions = refl; few = omega arith; run = λ e. refl }
+  pub stands_start : Stands kind start s (began start) empty
+  stands_start = record { place = there; messages = refl; pairs = refl; actions = refl; few = omega arith; run = λ e. refl }
 
 -- ---- how it goes on
 
 -- What is left, where arguments are due; where none is, and a list goes on; and at the end.
 module _ {kind : Payload} {rooms : Counts} {s : List ℕ} {x : Cursor} {c : Contents} {a : Answer Contents} (g : Goes kind rooms s x c a) where
   abbrev rest : ℕ → Contents → ℕ → Answer Contents
-  rest fuel d end = toEnd (one_of rooms s kind) (length s) fuel d end
+  rest fuel d end = to_end (one_of rooms s kind) (length s) fuel d end
 
   -- an argument
-  pub due-stop : (l : ℕ) → x.left ≡ suc l → (n place : ℕ) → onePair rooms s false c x.at ≡ refused n place → a ≡ refused n place
-  unfolding soMany
-  due-stop l is n place e = sym (rw (is, e) at g.is)
+  pub due_stop : (l : ℕ) → x.left ≡ suc l → (n place : ℕ) → one_pair rooms s false c x.at ≡ refused n place → a ≡ refused n place
+  unfolding so_many
+  due_stop l is n place e = sym (rw (is, e) at g.is)
 
-  pub due-on : (l : ℕ) → x.left ≡ suc l → (y : Cursor) (d : Contents) → y.left ≡ l → x.at ≤ y.at → onePair rooms s false c x.at ≡ done d y.at → Goes kind rooms s y d a
-  unfolding soMany
-  due-on l is y d left on e = record { fuel = g.fuel; enough = omega (arith, g.enough, on); is = rw left (rw (is, e) at g.is) }
+  pub due_on : (l : ℕ) → x.left ≡ suc l → (y : Cursor) (d : Contents) → y.left ≡ l → x.at ≤ y.at → one_pair rooms s false c x.at ≡ done d y.at → Goes kind rooms s y d a
+  unfolding so_many
+  due_on l is y d left on e = record { fuel = g.fuel; enough = omega (arith, g.enough, on); is = rw left (rw (is, e) at g.is) }
 
   module _ (none : x.left ≡ 0) where
-    list-is : rest g.fuel c x.at ≡ a
-    unfolding soMany
-    list-is = rw none at g.is
+    list_is : rest g.fuel c x.at ≡ a
+    unfolding so_many
+    list_is = rw none at g.is
 
-    pub list-end : length s ≤ x.at → a ≡ done c x.at
-    unfolding toEnd
-    list-end h = sym (go g.fuel list-is)
+    pub list_end : length s ≤ x.at → a ≡ done c x.at
+    unfolding to_end
+    list_end h = sym (go g.fuel list_is)
       where
         go : (k : ℕ) → rest k c x.at ≡ a → done c x.at ≡ a
         go zero e = e
@@ -76,45 +76,45 @@ module _ {kind : Payload} {rooms : Counts} {s : List ℕ} {x : Cursor} {c : Cont
 
     module _ (h : x.at < length s) where
       unrolled : (m : ℕ) × (g.fuel ≡ suc m) × (next (one_of rooms s kind c x.at) (λ (d : Contents) (end : ℕ). rest m d end) ≡ a)
-      unfolding toEnd
-      unrolled = go g.fuel g.enough list-is
+      unfolding to_end
+      unrolled = go g.fuel g.enough list_is
         where
           go : (k : ℕ) → length s ≤ x.at + k → rest k c x.at ≡ a
               → (m : ℕ) × (k ≡ suc m) × (next (one_of rooms s kind c x.at) (λ (d : Contents) (end : ℕ). rest m d end) ≡ a)
           go zero l e = absurd (omega arith)
           go (suc m) l e = (m, refl, rw (lt-ltb x.at (length s) h) at e)
 
-      pub list-stop : (n place : ℕ) → one_of rooms s kind c x.at ≡ refused n place → a ≡ refused n place
-      list-stop n place e = sym (rw e at unrolled.2)
+      pub list_stop : (n place : ℕ) → one_of rooms s kind c x.at ≡ refused n place → a ≡ refused n place
+      list_stop n place e = sym (rw e at unrolled.2)
 
       -- one of the list, or the first part of one, of which so many arguments are due
       pub list_on : (y : Cursor) (d : Contents) → x.at < y.at
-          → one_of rooms s kind c x.at ≡ soMany (onePair rooms s false) y.left d y.at → Goes kind rooms s y d a
+          → one_of rooms s kind c x.at ≡ so_many (one_pair rooms s false) y.left d y.at → Goes kind rooms s y d a
       list_on y d on e = record { fuel = unrolled.0; enough = omega (arith, g.enough, unrolled.1); is = rw e at unrolled.2 }
 
 -- ---- what comes next
 
 module _ (kind : Payload) (s : List ℕ) (x : Cursor) where
-  pub item-due : (l : ℕ) → x.left ≡ suc l → item_at kind s x ≡ item_of i.Pair (pairFrom x.at s)
+  pub item_due : (l : ℕ) → x.left ≡ suc l → item_at kind s x ≡ item_of i.Pair (pair_from x.at s)
   unfolding item_at
-  item-due l is = rw (lt-ltb 0 x.left (omega (arith, is)))
+  item_due l is = rw (lt-ltb 0 x.left (omega (arith, is)))
 
   module _ (none : x.left ≡ 0) where
-    pub item-listed : x.at < length s → item_at kind s x ≡ listed kind s x
+    pub item_listed : x.at < length s → item_at kind s x ≡ listed kind s x
     unfolding item_at
-    item-listed h = rw (none, lt-ltb x.at (length s) h)
+    item_listed h = rw (none, lt-ltb x.at (length s) h)
 
-    pub item-end : length s ≤ x.at → item_at kind s x ≡ i.End
+    pub item_end : length s ≤ x.at → item_at kind s x ≡ i.End
     unfolding item_at
-    item-end h = rw (none, le-ltb x.at (length s) h)
+    item_end h = rw (none, le-ltb x.at (length s) h)
 
 -- what was met behind what comes next
-abbrev pub withItem : Contents → Item → Contents
-withItem c (i.Pair p end) = withPair c p
-withItem c (i.Message m end) = withMessage c m
-withItem c (i.Action a end) = withAction c a
-withItem c i.End = c
-withItem c (i.Refused q) = c
+abbrev pub with_item : Contents → Item → Contents
+with_item c (i.Pair p end) = with_pair c p
+with_item c (i.Message m end) = with_message c m
+with_item c (i.Action a end) = with_action c a
+with_item c i.End = c
+with_item c (i.Refused q) = c
 
 one_more : {A : Type 0} (xs : List A) (y : A) → length (xs ++ (y ∷ [])) ≡ length xs + 1
 one_more xs y = length-append xs (y ∷ [])
@@ -124,33 +124,33 @@ module _ {kind : Payload} {start : ℕ} {rooms : Counts} {s : List ℕ} {x : Cur
   -- What is left where the tests of an item come out so: the pass goes on behind it, has ended, or is refused.
   abbrev pub Then : Item → Step → Type 0
   Then item (v.On y) =
-      (y ≡ afterItem x item) × (x.at < y.at) × Stands kind start s y (withItem c item) × Goes kind rooms s y (withItem c item) a
+      (y ≡ after_item x item) × (x.at < y.at) × Stands kind start s y (with_item c item) × Goes kind rooms s y (with_item c item) a
   Then item v.End = a ≡ done c x.at
   Then item (v.Refused r) = a ≡ refused r.number r.place
 
   -- a pair, by what is known of reading one more
-  module _ (once : Bool) (is : once ≡ eqb x.left 0) (stop : (n place : ℕ) → onePair rooms s once c x.at ≡ refused n place → a ≡ refused n place) where
-    then-pair : (p : Pair) (end : ℕ) → pairFrom x.at s ≡ done p end
-        → (onePair rooms s once c x.at ≡ done (withPair c p) end → Goes kind rooms s (afterItem x (i.Pair p end)) (withPair c p) a)
+  module _ (once : Bool) (is : once ≡ eqb x.left 0) (stop : (n place : ℕ) → one_pair rooms s once c x.at ≡ refused n place → a ≡ refused n place) where
+    then_pair : (p : Pair) (end : ℕ) → pair_from x.at s ≡ done p end
+        → (one_pair rooms s once c x.at ≡ done (with_pair c p) end → Goes kind rooms s (after_item x (i.Pair p end)) (with_pair c p) a)
         → Then (i.Pair p end) (tests rooms s x c (i.Pair p end))
-    unfolding tests inOrder
-    then-pair p end f on =
+    unfolding tests in_order
+    then_pair p end f on =
         bool_cases (once && met s c.pairs p)
-        (λ t. rw (rw is at t) (stop 9 end (pair-met rooms s c x.at once p end f t)))
+        (λ t. rw (rw is at t) (stop 9 end (pair_met rooms s c x.at once p end f t)))
         (λ t.
         ⊎_elim
         (λ h.
         rw (rw is at t, lt-ltb x.pairs rooms.pairs (omega (arith, st.pairs, h))) (
           refl,
           omega (arith, from_next s x.at p end f),
-          stands-pair p end f,
-          on (pair-taken rooms s c x.at once p end f t h),
+          stands_pair p end f,
+          on (pair_taken rooms s c x.at once p end f t h),
         ))
-        (λ h. rw (rw is at t, le-ltb x.pairs rooms.pairs (omega (arith, st.pairs, h))) (stop 10 end (pair-full rooms s c x.at once p end f t h)))
-        (lt-or-le (length c.pairs) rooms.pairs))
+        (λ h. rw (rw is at t, le-ltb x.pairs rooms.pairs (omega (arith, st.pairs, h))) (stop 10 end (pair_full rooms s c x.at once p end f t h)))
+        (lt_or_le (length c.pairs) rooms.pairs))
       where
-        stands-pair : (p : Pair) (end : ℕ) → pairFrom x.at s ≡ done p end → Stands kind start s (afterItem x (i.Pair p end)) (withPair c p)
-        stands-pair p end f =
+        stands_pair : (p : Pair) (end : ℕ) → pair_from x.at s ≡ done p end → Stands kind start s (after_item x (i.Pair p end)) (with_pair c p)
+        stands_pair p end f =
             let n = from_next s x.at p end f in
             record {
               place = n.2;
@@ -162,33 +162,33 @@ module _ {kind : Payload} {start : ℕ} {rooms : Counts} {s : List ℕ} {x : Cur
             }
 
   -- an argument that is due
-  then-due : (l : ℕ) → x.left ≡ suc l → (r : Answer Pair) → pairFrom x.at s ≡ r → Then (item_of i.Pair r) (tests rooms s x c (item_of i.Pair r))
+  then_due : (l : ℕ) → x.left ≡ suc l → (r : Answer Pair) → pair_from x.at s ≡ r → Then (item_of i.Pair r) (tests rooms s x c (item_of i.Pair r))
   unfolding tests
-  then-due l is (done p end) f =
-      then-pair false (sym (ne_eqb x.left 0 (λ z. omega (arith, is, z)))) (due-stop g l is) p end f
-      (λ e. due-on g l is (afterItem x (i.Pair p end)) (withPair c p) (omega (arith, is)) (omega (arith, from_next s x.at p end f)) e)
-  then-due l is (refused n place) f = due-stop g l is n place (pair-refused rooms s c x.at false n place f)
+  then_due l is (done p end) f =
+      then_pair false (sym (ne_eqb x.left 0 (λ z. omega (arith, is, z)))) (due_stop g l is) p end f
+      (λ e. due_on g l is (after_item x (i.Pair p end)) (with_pair c p) (omega (arith, is)) (omega (arith, from_next s x.at p end f)) e)
+  then_due l is (refused n place) f = due_stop g l is n place (pair_refused rooms s c x.at false n place f)
 
   module _ (none : x.left ≡ 0) (h : x.at < length s) where
     -- one of a list of that sort
-    one-as : (q : Payload) → kind ≡ q → one_of rooms s kind c x.at ≡ one_of rooms s q c x.at
-    one-as q is = ap (λ (z : Payload). one_of rooms s z c x.at) is
+    one_as : (q : Payload) → kind ≡ q → one_of rooms s kind c x.at ≡ one_of rooms s q c x.at
+    one_as q is = ap (λ (z : Payload). one_of rooms s z c x.at) is
 
-    then-kv : kind ≡ k.KvList → (r : Answer Pair) → pairFrom x.at s ≡ r → Then (item_of i.Pair r) (tests rooms s x c (item_of i.Pair r))
-    unfolding tests soMany
-    then-kv is (done p end) f =
-        then-pair true (sym (eq-eqb x.left 0 none)) (λ n place e. list-stop g none h n place (one-as k.KvList is ∙ e)) p end f
+    then_kv : kind ≡ k.KvList → (r : Answer Pair) → pair_from x.at s ≡ r → Then (item_of i.Pair r) (tests rooms s x c (item_of i.Pair r))
+    unfolding tests so_many
+    then_kv is (done p end) f =
+        then_pair true (sym (eq-eqb x.left 0 none)) (λ n place e. list_stop g none h n place (one_as k.KvList is ∙ e)) p end f
         (λ e.
         let z : 0 ≡ x.left - 1 = omega (arith, none) in
-        list_on g none h (afterItem x (i.Pair p end)) (withPair c p) (omega (arith, from_next s x.at p end f))
-        (one-as k.KvList is ∙ e ∙ ap (λ (l : ℕ). soMany (onePair rooms s false) l (withPair c p) end) z))
-    then-kv is (refused n place) f = list-stop g none h n place (one-as k.KvList is ∙ pair-refused rooms s c x.at true n place f)
+        list_on g none h (after_item x (i.Pair p end)) (with_pair c p) (omega (arith, from_next s x.at p end f))
+        (one_as k.KvList is ∙ e ∙ ap (λ (l : ℕ). so_many (one_pair rooms s false) l (with_pair c p) end) z))
+    then_kv is (refused n place) f = list_stop g none h n place (one_as k.KvList is ∙ pair_refused rooms s c x.at true n place f)
 
-    then-message : kind ≡ k.Messages → (r : Answer Message) → messageFrom x.pairs x.at s ≡ r → Then (item_of i.Message r) (tests rooms s x c (item_of i.Message r))
-    unfolding tests inOrder
-    then-message is (done m end) f =
-        let n = message-next x.pairs x.at s m end f in
-        let there : messageFrom (length c.pairs) x.at s ≡ done m end = ap (λ (z : ℕ). messageFrom z x.at s) st.pairs ∙ f in
+    then_message : kind ≡ k.Messages → (r : Answer Message) → message_from x.pairs x.at s ≡ r → Then (item_of i.Message r) (tests rooms s x c (item_of i.Message r))
+    unfolding tests in_order
+    then_message is (done m end) f =
+        let n = message_next x.pairs x.at s m end f in
+        let there : message_from (length c.pairs) x.at s ≡ done m end = ap (λ (z : ℕ). message_from z x.at s) st.pairs ∙ f in
         ⊎_elim
         (λ l.
         rw (lt-ltb x.messages rooms.messages (omega (arith, st.messages, l))) (
@@ -200,22 +200,22 @@ module _ {kind : Payload} {start : ℕ} {rooms : Counts} {s : List ℕ} {x : Cur
             pairs = st.pairs;
             actions = st.actions;
             few = omega (arith, st.few, n.0);
-            run = λ e. kinds-apart (sym is ∙ e);
+            run = λ e. kinds_apart (sym is ∙ e);
           },
-          list_on g none h (afterItem x (i.Message m end)) (withMessage c m) n.0 (one-as k.Messages is ∙ message-taken rooms s c x.at m end there l),
+          list_on g none h (after_item x (i.Message m end)) (with_message c m) n.0 (one_as k.Messages is ∙ message_taken rooms s c x.at m end there l),
         ))
-        (λ l. rw (le-ltb x.messages rooms.messages (omega (arith, st.messages, l))) (list-stop g none h 10 end (one-as k.Messages is ∙ message-full rooms s c x.at m end there l)))
-        (lt-or-le (length c.messages) rooms.messages)
+        (λ l. rw (le-ltb x.messages rooms.messages (omega (arith, st.messages, l))) (list_stop g none h 10 end (one_as k.Messages is ∙ message_full rooms s c x.at m end there l)))
+        (lt_or_le (length c.messages) rooms.messages)
       where
-        kinds-apart : {G : Type 0} → k.Messages ≡ k.KvList → G
-        kinds-apart e = let z : ◌≡◌ {A = ℕ} 0 1 = cc in absurd (omega arith)
-    then-message is (refused n place) f =
-        list-stop g none h n place (one-as k.Messages is ∙ message-refused rooms s c x.at n place (ap (λ (z : ℕ). messageFrom z x.at s) st.pairs ∙ f))
+        kinds_apart : {G : Type 0} → k.Messages ≡ k.KvList → G
+        kinds_apart e = let z : ◌≡◌ {A = ℕ} 0 1 = cc in absurd (omega arith)
+    then_message is (refused n place) f =
+        list_stop g none h n place (one_as k.Messages is ∙ message_refused rooms s c x.at n place (ap (λ (z : ℕ). message_from z x.at s) st.pairs ∙ f))
 
-    then-action : kind ≡ k.Actions → (r : Answer Action) → actionFrom x.at s ≡ r → Then (item_of i.Action r) (tests rooms s x c (item_of i.Action r))
-    unfolding tests inOrder soMany
-    then-action is (done y end) f =
-        let n = action-next s x.at y end f in
+    then_action : kind ≡ k.Actions → (r : Answer Action) → action_from x.at s ≡ r → Then (item_of i.Action r) (tests rooms s x c (item_of i.Action r))
+    unfolding tests in_order so_many
+    then_action is (done y end) f =
+        let n = action_next s x.at y end f in
         ⊎_elim
         (λ l.
         rw (lt-ltb x.actions rooms.actions (omega (arith, st.actions, l))) (
@@ -227,22 +227,22 @@ module _ {kind : Payload} {start : ℕ} {rooms : Counts} {s : List ℕ} {x : Cur
             pairs = st.pairs;
             actions = one_more c.actions y ∙ ap (λ (z : ℕ). z + 1) st.actions;
             few = omega (arith, st.few, n.0);
-            run = λ e. kinds-apart (sym is ∙ e);
+            run = λ e. kinds_apart (sym is ∙ e);
           },
-          list_on g none h (afterItem x (i.Action y end)) (withAction c y) n.0
-              (one-as k.Actions is ∙ action-taken rooms s c x.at y end f l ∙ ap (λ (z : ℕ). soMany (onePair rooms s false) z (withAction c y) end) (sym none)),
+          list_on g none h (after_item x (i.Action y end)) (with_action c y) n.0
+              (one_as k.Actions is ∙ action_taken rooms s c x.at y end f l ∙ ap (λ (z : ℕ). so_many (one_pair rooms s false) z (with_action c y) end) (sym none)),
         ))
-        (λ l. rw (le-ltb x.actions rooms.actions (omega (arith, st.actions, l))) (list-stop g none h 10 end (one-as k.Actions is ∙ action-full rooms s c x.at y end f l)))
-        (lt-or-le (length c.actions) rooms.actions)
+        (λ l. rw (le-ltb x.actions rooms.actions (omega (arith, st.actions, l))) (list_stop g none h 10 end (one_as k.Actions is ∙ action_full rooms s c x.at y end f l)))
+        (lt_or_le (length c.actions) rooms.actions)
       where
-        kinds-apart : {G : Type 0} → k.Actions ≡ k.KvList → G
-        kinds-apart e = let z : ◌≡◌ {A = ℕ} 0 1 = cc in absurd (omega arith)
-    then-action is (refused n place) f = list-stop g none h n place (one-as k.Actions is ∙ action-refused rooms s c x.at n place f)
+        kinds_apart : {G : Type 0} → k.Actions ≡ k.KvList → G
+        kinds_apart e = let z : ◌≡◌ {A = ℕ} 0 1 = cc in absurd (omega arith)
+    then_action is (refused n place) f = list_stop g none h n place (one_as k.Actions is ∙ action_refused rooms s c x.at n place f)
 
-    then-listed : (q : Payload) → kind ≡ q → Then (listed q s x) (tests rooms s x c (listed q s x))
-    then-listed k.KvList is = then-kv is (pairFrom x.at s) refl
-    then-listed k.Messages is = then-message is (messageFrom x.pairs x.at s) refl
-    then-listed k.Actions is = then-action is (actionFrom x.at s) refl
+    then_listed : (q : Payload) → kind ≡ q → Then (listed q s x) (tests rooms s x c (listed q s x))
+    then_listed k.KvList is = then_kv is (pair_from x.at s) refl
+    then_listed k.Messages is = then_message is (message_from x.pairs x.at s) refl
+    then_listed k.Actions is = then_action is (action_from x.at s) refl
 
   -- Law: the reading comes to what the tests of what comes next say.
   pub goes_then : Then (item_at kind s x) (tests rooms s x c (item_at kind s x))
@@ -252,63 +252,63 @@ module _ {kind : Payload} {start : ℕ} {rooms : Counts} {s : List ℕ} {x : Cur
       go : (l : ℕ) → x.left ≡ l → Then (item_at kind s x) (tests rooms s x c (item_at kind s x))
       go zero none =
           ⊎_elim
-          (λ h. rw (item-listed kind s x none h) (then-listed none h kind refl))
-          (λ h. rw (item-end kind s x none h) (list-end g none h))
-          (lt-or-le x.at (length s))
-      go (suc l) is = rw (item-due kind s x l is) (then-due l is (pairFrom x.at s) refl)
+          (λ h. rw (item_listed kind s x none h) (then_listed none h kind refl))
+          (λ h. rw (item_end kind s x none h) (list_end g none h))
+          (lt_or_le x.at (length s))
+      go (suc l) is = rw (item_due kind s x l is) (then_due l is (pair_from x.at s) refl)
 
 -- ---- what the tests ask
 
 module _ (kind : Payload) (s : List ℕ) (x : Cursor) where
-  pair-key-in : (r : Answer Pair) → pairFrom x.at s ≡ r → KeyInside s (item_of i.Pair r)
-  pair-key-in (done p end) f = let l = from-lies s x.at p end f in omega (arith, l.key, l.most)
-  pair-key-in (refused n place) f = tt
+  pair_key_in : (r : Answer Pair) → pair_from x.at s ≡ r → KeyInside s (item_of i.Pair r)
+  pair_key_in (done p end) f = let l = from_lies s x.at p end f in omega (arith, l.key, l.most)
+  pair_key_in (refused n place) f = tt
 
-  message-key-in : (r : Answer Message) → KeyInside s (item_of i.Message r)
-  message-key-in (done m end) = tt
-  message-key-in (refused n place) = tt
+  message_key_in : (r : Answer Message) → KeyInside s (item_of i.Message r)
+  message_key_in (done m end) = tt
+  message_key_in (refused n place) = tt
 
-  action-key-in : (r : Answer Action) → KeyInside s (item_of i.Action r)
-  action-key-in (done a end) = tt
-  action-key-in (refused n place) = tt
+  action_key_in : (r : Answer Action) → KeyInside s (item_of i.Action r)
+  action_key_in (done a end) = tt
+  action_key_in (refused n place) = tt
 
-  listed-key-in : (q : Payload) → KeyInside s (listed q s x)
-  listed-key-in k.KvList = pair-key-in (pairFrom x.at s) refl
-  listed-key-in k.Messages = message-key-in (messageFrom x.pairs x.at s)
-  listed-key-in k.Actions = action-key-in (actionFrom x.at s)
+  listed_key_in : (q : Payload) → KeyInside s (listed q s x)
+  listed_key_in k.KvList = pair_key_in (pair_from x.at s) refl
+  listed_key_in k.Messages = message_key_in (message_from x.pairs x.at s)
+  listed_key_in k.Actions = action_key_in (action_from x.at s)
 
   -- the key of a pair lies in the bytes
-  pub key-inside : (item : Item) → item ≡ item_at kind s x → KeyInside s item
-  key-inside item is = subst (λ (z : Item). KeyInside s z) (sym is) (go x.left refl)
+  pub key_inside : (item : Item) → item ≡ item_at kind s x → KeyInside s item
+  key_inside item is = subst (λ (z : Item). KeyInside s z) (sym is) (go x.left refl)
     where
       go : (l : ℕ) → x.left ≡ l → KeyInside s (item_at kind s x)
       go zero none =
           ⊎_elim
-          (λ h. rw (item-listed kind s x none h) (listed-key-in kind))
-          (λ h. rw (item-end kind s x none h) tt)
-          (lt-or-le x.at (length s))
-      go (suc l) is = rw (item-due kind s x l is) (pair-key-in (pairFrom x.at s) refl)
+          (λ h. rw (item_listed kind s x none h) (listed_key_in kind))
+          (λ h. rw (item_end kind s x none h) tt)
+          (lt_or_le x.at (length s))
+      go (suc l) is = rw (item_due kind s x l is) (pair_key_in (pair_from x.at s) refl)
 
-  message-no-pair : {G : Type 0} (r : Answer Message) (p : Pair) (end : ℕ) → item_of i.Message r ≡ i.Pair p end → G
-  message-no-pair (done m n) p end e = let z : ◌≡◌ {A = ℕ} 0 1 = cc in absurd (omega arith)
-  message-no-pair (refused m n) p end e = let z : ◌≡◌ {A = ℕ} 0 1 = cc in absurd (omega arith)
+  message_no_pair : {G : Type 0} (r : Answer Message) (p : Pair) (end : ℕ) → item_of i.Message r ≡ i.Pair p end → G
+  message_no_pair (done m n) p end e = let z : ◌≡◌ {A = ℕ} 0 1 = cc in absurd (omega arith)
+  message_no_pair (refused m n) p end e = let z : ◌≡◌ {A = ℕ} 0 1 = cc in absurd (omega arith)
 
-  action-no-pair : {G : Type 0} (r : Answer Action) (p : Pair) (end : ℕ) → item_of i.Action r ≡ i.Pair p end → G
-  action-no-pair (done a n) p end e = let z : ◌≡◌ {A = ℕ} 0 1 = cc in absurd (omega arith)
-  action-no-pair (refused m n) p end e = let z : ◌≡◌ {A = ℕ} 0 1 = cc in absurd (omega arith)
+  action_no_pair : {G : Type 0} (r : Answer Action) (p : Pair) (end : ℕ) → item_of i.Action r ≡ i.Pair p end → G
+  action_no_pair (done a n) p end e = let z : ◌≡◌ {A = ℕ} 0 1 = cc in absurd (omega arith)
+  action_no_pair (refused m n) p end e = let z : ◌≡◌ {A = ℕ} 0 1 = cc in absurd (omega arith)
 
   -- where no argument is due, a pair is one of a KV list
-  pub pair-of-kv : (p : Pair) (end : ℕ) → item_at kind s x ≡ i.Pair p end → x.left ≡ 0 → kind ≡ k.KvList
-  pair-of-kv p end e none =
+  pub pair_of_kv : (p : Pair) (end : ℕ) → item_at kind s x ≡ i.Pair p end → x.left ≡ 0 → kind ≡ k.KvList
+  pair_of_kv p end e none =
       ⊎_elim
-      (λ h. go kind refl (sym (item-listed kind s x none h) ∙ e))
-      (λ h. let f = sym (item-end kind s x none h) ∙ e in let z : ◌≡◌ {A = ℕ} 0 1 = cc f in absurd (omega arith))
-      (lt-or-le x.at (length s))
+      (λ h. go kind refl (sym (item_listed kind s x none h) ∙ e))
+      (λ h. let f = sym (item_end kind s x none h) ∙ e in let z : ◌≡◌ {A = ℕ} 0 1 = cc f in absurd (omega arith))
+      (lt_or_le x.at (length s))
     where
       go : (q : Payload) → kind ≡ q → listed kind s x ≡ i.Pair p end → kind ≡ k.KvList
       go k.KvList is f = is
-      go k.Messages is f = message-no-pair (messageFrom x.pairs x.at s) p end (ap (λ (z : Payload). listed z s x) (sym is) ∙ f)
-      go k.Actions is f = action-no-pair (actionFrom x.at s) p end (ap (λ (z : Payload). listed z s x) (sym is) ∙ f)
+      go k.Messages is f = message_no_pair (message_from x.pairs x.at s) p end (ap (λ (z : Payload). listed z s x) (sym is) ∙ f)
+      go k.Actions is f = action_no_pair (action_from x.at s) p end (ap (λ (z : Payload). listed z s x) (sym is) ∙ f)
 
 module _ {kind : Payload} {start : ℕ} {s : List ℕ} {x : Cursor} {c : Contents} (st : Stands kind start s x c) where
   -- another of each can be counted
@@ -322,13 +322,13 @@ module _ {kind : Payload} {start : ℕ} {s : List ℕ} {x : Cursor} {c : Content
 
   -- the pairs that a key is sought among
   pub sought : (item : Item) → item ≡ item_at kind s x → (p : Pair) (end : ℕ) → item ≡ i.Pair p end → x.left ≡ 0 → Run s start c.pairs x.at
-  sought item is p end e none = st.run (pair-of-kv kind s x p end (sym is ∙ e) none)
+  sought item is p end e none = st.run (pair_of_kv kind s x p end (sym is ∙ e) none)
 
   -- ---- what a pass comes to
 
-  pub passes-done : {rooms : Counts} → payload kind rooms start s ≡ done c x.at → Passes kind rooms start s (p.Done x)
-  passes-done e = record { says = rw (e, st.messages, st.pairs, st.actions); stood = tt }
+  pub passes_done : {rooms : Counts} → payload kind rooms start s ≡ done c x.at → Passes kind rooms start s (p.Done x)
+  passes_done e = record { says = rw (e, st.messages, st.pairs, st.actions); stood = tt }
 
-  pub passes-refused : {rooms : Counts} (r : Refusal) → tests rooms s x c (item_at kind s x) ≡ v.Refused r → payload kind rooms start s ≡ refused r.number r.place
+  pub passes_refused : {rooms : Counts} (r : Refusal) → tests rooms s x c (item_at kind s x) ≡ v.Refused r → payload kind rooms start s ≡ refused r.number r.place
       → Passes kind rooms start s (p.Refused r x)
-  passes-refused r t e = record { says = rw e; stood = (c, st, t) }
+  passes_refused r t e = record { says = rw e; stood = (c, st, t) }

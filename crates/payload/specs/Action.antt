@@ -13,15 +13,15 @@
 --     VAR-VALUE         : <TYPED-DATA>
 use Rattle.std.specs.Prelude.{cond, ◌||◌, List, [], ◌∷◌, ℕ, ltb, leb, eqb, length, drop, get_or}
 use Rattle.answer.specs.Answer.{Answer, done, refused, next, behind}
-use Rattle.answer.specs.Order.{inOrder}
+use Rattle.answer.specs.Order.{in_order}
 use Rattle.types.specs.Value.{string, value}
 use Rattle.frame.specs.declared.Pair.{Pair}
 use Rattle.frame.specs.declared.Action.{Action}
-use Rattle.payload.specs.Pair.{pair_of, movedPair, pair}
+use Rattle.payload.specs.Pair.{pair_of, moved_pair, pair}
 
 -- how many arguments a set has, and an unset
-abbrev pub argumentCount : ℕ → ℕ
-argumentCount verb = cond (eqb verb 1) 3 2
+abbrev pub argument_count : ℕ → ℕ
+argument_count verb = cond (eqb verb 1) 3 2
 
 -- A set's variable is a name and a value, as a pair's key and value are; an unset's is a name alone, with no number but 0 for its value.
 unfoldable pub variable : ℕ → List ℕ → Answer Pair
@@ -32,18 +32,18 @@ unfoldable pub action : List ℕ → Answer Action
 action s =
     let verb = get_or s 0 0 in
     let scope = get_or s 2 0 in
-    inOrder (
+    in_order (
     (refused 3 0, ltb 0 (length s))
     ∷ (refused 18 1, eqb verb 1 || eqb verb 2)
     ∷ (refused 3 1, ltb 1 (length s))
-    ∷ (refused 18 2, eqb (get_or s 1 0) (argumentCount verb))
+    ∷ (refused 18 2, eqb (get_or s 1 0) (argument_count verb))
     ∷ (refused 3 2, ltb 2 (length s))
     ∷ (refused 18 3, leb scope 4) ∷ [])
-    (next (behind movedPair 3 (variable verb (drop 3 s))) (λ p used. done (record { verb = verb; scope = scope; pair = p }) used))
+    (next (behind moved_pair 3 (variable verb (drop 3 s))) (λ p used. done (record { verb = verb; scope = scope; pair = p }) used))
 
 -- an action behind n other bytes: its starts move; and the one that stands at a place
-abbrev pub movedAction : ℕ → Action → Action
-movedAction n x = record { verb = x.verb; scope = x.scope; pair = movedPair n x.pair }
+abbrev pub moved_action : ℕ → Action → Action
+moved_action n x = record { verb = x.verb; scope = x.scope; pair = moved_pair n x.pair }
 
-abbrev pub actionFrom : ℕ → List ℕ → Answer Action
-actionFrom at s = behind movedAction at (action (drop at s))
+abbrev pub action_from : ℕ → List ℕ → Answer Action
+action_from at s = behind moved_action at (action (drop at s))

@@ -1,12 +1,12 @@
 -- What only private contracts cite. No public promise rests on anything in this file.
 use Rattle.std.specs.Prelude.{◌≡◌, Bool, true, false, not, ◌&&◌, List, [], ◌∷◌, ◌++◌, ℕ, ◌+◌, ◌-◌, ◌*◌, ◌≤◌, ◌<◌, ◌^◌, ltb, eqb, length, take, drop}
 use Rattle.answer.specs.Answer.{Answer, done, refused, next, behind, written, leaves}
-use Rattle.answer.specs.Order.{inOrder}
-use Rattle.answer.specs.Row.{soMany, toEnd}
+use Rattle.answer.specs.Order.{in_order}
+use Rattle.answer.specs.Row.{so_many, to_end}
 use Rattle.answer.specs.Inner.{InRow}
 use Rattle.frame.specs.declared.Pair.{Pair}
 use Rattle.frame.specs.declared.Action.{Action}
-use Rattle.frame.specs.Records.{messageWidth, messageNumbers, pairWidth, pairNumbers, actionWidth, actionNumbers}
+use Rattle.frame.specs.Records.{message_width, message_numbers, pair_width, pair_numbers, action_width, action_numbers}
 use Rattle.payload.specs.declared.Counts.{Counts}
 use Rattle.payload.specs.declared.Cursor.{Cursor}
 use Rattle.payload.specs.declared.Item.{Item}
@@ -21,30 +21,30 @@ use Rattle.payload.specs.declared.Once.{Once}
 use Rattle.payload.specs.declared.Once.TheVariants as o
 use Rattle.payload.specs.declared.Payload.{Payload}
 use Rattle.payload.specs.declared.Payload.TheVariants as k
-use Rattle.payload.specs.Pair.{movedPair, pairFrom}
+use Rattle.payload.specs.Pair.{moved_pair, pair_from}
 use Rattle.payload.specs.Action.{variable, action}
-use Rattle.payload.specs.Payload.{Contents, met, onePair, one_of, payload}
+use Rattle.payload.specs.Payload.{Contents, met, one_pair, one_of, payload}
 use Rattle.payload.specs.Item.{item_at}
-use Rattle.payload.specs.Promise.{payloadTells, rooms_of, Fills}
+use Rattle.payload.specs.Promise.{payload_tells, rooms_of, Fills}
 
 -- ---- an action
 
 -- what the reader of an action answers: its variable is counted from behind the three bytes, and at a place from the first byte
-abbrev pub variableMoved : Action → Action
-variableMoved x = record { verb = x.verb; scope = x.scope; pair = movedPair 3 x.pair }
+abbrev pub variable_moved : Action → Action
+variable_moved x = record { verb = x.verb; scope = x.scope; pair = moved_pair 3 x.pair }
 
-abbrev pub actionBehind : ActionRead → Answer Action
-actionBehind (r.Done x used) = done (variableMoved x) used
-actionBehind (r.Refused q) = refused q.number q.place
+abbrev pub action_behind : ActionRead → Answer Action
+action_behind (r.Done x used) = done (variable_moved x) used
+action_behind (r.Refused q) = refused q.number q.place
 
-abbrev pub actionSaid : ActionRead → Answer Action
-actionSaid (r.Done x used) = done x used
-actionSaid (r.Refused q) = refused q.number q.place
+abbrev pub action_said : ActionRead → Answer Action
+action_said (r.Done x used) = done x used
+action_said (r.Refused q) = refused q.number q.place
 
 -- The three bytes of the action at the front are there and known: its variable is left.
 pub record Headed (s : List ℕ) (verb scope : ℕ) : Type 0 where
   pub long : 3 ≤ length s
-  pub is : action s ≡ next (behind movedPair 3 (variable verb (drop 3 s))) (λ p used. done (record { verb = verb; scope = scope; pair = p }) used)
+  pub is : action s ≡ next (behind moved_pair 3 (variable verb (drop 3 s))) (λ p used. done (record { verb = verb; scope = scope; pair = p }) used)
 
 -- ---- a step
 
@@ -53,12 +53,12 @@ abbrev pub began : ℕ → Cursor
 began start = record { at = start; left = 0; messages = 0; pairs = 0; actions = 0 }
 
 -- where it goes on behind what comes next
-abbrev pub afterItem : Cursor → Item → Cursor
-afterItem x (i.Pair p end) = record { at = end; left = x.left - 1; messages = x.messages; pairs = x.pairs + 1; actions = x.actions }
-afterItem x (i.Message m end) = record { at = end; left = m.count; messages = x.messages + 1; pairs = x.pairs; actions = x.actions }
-afterItem x (i.Action a end) = record { at = end; left = x.left; messages = x.messages; pairs = x.pairs; actions = x.actions + 1 }
-afterItem x i.End = x
-afterItem x (i.Refused q) = x
+abbrev pub after_item : Cursor → Item → Cursor
+after_item x (i.Pair p end) = record { at = end; left = x.left - 1; messages = x.messages; pairs = x.pairs + 1; actions = x.actions }
+after_item x (i.Message m end) = record { at = end; left = m.count; messages = x.messages + 1; pairs = x.pairs; actions = x.actions }
+after_item x (i.Action a end) = record { at = end; left = x.left; messages = x.messages; pairs = x.pairs; actions = x.actions + 1 }
+after_item x i.End = x
+after_item x (i.Refused q) = x
 
 -- whether a record comes next
 abbrev pub follows : Item → Bool
@@ -69,17 +69,17 @@ follows i.End = false
 follows (i.Refused q) = false
 
 -- the tests of what comes next, where these were met: a pair that is no argument has a key that is met once, and there is room for a record
-abbrev pub refusedAt : ℕ → ℕ → Step
-refusedAt number place = v.Refused (record { number = number; place = place })
+abbrev pub refused_at : ℕ → ℕ → Step
+refused_at number place = v.Refused (record { number = number; place = place })
 
 unfoldable pub tests : Counts → List ℕ → Cursor → Contents → Item → Step
 tests rooms s x c (i.Pair p end) =
-    inOrder (
-    (refusedAt 9 end, not (eqb x.left 0 && met s c.pairs p))
-    ∷ (refusedAt 10 end, ltb x.pairs rooms.pairs) ∷ [])
-    (v.On (afterItem x (i.Pair p end)))
-tests rooms s x c (i.Message m end) = inOrder ((refusedAt 10 end, ltb x.messages rooms.messages) ∷ []) (v.On (afterItem x (i.Message m end)))
-tests rooms s x c (i.Action a end) = inOrder ((refusedAt 10 end, ltb x.actions rooms.actions) ∷ []) (v.On (afterItem x (i.Action a end)))
+    in_order (
+    (refused_at 9 end, not (eqb x.left 0 && met s c.pairs p))
+    ∷ (refused_at 10 end, ltb x.pairs rooms.pairs) ∷ [])
+    (v.On (after_item x (i.Pair p end)))
+tests rooms s x c (i.Message m end) = in_order ((refused_at 10 end, ltb x.messages rooms.messages) ∷ []) (v.On (after_item x (i.Message m end)))
+tests rooms s x c (i.Action a end) = in_order ((refused_at 10 end, ltb x.actions rooms.actions) ∷ []) (v.On (after_item x (i.Action a end)))
 tests rooms s x c i.End = v.End
 tests rooms s x c (i.Refused q) = v.Refused q
 
@@ -98,7 +98,7 @@ KeyInside s (i.Refused q) = Unit
 
 -- These pairs stand in a row, from a place to another.
 abbrev pub Run : List ℕ → ℕ → List Pair → ℕ → Type 0
-Run s at ps end = InRow (λ n. pairFrom n s) at ps end
+Run s at ps end = InRow (λ n. pair_from n s) at ps end
 
 -- How far a pass is, and what it met up to there. There are no more records than bytes.
 pub record Stands (kind : Payload) (start : ℕ) (s : List ℕ) (x : Cursor) (c : Contents) : Type 0 where
@@ -113,14 +113,14 @@ pub record Stands (kind : Payload) (start : ℕ) (s : List ℕ) (x : Cursor) (c 
 pub record Goes (kind : Payload) (rooms : Counts) (s : List ℕ) (x : Cursor) (c : Contents) (a : Answer Contents) : Type 0 where
   pub fuel : ℕ
   pub enough : length s ≤ x.at + fuel
-  pub is : next (soMany (onePair rooms s false) x.left c x.at) (λ d end. toEnd (one_of rooms s kind) (length s) fuel d end) ≡ a
+  pub is : next (so_many (one_pair rooms s false) x.left c x.at) (λ d end. to_end (one_of rooms s kind) (length s) fuel d end) ≡ a
 
 -- ---- a pass
 
 -- what it comes to
-abbrev pub passedSaid : Passed → Answer Counts
-passedSaid (p.Done x) = done (record { messages = x.messages; pairs = x.pairs; actions = x.actions }) x.at
-passedSaid (p.Refused r x) = refused r.number r.place
+abbrev pub passed_said : Passed → Answer Counts
+passed_said (p.Done x) = done (record { messages = x.messages; pairs = x.pairs; actions = x.actions }) x.at
+passed_said (p.Refused r x) = refused r.number r.place
 
 -- A refusal is that of what comes next where the pass stood.
 abbrev pub Stood : Payload → Counts → ℕ → List ℕ → Passed → Type 0
@@ -128,16 +128,16 @@ Stood kind rooms start s (p.Done x) = Unit
 Stood kind rooms start s (p.Refused r x) = (c : Contents) × Stands kind start s x c × (tests rooms s x c (item_at kind s x) ≡ v.Refused r)
 
 pub record Passes (kind : Payload) (rooms : Counts) (start : ℕ) (s : List ℕ) (r : Passed) : Type 0 where
-  pub says : passedSaid r ≡ payloadTells (payload kind rooms start s)
+  pub says : passed_said r ≡ payload_tells (payload kind rooms start s)
   pub stood : Stood kind rooms start s r
 
 -- ---- tables
 
 -- There is room for what comes next behind the records that were met; and its numbers are put there.
 abbrev pub Fits : Item → Cursor → List ℕ → List ℕ → List ℕ → Type 0
-Fits (i.Pair p end) x messages pairs actions = x.pairs * pairWidth + pairWidth ≤ length pairs
-Fits (i.Message m end) x messages pairs actions = x.messages * messageWidth + messageWidth ≤ length messages
-Fits (i.Action a end) x messages pairs actions = x.actions * actionWidth + actionWidth ≤ length actions
+Fits (i.Pair p end) x messages pairs actions = x.pairs * pair_width + pair_width ≤ length pairs
+Fits (i.Message m end) x messages pairs actions = x.messages * message_width + message_width ≤ length messages
+Fits (i.Action a end) x messages pairs actions = x.actions * action_width + action_width ≤ length actions
 Fits i.End x messages pairs actions = Unit
 Fits (i.Refused q) x messages pairs actions = Unit
 
@@ -145,14 +145,14 @@ abbrev pub put_at : ℕ → List ℕ → List ℕ → List ℕ
 put_at n numbers old = take n old ++ leaves (written numbers) (drop n old)
 
 abbrev pub Stores : Item → Cursor → List ℕ → List ℕ → List ℕ → List ℕ → List ℕ → List ℕ → Type 0
-Stores (i.Pair p end) x oldMessages newMessages oldPairs newPairs oldActions newActions =
-    (newMessages ≡ oldMessages) × (newPairs ≡ put_at (x.pairs * pairWidth) (pairNumbers p) oldPairs) × (newActions ≡ oldActions)
-Stores (i.Message m end) x oldMessages newMessages oldPairs newPairs oldActions newActions =
-    (newMessages ≡ put_at (x.messages * messageWidth) (messageNumbers m) oldMessages) × (newPairs ≡ oldPairs) × (newActions ≡ oldActions)
-Stores (i.Action a end) x oldMessages newMessages oldPairs newPairs oldActions newActions =
-    (newMessages ≡ oldMessages) × (newPairs ≡ oldPairs) × (newActions ≡ put_at (x.actions * actionWidth) (actionNumbers a) oldActions)
-Stores i.End x oldMessages newMessages oldPairs newPairs oldActions newActions = (newMessages ≡ oldMessages) × (newPairs ≡ oldPairs) × (newActions ≡ oldActions)
-Stores (i.Refused q) x oldMessages newMessages oldPairs newPairs oldActions newActions = (newMessages ≡ oldMessages) × (newPairs ≡ oldPairs) × (newActions ≡ oldActions)
+Stores (i.Pair p end) x old_messages new_messages old_pairs new_pairs old_actions new_actions =
+    (new_messages ≡ old_messages) × (new_pairs ≡ put_at (x.pairs * pair_width) (pair_numbers p) old_pairs) × (new_actions ≡ old_actions)
+Stores (i.Message m end) x old_messages new_messages old_pairs new_pairs old_actions new_actions =
+    (new_messages ≡ put_at (x.messages * message_width) (message_numbers m) old_messages) × (new_pairs ≡ old_pairs) × (new_actions ≡ old_actions)
+Stores (i.Action a end) x old_messages new_messages old_pairs new_pairs old_actions new_actions =
+    (new_messages ≡ old_messages) × (new_pairs ≡ old_pairs) × (new_actions ≡ put_at (x.actions * action_width) (action_numbers a) old_actions)
+Stores i.End x old_messages new_messages old_pairs new_pairs old_actions new_actions = (new_messages ≡ old_messages) × (new_pairs ≡ old_pairs) × (new_actions ≡ old_actions)
+Stores (i.Refused q) x old_messages new_messages old_pairs new_pairs old_actions new_actions = (new_messages ≡ old_messages) × (new_pairs ≡ old_pairs) × (new_actions ≡ old_actions)
 
 -- The payload is accepted, with the room that three tables have; and what is left in them.
 pub record Accepted (kind : Payload) (rooms : Counts) (start : ℕ) (s : List ℕ) : Type 0 where
@@ -161,17 +161,17 @@ pub record Accepted (kind : Payload) (rooms : Counts) (start : ℕ) (s : List �
   pub is : payload kind rooms start s ≡ done contents end
 
 abbrev pub Leaves : Payload → ℕ → List ℕ → List ℕ → List ℕ → List ℕ → List ℕ → List ℕ → List ℕ → Type 0
-Leaves kind start s oldMessages newMessages oldPairs newPairs oldActions newActions =
-    Fills (payload kind (rooms_of oldMessages oldPairs oldActions) start s) oldMessages newMessages oldPairs newPairs oldActions newActions
+Leaves kind start s old_messages new_messages old_pairs new_pairs old_actions new_actions =
+    Fills (payload kind (rooms_of old_messages old_pairs old_actions) start s) old_messages new_messages old_pairs new_pairs old_actions new_actions
 
 abbrev pub LeavesAccepted : Payload → ℕ → List ℕ → List ℕ → List ℕ → List ℕ → List ℕ → List ℕ → List ℕ → Type 0
-LeavesAccepted kind start s oldMessages newMessages oldPairs newPairs oldActions newActions =
-    Accepted kind (rooms_of oldMessages oldPairs oldActions) start s → Leaves kind start s oldMessages newMessages oldPairs newPairs oldActions newActions
+LeavesAccepted kind start s old_messages new_messages old_pairs new_pairs old_actions new_actions =
+    Accepted kind (rooms_of old_messages old_pairs old_actions) start s → Leaves kind start s old_messages new_messages old_pairs new_pairs old_actions new_actions
 
 -- what reading in one pass finds and leaves
 abbrev pub ReadsOnce : Payload → ℕ → List ℕ → Once → List ℕ → List ℕ → List ℕ → List ℕ → List ℕ → List ℕ → Type 0
-ReadsOnce kind start s (o.Read counts used) oldMessages newMessages oldPairs newPairs oldActions newActions =
-    (done counts used ≡ payloadTells (payload kind (rooms_of oldMessages oldPairs oldActions) start s))
-    × Leaves kind start s oldMessages newMessages oldPairs newPairs oldActions newActions
-ReadsOnce kind start s o.Left oldMessages newMessages oldPairs newPairs oldActions newActions =
-    (newMessages ≡ oldMessages) × (newPairs ≡ oldPairs) × (newActions ≡ oldActions)
+ReadsOnce kind start s (o.Read counts used) old_messages new_messages old_pairs new_pairs old_actions new_actions =
+    (done counts used ≡ payload_tells (payload kind (rooms_of old_messages old_pairs old_actions) start s))
+    × Leaves kind start s old_messages new_messages old_pairs new_pairs old_actions new_actions
+ReadsOnce kind start s o.Left old_messages new_messages old_pairs new_pairs old_actions new_actions =
+    (new_messages ≡ old_messages) × (new_pairs ≡ old_pairs) × (new_actions ≡ old_actions)

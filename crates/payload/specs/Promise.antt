@@ -3,63 +3,63 @@ use Rattle.std.specs.Prelude.{◌≡◌, List, ℕ, ◌/◌, length}
 use Rattle.answer.specs.Answer.{Answer, done, refused, next, written, leaves}
 use Rattle.answer.specs.Table.{joined}
 use Rattle.frame.specs.declared.Pair.{Pair}
-use Rattle.frame.specs.Records.{messageWidth, messageNumbers, pairWidth, pairNumbers, actionWidth, actionNumbers}
+use Rattle.frame.specs.Records.{message_width, message_numbers, pair_width, pair_numbers, action_width, action_numbers}
 use Rattle.payload.specs.declared.Counts.{Counts}
 use Rattle.payload.specs.declared.PairRead.{PairRead}
 use Rattle.payload.specs.declared.PairRead.TheVariants as p
 use Rattle.payload.specs.declared.Payload.{Payload}
 use Rattle.payload.specs.declared.PayloadRead.{PayloadRead}
 use Rattle.payload.specs.declared.PayloadRead.TheVariants as l
-use Rattle.payload.specs.Pair.{pair, pairFrom}
+use Rattle.payload.specs.Pair.{pair, pair_from}
 use Rattle.payload.specs.Payload.{Contents, payload}
 
 -- ---- what the answers say
 
-abbrev pub pairSaid : PairRead → Answer Pair
-pairSaid (p.Done x used) = done x used
-pairSaid (p.Refused r) = refused r.number r.place
+abbrev pub pair_said : PairRead → Answer Pair
+pair_said (p.Done x used) = done x used
+pair_said (p.Refused r) = refused r.number r.place
 
-abbrev pub payloadSaid : PayloadRead → Answer Counts
-payloadSaid (l.Done counts used) = done counts used
-payloadSaid (l.Refused r) = refused r.number r.place
+abbrev pub payload_said : PayloadRead → Answer Counts
+payload_said (l.Done counts used) = done counts used
+payload_said (l.Refused r) = refused r.number r.place
 
 -- what is said of a payload that comes out so: counts stand for the records
-abbrev pub countsOf : Contents → Counts
-countsOf c = record { messages = length c.messages; pairs = length c.pairs; actions = length c.actions }
+abbrev pub counts_of : Contents → Counts
+counts_of c = record { messages = length c.messages; pairs = length c.pairs; actions = length c.actions }
 
-abbrev pub payloadTells : Answer Contents → Answer Counts
-payloadTells a = next a (λ c used. done (countsOf c) used)
+abbrev pub payload_tells : Answer Contents → Answer Counts
+payload_tells a = next a (λ c used. done (counts_of c) used)
 
 -- ---- what is left in the tables
 
 -- how many records three tables have room for
 abbrev pub rooms_of : List ℕ → List ℕ → List ℕ → Counts
 rooms_of messages pairs actions =
-    record { messages = length messages / messageWidth; pairs = length pairs / pairWidth; actions = length actions / actionWidth }
+    record { messages = length messages / message_width; pairs = length pairs / pair_width; actions = length actions / action_width }
 
 -- Where contents come out, the records of a sort stand at the front of their table, in order, and what lies behind them stays. Else all stays.
-abbrev pub tableLeft : {A : Type 0} → (A → List ℕ) → (Contents → List A) → Answer Contents → List ℕ → List ℕ
-tableLeft numbers records a old = leaves (next a (λ c used. written (joined numbers (records c)))) old
+abbrev pub table_left : {A : Type 0} → (A → List ℕ) → (Contents → List A) → Answer Contents → List ℕ → List ℕ
+table_left numbers records a old = leaves (next a (λ c used. written (joined numbers (records c)))) old
 
-pub record Fills (a : Answer Contents) (oldMessages newMessages oldPairs newPairs oldActions newActions : List ℕ) : Type 0 where
-  pub messages : newMessages ≡ tableLeft messageNumbers (λ c. c.messages) a oldMessages
-  pub pairs : newPairs ≡ tableLeft pairNumbers (λ c. c.pairs) a oldPairs
-  pub actions : newActions ≡ tableLeft actionNumbers (λ c. c.actions) a oldActions
+pub record Fills (a : Answer Contents) (old_messages new_messages old_pairs new_pairs old_actions new_actions : List ℕ) : Type 0 where
+  pub messages : new_messages ≡ table_left message_numbers (λ c. c.messages) a old_messages
+  pub pairs : new_pairs ≡ table_left pair_numbers (λ c. c.pairs) a old_pairs
+  pub actions : new_actions ≡ table_left action_numbers (λ c. c.actions) a old_actions
 
 -- ---- the promises
 
 -- `read_pair` reads the pair at the front of the bytes, and `pair_from` the one that stands at a place.
 abbrev pub ReadPair : List ℕ → PairRead → Type 0
-ReadPair input r = pairSaid r ≡ pair input
+ReadPair input r = pair_said r ≡ pair input
 
 abbrev pub PairFrom : List ℕ → ℕ → PairRead → Type 0
-PairFrom input at r = pairSaid r ≡ pairFrom at input
+PairFrom input at r = pair_said r ≡ pair_from at input
 
 -- `look_payload` says what the reader says with tables of such rooms.
 abbrev pub LookPayload : Payload → ℕ → List ℕ → Counts → PayloadRead → Type 0
-LookPayload kind start input rooms r = payloadSaid r ≡ payloadTells (payload kind rooms start input)
+LookPayload kind start input rooms r = payload_said r ≡ payload_tells (payload kind rooms start input)
 
 -- `read_payload` reads the payload that starts at a place, and fills the tables.
-pub record ReadPayload (kind : Payload) (start : ℕ) (input : List ℕ) (r : PayloadRead) (oldMessages newMessages oldPairs newPairs oldActions newActions : List ℕ) : Type 0 where
-  pub says : payloadSaid r ≡ payloadTells (payload kind (rooms_of oldMessages oldPairs oldActions) start input)
-  pub fills : Fills (payload kind (rooms_of oldMessages oldPairs oldActions) start input) oldMessages newMessages oldPairs newPairs oldActions newActions
+pub record ReadPayload (kind : Payload) (start : ℕ) (input : List ℕ) (r : PayloadRead) (old_messages new_messages old_pairs new_pairs old_actions new_actions : List ℕ) : Type 0 where
+  pub says : payload_said r ≡ payload_tells (payload kind (rooms_of old_messages old_pairs old_actions) start input)
+  pub fills : Fills (payload kind (rooms_of old_messages old_pairs old_actions) start input) old_messages new_messages old_pairs new_pairs old_actions new_actions

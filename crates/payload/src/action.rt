@@ -1,7 +1,7 @@
 // An action, read from the front of some bytes, or at a place of them.
 ghost use Rattle.std.specs.Prelude.{◌≡◌, not, ◌||◌, ◌≤◌, eqb, length};
-ghost use Rattle.payload.specs.Action.{argumentCount, action as actionOf, actionFrom};
-ghost use Rattle.payload.specs.Inner.{actionBehind, actionSaid, Headed};
+ghost use Rattle.payload.specs.Action.{argument_count, action as actionOf, action_from};
+ghost use Rattle.payload.specs.Inner.{action_behind, action_said, Headed};
 
 use crate::pair::{moved_pair, read_pair};
 use crate::{ActionRead, PairRead};
@@ -29,7 +29,7 @@ fn unknown(verb: u64) -> bool
 
 // How many arguments it has.
 fn arguments(verb: u64) -> u64
-    ensures { result ≡ argumentCount verb }
+    ensures { result ≡ argument_count verb }
 {
     if verb == SET_VAR { 3 } else { 2 }
 }
@@ -37,7 +37,7 @@ fn arguments(verb: u64) -> u64
 // Reads the name and the value of a set.
 fn read_set(input: &[u8], scope: u64) -> ActionRead
     requires { Headed input.now 1 scope }
-    ensures { actionBehind result ≡ actionOf input.now }
+    ensures { action_behind result ≡ actionOf input.now }
 {
     match read_pair(&input[3..]) {
         PairRead::Refused(r) => {
@@ -59,7 +59,7 @@ fn read_set(input: &[u8], scope: u64) -> ActionRead
 // Reads the name of an unset.
 fn read_unset(input: &[u8], scope: u64) -> ActionRead
     requires { Headed input.now 2 scope }
-    ensures { actionBehind result ≡ actionOf input.now }
+    ensures { action_behind result ≡ actionOf input.now }
 {
     match types::read_string(&input[3..]) {
         StringRead::Refused(r) => {
@@ -89,7 +89,7 @@ fn read_unset(input: &[u8], scope: u64) -> ActionRead
 
 // Reads the action at the front of `input`: each of its three bytes is tested as it is read.
 fn read_action(input: &[u8]) -> ActionRead
-    ensures { actionBehind result ≡ actionOf input.now }
+    ensures { action_behind result ≡ actionOf input.now }
 {
     let have = input.len();
     if have < 1 {
@@ -121,7 +121,7 @@ fn read_action(input: &[u8]) -> ActionRead
 // Reads the action that stands at `at`. Starts count from the input's first byte.
 pub(crate) fn action_at(input: &[u8], at: usize) -> ActionRead
     requires { at ≤ length input.now }
-    ensures { actionSaid result ≡ actionFrom at input.now }
+    ensures { action_said result ≡ action_from at input.now }
 {
     match read_action(&input[at..]) {
         ActionRead::Refused(r) => {

@@ -1,7 +1,7 @@
 // The second pass over a payload that is accepted: it fills the tables, and asks nothing again.
 ghost use Rattle.std.specs.Prelude.{◌≡◌, true, false, ◌≤◌, length};
 ghost use Rattle.answer.specs.Answer.{written, leaves};
-ghost use Rattle.frame.specs.Records.{messageWidth, messageNumbers, pairWidth, pairNumbers, actionWidth, actionNumbers};
+ghost use Rattle.frame.specs.Records.{message_width, message_numbers, pair_width, pair_numbers, action_width, action_numbers};
 ghost use Rattle.payload.specs.Promise.{rooms_of};
 ghost use Rattle.payload.specs.Inner.{Low, follows, Fits, Stores, Accepted, Leaves};
 
@@ -12,8 +12,8 @@ use frame::{ACTION_WIDTH, Action, MESSAGE_WIDTH, Message, PAIR_WIDTH, Pair};
 
 // Writes the numbers of a message.
 fn put_message(message: Message, table: &mut [u64])
-    requires { messageWidth ≤ length table.old }
-    ensures { table.new ≡ leaves (written (messageNumbers message)) table.old }
+    requires { message_width ≤ length table.old }
+    ensures { table.new ≡ leaves (written (message_numbers message)) table.old }
 {
     table[0] = message.start;
     table[1] = message.len;
@@ -23,8 +23,8 @@ fn put_message(message: Message, table: &mut [u64])
 
 // Writes the numbers of a pair.
 fn put_pair(pair: Pair, table: &mut [u64])
-    requires { pairWidth ≤ length table.old }
-    ensures { table.new ≡ leaves (written (pairNumbers pair)) table.old }
+    requires { pair_width ≤ length table.old }
+    ensures { table.new ≡ leaves (written (pair_numbers pair)) table.old }
 {
     table[0] = pair.start;
     table[1] = pair.len;
@@ -36,8 +36,8 @@ fn put_pair(pair: Pair, table: &mut [u64])
 
 // Writes the numbers of an action.
 fn put_action(action: Action, table: &mut [u64])
-    requires { actionWidth ≤ length table.old }
-    ensures { table.new ≡ leaves (written (actionNumbers action)) table.old }
+    requires { action_width ≤ length table.old }
+    ensures { table.new ≡ leaves (written (action_numbers action)) table.old }
 {
     table[0] = action.verb;
     table[1] = action.scope;

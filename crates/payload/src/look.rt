@@ -1,12 +1,12 @@
 // The first pass over a payload: it finds the answer, and writes nothing.
 ghost use Rattle.std.specs.Prelude.{◌≡◌, List, ℕ, ◌+◌, ◌≤◌, length};
 ghost use Rattle.answer.specs.Table.{some};
-ghost use Rattle.utf8.specs.Text.{sameText};
+ghost use Rattle.utf8.specs.Text.{same_text};
 ghost use Rattle.types.specs.Form.{part};
 ghost use Rattle.frame.specs.Records.{key_of};
 ghost use Rattle.payload.specs.declared.Item.TheVariants as i;
 ghost use Rattle.payload.specs.Payload.{Contents};
-ghost use Rattle.payload.specs.Inner.{began, Low, KeyInside, afterItem, Run, tests, Passes};
+ghost use Rattle.payload.specs.Inner.{began, Low, KeyInside, after_item, Run, tests, Passes};
 
 use crate::next::item;
 use crate::pair::pair_at;
@@ -30,7 +30,7 @@ pub(crate) fn begin(start: usize) -> Cursor
 // Whether one of the pairs from `start` to `end` has this key.
 fn key_met(input: &[u8], start: usize, end: usize, key: &[u8]) -> bool
     requires { end ≤ length input.now }
-    ensures { (pairs : List Pair) → Run input.now start pairs end → result ≡ some (λ q. sameText (key_of input.now q) key.now) pairs }
+    ensures { (pairs : List Pair) → Run input.now start pairs end → result ≡ some (λ q. same_text (key_of input.now q) key.now) pairs }
 {
     let mut at = start;
     while at < end {
@@ -57,7 +57,7 @@ fn refused_at(number: u64, place: usize) -> Step
 // Where the pass goes on behind an item; where that is none, it stays.
 pub(crate) fn after(x: Cursor, item: Item) -> Cursor
     requires { Low x }
-    ensures { result ≡ afterItem x item }
+    ensures { result ≡ after_item x item }
 {
     let mut y = x;
     match item {

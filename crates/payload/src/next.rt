@@ -1,9 +1,9 @@
 // The step that every pass over a payload takes: what comes next.
 ghost use Rattle.std.specs.Prelude.{◌≡◌, ◌≤◌, ◌<◌, length};
 ghost use Rattle.payload.specs.declared.Item.TheVariants as i;
-ghost use Rattle.payload.specs.Pair.{pairFrom};
-ghost use Rattle.payload.specs.Action.{actionFrom};
-ghost use Rattle.payload.specs.Payload.{messageFrom};
+ghost use Rattle.payload.specs.Pair.{pair_from};
+ghost use Rattle.payload.specs.Action.{action_from};
+ghost use Rattle.payload.specs.Payload.{message_from};
 ghost use Rattle.payload.specs.Item.{item_of, item_at};
 
 use crate::action::action_at;
@@ -22,7 +22,7 @@ fn refused_at(number: u64, place: usize) -> Item
 // The pair that stands at `at`.
 fn pair_item(input: &[u8], at: usize) -> Item
     requires { at ≤ length input.now }
-    ensures { result ≡ item_of i.Pair (pairFrom at input.now) }
+    ensures { result ≡ item_of i.Pair (pair_from at input.now) }
 {
     match pair_at(input, at) {
         PairRead::Refused(r) => Item::Refused(r),
@@ -33,7 +33,7 @@ fn pair_item(input: &[u8], at: usize) -> Item
 // The message that stands at `at`, behind so many pairs: its name, and its count byte.
 fn message_item(input: &[u8], at: usize, first: usize) -> Item
     requires { at ≤ length input.now }
-    ensures { result ≡ item_of i.Message (messageFrom first at input.now) }
+    ensures { result ≡ item_of i.Message (message_from first at input.now) }
 {
     match types::read_string(&input[at..]) {
         StringRead::Refused(r) => {
@@ -60,7 +60,7 @@ fn message_item(input: &[u8], at: usize, first: usize) -> Item
 // The action that stands at `at`.
 fn action_item(input: &[u8], at: usize) -> Item
     requires { at ≤ length input.now }
-    ensures { result ≡ item_of i.Action (actionFrom at input.now) }
+    ensures { result ≡ item_of i.Action (action_from at input.now) }
 {
     match action_at(input, at) {
         ActionRead::Refused(r) => Item::Refused(r),

@@ -1,10 +1,10 @@
 // A pair, read from the front of some bytes, or at a place of them.
 ghost use Rattle.std.specs.Prelude.{◌≡◌, ℕ, ◌+◌, ◌≤◌, ◌<◌, ◌^◌, length};
 ghost use Rattle.types.specs.Value.{moved as movedRecord};
-ghost use Rattle.types.specs.Promise.{recordOf, stringSaid};
+ghost use Rattle.types.specs.Promise.{record_of, string_said};
 ghost use Rattle.answer.specs.Answer.{refused};
-ghost use Rattle.payload.specs.Pair.{movedPair, pairFrom};
-ghost use Rattle.payload.specs.Promise.{pairSaid, ReadPair, PairFrom};
+ghost use Rattle.payload.specs.Pair.{moved_pair, pair_from};
+ghost use Rattle.payload.specs.Promise.{pair_said, ReadPair, PairFrom};
 
 use crate::PairRead;
 use answer::{Refusal, TOO_SOON};
@@ -41,7 +41,7 @@ pub fn read_pair(input: &[u8]) -> PairRead
 
 // The refusal of a key; 0 at 0 of one that was read, which is not asked.
 fn key_refused(key: StringRead) -> PairRead
-    ensures { (number place : ℕ) → stringSaid key ≡ refused number place → pairSaid result ≡ refused number place }
+    ensures { (number place : ℕ) → string_said key ≡ refused number place → pair_said result ≡ refused number place }
 {
     match key {
         StringRead::Refused(r) => PairRead::Refused(r),
@@ -59,7 +59,7 @@ fn key_refused(key: StringRead) -> PairRead
 // A value that was read behind n other bytes: where it points, its start moves.
 fn moved_value(value: Value, n: u64) -> Value
     requires { 6 ≤ value.kind → value.kind < 10 → value.a + n < 2 ^ 64 }
-    ensures { recordOf result ≡ movedRecord n (recordOf value) }
+    ensures { record_of result ≡ movedRecord n (record_of value) }
 {
     let kind = value.kind;
     if kind < 6 {
@@ -79,7 +79,7 @@ fn moved_value(value: Value, n: u64) -> Value
 // A pair that was read behind n other bytes.
 pub(crate) fn moved_pair(pair: Pair, n: u64) -> Pair
     requires { (pair.start + n < 2 ^ 64) × (6 ≤ pair.value.kind → pair.value.kind < 10 → pair.value.a + n < 2 ^ 64) }
-    ensures { result ≡ movedPair n pair }
+    ensures { result ≡ moved_pair n pair }
 {
     Pair {
         start: n + pair.start,
@@ -91,7 +91,7 @@ pub(crate) fn moved_pair(pair: Pair, n: u64) -> Pair
 // Reads the pair that stands at `at`, which lies in the bytes. Starts count from the input's first byte.
 pub(crate) fn pair_at(input: &[u8], at: usize) -> PairRead
     requires { at ≤ length input.now }
-    ensures { pairSaid result ≡ pairFrom at input.now }
+    ensures { pair_said result ≡ pair_from at input.now }
 {
     match read_pair(&input[at..]) {
         PairRead::Refused(r) => {

@@ -1,7 +1,7 @@
 // A payload of any kind, from where it starts to its end.
 ghost use Rattle.std.specs.Prelude.{◌≡◌, ◌≤◌, length};
-ghost use Rattle.payload.specs.Promise.{payloadSaid, LookPayload, ReadPayload};
-ghost use Rattle.payload.specs.Inner.{passedSaid};
+ghost use Rattle.payload.specs.Promise.{payload_said, LookPayload, ReadPayload};
+ghost use Rattle.payload.specs.Inner.{passed_said};
 
 use crate::fill::fill;
 use crate::look::look;
@@ -16,7 +16,7 @@ const SMALL: usize = 128;
 
 // What a pass comes to, as the reader's answer.
 fn answered(passed: Passed) -> PayloadRead
-    ensures { payloadSaid result ≡ passedSaid passed }
+    ensures { payload_said result ≡ passed_said passed }
 {
     match passed {
         Passed::Done(x) => PayloadRead::Done {

@@ -1,7 +1,7 @@
 -- Key comparison the plain way: both lossy texts in two lent buffers, and whether they have the same bytes.
 use Rattle.std.specs.Prelude.{◌≡◌, Bool, cond, ◌&&◌, List, ℕ, leb, length}
 use Rattle.answer.specs.Answer.{Answer, done, refused, written, leaves}
-use Rattle.utf8.specs.Text.{lossy, sameBytes}
+use Rattle.utf8.specs.Text.{lossy, same_bytes}
 use Rattle.plain.specs.declared.Compared.{Compared}
 use Rattle.plain.specs.declared.Compared.TheVariants as c
 
@@ -11,21 +11,21 @@ compared (c.Done x) = done x 0
 compared (c.Refused r) = refused r.number r.place
 
 -- Of two keys, and of two buffers as they were lent.
-module _ (a b aOld bOld : List ℕ) where
+module _ (a b a_old b_old : List ℕ) where
   -- an answer for where both texts have room, and else 11 at place 0
   abbrev pub fitting : {A : Type 0} → Answer A → Answer A
-  fitting x = cond (leb (length (lossy a)) (length aOld) && leb (length (lossy b)) (length bOld)) x (refused 11 0)
+  fitting x = cond (leb (length (lossy a)) (length a_old) && leb (length (lossy b)) (length b_old)) x (refused 11 0)
 
   -- whether both texts have the same bytes
   abbrev pub comparison : Answer Bool
-  comparison = fitting (done (sameBytes (lossy a) (lossy b)) 0)
+  comparison = fitting (done (same_bytes (lossy a) (lossy b)) 0)
 
 -- Each buffer, old before, is new afterwards: it has its text at the front, or where one of the two has no room it is as it was.
-pub record TextsLeft (a b aOld aNew bOld bNew : List ℕ) : Type 0 where
-  pub first : aNew ≡ leaves (fitting a b aOld bOld (written (lossy a))) aOld
-  pub second : bNew ≡ leaves (fitting a b aOld bOld (written (lossy b))) bOld
+pub record TextsLeft (a b a_old a_new b_old b_new : List ℕ) : Type 0 where
+  pub first : a_new ≡ leaves (fitting a b a_old b_old (written (lossy a))) a_old
+  pub second : b_new ≡ leaves (fitting a b a_old b_old (written (lossy b))) b_old
 
 -- `same_text_plain` compares them, and leaves them in the buffers.
-pub record SameTextPlain (a b : List ℕ) (r : Compared) (aOld aNew bOld bNew : List ℕ) : Type 0 where
-  pub says : compared r ≡ comparison a b aOld bOld
-  pub texts : TextsLeft a b aOld aNew bOld bNew
+pub record SameTextPlain (a b : List ℕ) (r : Compared) (a_old a_new b_old b_new : List ℕ) : Type 0 where
+  pub says : compared r ≡ comparison a b a_old b_old
+  pub texts : TextsLeft a b a_old a_new b_old b_new

@@ -1,11 +1,11 @@
 // What a frame holds: where its payload lies, and its pairs, which are given one after the other, while its messages go into their table on the way.
 ghost use Rattle.std.specs.Prelude.{◌≡◌, false, ◌+◌, ◌-◌, ◌≤◌, ◌<◌, ◌^◌, length};
 ghost use Rattle.answer.specs.Answer.{written, leaves};
-ghost use Rattle.frame.specs.Records.{messageWidth, messageNumbers};
+ghost use Rattle.frame.specs.Records.{message_width, message_numbers};
 ghost use Rattle.payload.specs.declared.Item.TheVariants as i;
-ghost use Rattle.payload.specs.Inner.{began, afterItem};
-ghost use Rattle.parser.specs.Frame.{payloadOf};
-ghost use Rattle.records.specs.Inner.{nothingOf, Finds, Ready, NextPair};
+ghost use Rattle.payload.specs.Inner.{began, after_item};
+ghost use Rattle.parser.specs.Frame.{payload_of};
+ghost use Rattle.records.specs.Inner.{nothing_of, Finds, Ready, NextPair};
 
 use crate::{Area, Found, Given};
 use frame::{MESSAGE_WIDTH, Message, NOTIFY, Pair};
@@ -40,7 +40,7 @@ fn begin(start: usize) -> Cursor
 
 // What the payload of a frame that HAProxy sends is a list of, by the frame's type.
 fn payload_of(frame_type: u8) -> Payload
-    ensures { frame_type ≤ 3 → result ≡ payloadOf frame_type }
+    ensures { frame_type ≤ 3 → result ≡ payload_of frame_type }
 {
     if frame_type == NOTIFY {
         return Payload::Messages;
@@ -50,7 +50,7 @@ fn payload_of(frame_type: u8) -> Payload
 
 // An answer that comes with nothing.
 fn nothing(answer: FrameRead) -> Found
-    ensures { result ≡ nothingOf answer }
+    ensures { result ≡ nothing_of answer }
 {
     Found {
         answer,
@@ -125,7 +125,7 @@ fn behind_pair(x: Cursor, end: usize) -> Cursor
 // How far it is behind a message that ends there, before its arguments.
 fn behind_message(x: Cursor, message: Message, end: usize) -> Cursor
     requires { x.messages + 1 < 2 ^ 64 }
-    ensures { result ≡ afterItem x (i.Message message end) }
+    ensures { result ≡ after_item x (i.Message message end) }
 {
     Cursor {
         at: end,
@@ -138,8 +138,8 @@ fn behind_message(x: Cursor, message: Message, end: usize) -> Cursor
 
 // Writes the numbers of a message.
 fn put_message(message: Message, table: &mut [u64])
-    requires { messageWidth ≤ length table.old }
-    ensures { table.new ≡ leaves (written (messageNumbers message)) table.old }
+    requires { message_width ≤ length table.old }
+    ensures { table.new ≡ leaves (written (message_numbers message)) table.old }
 {
     let numbers = [message.start, message.len, message.first, message.count];
     let _ = frame::put(&numbers, table);

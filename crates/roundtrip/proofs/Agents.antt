@@ -13,26 +13,26 @@ use Rattle.answer.proofs.Cases.{bool_cases}
 use Rattle.varint.proofs.Reading.{Bytes}
 use Rattle.frame.specs.declared.Head.{Head}
 use Rattle.frame.specs.declared.Side.TheVariants as side
-use Rattle.frame.specs.Records.{pairWidth, pair_at, actionAt}
+use Rattle.frame.specs.Records.{pair_width, pair_at, action_at}
 use Rattle.payload.specs.declared.Counts.{Counts}
 use Rattle.payload.specs.Promise.{rooms_of}
 use Rattle.parser.specs.declared.FrameRead.{FrameRead}
 use Rattle.parser.specs.declared.FrameRead.TheVariants as v
 use Rattle.parser.specs.Promise.{ReadAgentFrame}
-use Rattle.writer.specs.Pair.{kvChecks}
-use Rattle.writer.specs.Frame.{headOf, limited, kvAllowed, pairsBytes, kvAnswer, actionsAnswer}
-use Rattle.writer.proofs.Answers.{kv-list, list-metadata}
-use Rattle.roundtrip.proofs.Plain.{plainPair, wellPair, WellPairs, PlainPairs, plainAction, wellAction, WellActions, PlainActions}
-use Rattle.roundtrip.proofs.Head.{headAgain}
-use Rattle.roundtrip.proofs.Rewritten.{Rewrites, caller-refused, done_refused, wrote-back, wrote_none, wrote-other, wrote-only}
-use Rattle.roundtrip.proofs.Again.{Left, left, long, agent-kv, kv-rewrites, ack-rewrites}
+use Rattle.writer.specs.Pair.{kv_checks}
+use Rattle.writer.specs.Frame.{head_of, limited, kv_allowed, pairs_bytes, kv_answer, actions_answer}
+use Rattle.writer.proofs.Answers.{kv_list, list_metadata}
+use Rattle.roundtrip.proofs.Plain.{plain_pair, well_pair, WellPairs, PlainPairs, plain_action, well_action, WellActions, PlainActions}
+use Rattle.roundtrip.proofs.Head.{head_again}
+use Rattle.roundtrip.proofs.Rewritten.{Rewrites, caller_refused, done_refused, wrote_back, wrote_none, wrote_other, wrote_only}
+use Rattle.roundtrip.proofs.Again.{Left, left, long, agent_kv, kv_rewrites, ack_rewrites}
 use Rattle.answer.specs.Writes.{Writes}
 
 -- ---- a frame that `read_agent_frame` accepted
 
 -- The bytes lent to it are bytes. It took `used` of them, and left so many records.
-module _ (limit : ℕ) (s : List ℕ) (small : Bytes s) (r : FrameRead) (oldPairs newPairs oldActions newActions : List ℕ)
-    (reads : ReadAgentFrame s limit r oldPairs newPairs oldActions newActions) (m : Head) (counts : Counts) (used : ℕ) (is : r ≡ v.Done m counts used) where
+module _ (limit : ℕ) (s : List ℕ) (small : Bytes s) (r : FrameRead) (old_pairs new_pairs old_actions new_actions : List ℕ)
+    (reads : ReadAgentFrame s limit r old_pairs new_pairs old_actions new_actions) (m : Head) (counts : Counts) (used : ℕ) (is : r ≡ v.Done m counts used) where
   abbrev f : List ℕ
   f = take used s
 
@@ -42,89 +42,89 @@ module _ (limit : ℕ) (s : List ℕ) (small : Bytes s) (r : FrameRead) (oldPair
   abbrev rows : ℕ
   rows = counts.actions
 
-  l : Left side.Agents limit f m counts [] newPairs newActions
-  l = left side.Agents limit (rooms_of [] oldPairs oldActions) s small r [] [] oldPairs newPairs oldActions newActions reads m counts used is
+  l : Left side.Agents limit f m counts [] new_pairs new_actions
+  l = left side.Agents limit (rooms_of [] old_pairs old_actions) s small r [] [] old_pairs new_pairs old_actions new_actions reads m counts used is
 
   many : length f ≡ used
-  many = long side.Agents limit (rooms_of [] oldPairs oldActions) s small r [] [] oldPairs newPairs oldActions newActions reads m counts used is
+  many = long side.Agents limit (rooms_of [] old_pairs old_actions) s small r [] [] old_pairs new_pairs old_actions new_actions reads m counts used is
 
   abbrev head : Head
-  head = headAgain m
+  head = head_again m
 
   -- ---- of type 103
 
   -- and is written by `write_actions`
   module _ (ack : m.frame_type ≡ 103) (out : Written) (old new : List ℕ)
-      (writes : Writes (actionsAnswer (headOf 103 true false m.stream m.frame) limit f newActions rows) out old new) where
-    r-ack : Rewrites limit f (headOf 103 true false m.stream m.frame) (actionsAnswer (headOf 103 true false m.stream m.frame) limit f newActions rows) rows
-        (λ i. wellAction f (actionAt newActions i)) (λ i. plainAction f (actionAt newActions i))
-    r-ack = rw ack at (ack-rewrites l ack)
+      (writes : Writes (actions_answer (head_of 103 true false m.stream m.frame) limit f new_actions rows) out old new) where
+    r_ack : Rewrites limit f (head_of 103 true false m.stream m.frame) (actions_answer (head_of 103 true false m.stream m.frame) limit f new_actions rows) rows
+        (λ i. well_action f (action_at new_actions i)) (λ i. plain_action f (action_at new_actions i))
+    r_ack = rw ack at (ack_rewrites l ack)
 
     -- Law: with room for the frame, where all texts are UTF-8 and all values plain, exactly the frame's bytes are written.
-    pub ack-back : WellActions f newActions rows → PlainActions f newActions rows → used ≤ length old → (out ≡ w.Done used) × (new ≡ f ++ drop used old)
-    ack-back = wrote-back r-ack writes used many
+    pub ack_back : WellActions f new_actions rows → PlainActions f new_actions rows → used ≤ length old → (out ≡ w.Done used) × (new ≡ f ++ drop used old)
+    ack_back = wrote_back r_ack writes used many
 
     -- Law: where an action has a text that is not UTF-8, and none before it has, it is 15 with the action's index, and no byte is written.
-    pub ack-text : (i : ℕ) → i < rows → wellAction f (actionAt newActions i) ≡ false → WellActions f newActions i
+    pub ack_text : (i : ℕ) → i < rows → well_action f (action_at new_actions i) ≡ false → WellActions f new_actions i
         → (out ≡ w.Refused (record { number = 15; place = i })) × (new ≡ old)
-    ack-text = wrote_none r-ack writes
+    ack_text = wrote_none r_ack writes
 
     -- Law: where all texts are UTF-8 and a value is not plain, what is written, if anything is, is another frame.
-    pub ack-other : WellActions f newActions rows → (i : ℕ) → i < rows → plainAction f (actionAt newActions i) ≡ false
+    pub ack_other : WellActions f new_actions rows → (i : ℕ) → i < rows → plain_action f (action_at new_actions i) ≡ false
         → (n : ℕ) → out ≡ w.Done n → take n new ≡ f → ⊥
-    ack-other = wrote-other r-ack writes
+    ack_other = wrote_other r_ack writes
 
     -- Law: so the frame's bytes are written only where all texts are UTF-8 and all values plain.
-    pub ack-only : (n : ℕ) → out ≡ w.Done n → take n new ≡ f → WellActions f newActions rows × PlainActions f newActions rows
-    ack-only = wrote-only r-ack writes
+    pub ack_only : (n : ℕ) → out ≡ w.Done n → take n new ≡ f → WellActions f new_actions rows × PlainActions f new_actions rows
+    ack_only = wrote_only r_ack writes
 
   -- ---- of type 101 or 102
 
   -- and is written by `write_kv`
   module _ (kv : m.frame_type ≡ 103 → ⊥) (out : Written) (old new : List ℕ)
-      (writes : Writes (kvAnswer (headOf m.frame_type true false m.stream m.frame) limit f newPairs total) out old new) where
-    may : kvAllowed head ≡ eqb m.stream 0 && eqb m.frame 0
-    may = (agent-kv l kv).1
+      (writes : Writes (kv_answer (head_of m.frame_type true false m.stream m.frame) limit f new_pairs total) out old new) where
+    may : kv_allowed head ≡ eqb m.stream 0 && eqb m.frame 0
+    may = (agent_kv l kv).1
 
     -- Law: where an id is not 0, it is 14, and no byte is written.
-    pub agent-kv-ids : (m.stream ≡ 0 → m.frame ≡ 0 → ⊥) → (out ≡ w.Refused (record { number = 14; place = 0 })) × (new ≡ old)
-    agent-kv-ids ids =
-        caller-refused writes 14 0
-        (kv-list head limit f newPairs total
-        ∙ list-metadata (kvAllowed head) pairWidth newPairs total (kvChecks f newPairs) (limited limit head (pairsBytes f newPairs total)) (may ∙ not-zero))
+    pub agent_kv_ids : (m.stream ≡ 0 → m.frame ≡ 0 → ⊥) → (out ≡ w.Refused (record { number = 14; place = 0 })) × (new ≡ old)
+    agent_kv_ids ids =
+        caller_refused writes 14 0
+        (kv_list head limit f new_pairs total
+        ∙ list_metadata (kv_allowed head) pair_width new_pairs total (kv_checks f new_pairs) (limited limit head (pairs_bytes f new_pairs total)) (may ∙ not_zero))
       where
-        not-zero : eqb m.stream 0 && eqb m.frame 0 ≡ false
-        not-zero =
+        not_zero : eqb m.stream 0 && eqb m.frame 0 ≡ false
+        not_zero =
             bool_cases (eqb m.stream 0)
             (λ t. bool_cases (eqb m.frame 0) (λ u. absurd (ids (eqb-true m.stream 0 t) (eqb-true m.frame 0 u))) (λ u. rw (t, u)))
             (λ t. rw t)
 
     -- and where both are
     module _ (stream : m.stream ≡ 0) (frame : m.frame ≡ 0) where
-      allowed : kvAllowed head ≡ true
+      allowed : kv_allowed head ≡ true
       allowed = may ∙ rw (eq-eqb m.stream 0 stream, eq-eqb m.frame 0 frame)
 
-      r-kv : Rewrites limit f head (kvAnswer head limit f newPairs total) total (λ i. wellPair f (pair_at newPairs i)) (λ i. plainPair f (pair_at newPairs i))
-      r-kv = kv-rewrites l (agent-kv l kv).0 allowed
+      r_kv : Rewrites limit f head (kv_answer head limit f new_pairs total) total (λ i. well_pair f (pair_at new_pairs i)) (λ i. plain_pair f (pair_at new_pairs i))
+      r_kv = kv_rewrites l (agent_kv l kv).0 allowed
 
       -- Law: with room for the frame, where all texts are UTF-8 and all values plain, exactly the frame's bytes are written.
-      pub agent-kv-back : WellPairs f newPairs total → PlainPairs f newPairs total → used ≤ length old → (out ≡ w.Done used) × (new ≡ f ++ drop used old)
-      agent-kv-back = wrote-back r-kv writes used many
+      pub agent_kv_back : WellPairs f new_pairs total → PlainPairs f new_pairs total → used ≤ length old → (out ≡ w.Done used) × (new ≡ f ++ drop used old)
+      agent_kv_back = wrote_back r_kv writes used many
 
       -- Law: where a pair has a text that is not UTF-8, and none before it has, it is 15 with the pair's index, and no byte is written.
-      pub agent-kv-text : (i : ℕ) → i < total → wellPair f (pair_at newPairs i) ≡ false → WellPairs f newPairs i
+      pub agent_kv_text : (i : ℕ) → i < total → well_pair f (pair_at new_pairs i) ≡ false → WellPairs f new_pairs i
           → (out ≡ w.Refused (record { number = 15; place = i })) × (new ≡ old)
-      agent-kv-text = wrote_none r-kv writes
+      agent_kv_text = wrote_none r_kv writes
 
       -- Law: where all texts are UTF-8 and a value is not plain, what is written, if anything is, is another frame.
-      pub agent-kv-other : WellPairs f newPairs total → (i : ℕ) → i < total → plainPair f (pair_at newPairs i) ≡ false
+      pub agent_kv_other : WellPairs f new_pairs total → (i : ℕ) → i < total → plain_pair f (pair_at new_pairs i) ≡ false
           → (n : ℕ) → out ≡ w.Done n → take n new ≡ f → ⊥
-      agent-kv-other = wrote-other r-kv writes
+      agent_kv_other = wrote_other r_kv writes
 
     -- Law: so the frame's bytes are written only where both ids are 0, all texts UTF-8 and all values plain.
-    pub agent-kv-only : (n : ℕ) → out ≡ w.Done n → take n new ≡ f
-        → ((m.stream ≡ 0) × (m.frame ≡ 0)) × (WellPairs f newPairs total × PlainPairs f newPairs total)
-    agent-kv-only n so same = (zero, wrote-only (r-kv zero.0 zero.1) writes n so same)
+    pub agent_kv_only : (n : ℕ) → out ≡ w.Done n → take n new ≡ f
+        → ((m.stream ≡ 0) × (m.frame ≡ 0)) × (WellPairs f new_pairs total × PlainPairs f new_pairs total)
+    agent_kv_only n so same = (zero, wrote_only (r_kv zero.0 zero.1) writes n so same)
       where
         zero : (m.stream ≡ 0) × (m.frame ≡ 0)
         zero =
@@ -132,5 +132,5 @@ module _ (limit : ℕ) (s : List ℕ) (small : Bytes s) (r : FrameRead) (oldPair
             (λ t.
             bool_cases (eqb m.frame 0)
             (λ u. (eqb-true m.stream 0 t, eqb-true m.frame 0 u))
-            (λ u. absurd (done_refused so (agent-kv-ids (λ i j. eqb-false m.frame 0 u j)).0)))
-            (λ t. absurd (done_refused so (agent-kv-ids (λ i j. eqb-false m.stream 0 t i)).0))
+            (λ u. absurd (done_refused so (agent_kv_ids (λ i j. eqb-false m.frame 0 u j)).0)))
+            (λ t. absurd (done_refused so (agent_kv_ids (λ i j. eqb-false m.stream 0 t i)).0))

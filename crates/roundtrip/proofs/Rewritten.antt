@@ -15,19 +15,19 @@ use Rattle.answer.specs.declared.Written.{Written}
 use Rattle.answer.specs.declared.Written.TheVariants as w
 use Rattle.answer.specs.Answer.{Answer, done, refused, written, within}
 use Rattle.answer.specs.Writes.{said, Writes}
-use Rattle.answer.specs.Order.{Check, inOrder, eachInOrder}
+use Rattle.answer.specs.Order.{Check, in_order, each_in_order}
 use Rattle.answer.specs.Inner.{Passes, Sound}
 use Rattle.answer.specs.Table.{records, joined}
-use Rattle.answer.proofs.Cases.{lt-or-le, bool_cases, true-false, not-both}
-use Rattle.answer.proofs.Order.{Numbered, passes-zero, Refuses, lines-refuse, each-pass, each-refuse}
-use Rattle.answer.proofs.Output.{writes-done}
+use Rattle.answer.proofs.Cases.{lt_or_le, bool_cases, true_false, not_both}
+use Rattle.answer.proofs.Order.{Numbered, passes_zero, Refuses, lines_refuse, each_pass, each_refuse}
+use Rattle.answer.proofs.Output.{writes_done}
 use Rattle.answer.proofs.Same.{said_same}
-use Rattle.answer.proofs.Each.{Each, each-record, each_at}
+use Rattle.answer.proofs.Each.{Each, each_record, each_at}
 use Rattle.frame.specs.declared.Head.{Head}
-use Rattle.frame.specs.Head.{fourBytes, headBytes, frameBytes}
-use Rattle.frame.proofs.Laws.{four-long}
+use Rattle.frame.specs.Head.{four_bytes, head_bytes, frame_bytes}
+use Rattle.frame.proofs.Laws.{four_long}
 use Rattle.writer.specs.Frame.{limited}
-use Rattle.writer.proofs.Answers.{listAnswer, list_held}
+use Rattle.writer.proofs.Answers.{list_answer, list_held}
 use Rattle.roundtrip.proofs.Head.{payload_same}
 
 -- the first n are so
@@ -41,8 +41,8 @@ pub record Rewrites (limit : ℕ) (f : List ℕ) (h : Head) (a : Answer (List �
   pub fits : length f ≤ 4 + limit
   pub taken : All well n → a ≡ limited limit h payload
   pub ill : (i : ℕ) → i < n → well i ≡ false → All well i → a ≡ refused 15 i
-  pub same : All plain n → frameBytes h payload ≡ f
-  pub only : frameBytes h payload ≡ f → All plain n
+  pub same : All plain n → frame_bytes h payload ≡ f
+  pub only : frame_bytes h payload ≡ f → All plain n
 
 -- ---- what is refused of records
 
@@ -55,50 +55,50 @@ pub record Says (checks : List Check) (well : Bool) : Type 0 where
   pub passes : well ≡ true → Passes checks
   pub refuses : well ≡ false → Refuses checks 15
 
-pub says-number : (checks : List Check) (well : Bool) → Numbered checks → inOrder checks 0 ≡ cond well 0 15 → Says checks well
-says-number checks well some e = record { passes = λ t. passes-zero checks some (e ∙ rw t); refuses = λ t. lines-refuse checks 15 (sym (e ∙ rw t)) fifteen }
+pub says_number : (checks : List Check) (well : Bool) → Numbered checks → in_order checks 0 ≡ cond well 0 15 → Says checks well
+says_number checks well some e = record { passes = λ t. passes_zero checks some (e ∙ rw t); refuses = λ t. lines_refuse checks 15 (sym (e ∙ rw t)) fifteen }
 
 -- those of n records do so
 module _ (checks : ℕ → List Check) (n : ℕ) (well : ℕ → Bool) (says : (i : ℕ) → i < n → Says (checks i) (well i)) where
-  pub none-ill : All well n → Sound checks n
-  none-ill ws = record { each = λ i l. (says i l).passes (ws i l) }
+  pub none_ill : All well n → Sound checks n
+  none_ill ws = record { each = λ i l. (says i l).passes (ws i l) }
 
-  pub first-ill : (a : Answer (List ℕ)) (i : ℕ) → i < n → well i ≡ false → All well i → eachInOrder checks 0 n a ≡ refused 15 i
-  first-ill a i l ill ws = each-refuse checks a n i 15 l (record { each = λ k b. (says k (omega arith)).passes (ws k b) }) ((says i l).refuses ill)
+  pub first_ill : (a : Answer (List ℕ)) (i : ℕ) → i < n → well i ≡ false → All well i → each_in_order checks 0 n a ≡ refused 15 i
+  first_ill a i l ill ws = each_refuse checks a n i 15 l (record { each = λ k b. (says k (omega arith)).passes (ws k b) }) ((says i l).refuses ill)
 
 -- ---- what they are written as
 
 -- records of a table, by index and one by one
 module _ {A : Type 0} (P : A → Type 0) (at : ℕ → A) (n : ℕ) (xs : List A) (hold : records at 0 n ≡ xs) where
-  pub each-held : ((i : ℕ) → i < n → P (at i)) → Each P xs
-  each-held p = rw hold at (each-record P at n 0 (λ i g l. p i (omega arith)))
+  pub each_held : ((i : ℕ) → i < n → P (at i)) → Each P xs
+  each_held p = rw hold at (each_record P at n 0 (λ i g l. p i (omega arith)))
 
-  pub held-each : Each P xs → (i : ℕ) → i < n → P (at i)
-  held-each g i l = let here : 0 + i ≡ i = omega arith in rw here at (each_at P at n 0 (rw hold g) i l)
+  pub held_each : Each P xs → (i : ℕ) → i < n → P (at i)
+  held_each g i l = let here : 0 + i ≡ i = omega arith in rw here at (each_at P at n 0 (rw hold g) i l)
 
 -- a frame whose payload starts there, and the frame with another payload
-module _ (f : List ℕ) (h : Head) (start : ℕ) (form : f ≡ frameBytes h (drop start f)) (payload : List ℕ) where
-  pub frame_same : drop start f ≡ payload ++ drop (length f) f → frameBytes h payload ≡ f
-  frame_same e = ap (frameBytes h) (sym (e ∙ ap (λ (l : List ℕ). payload ++ l) (drop-length f) ∙ append-nil payload)) ∙ sym form
+module _ (f : List ℕ) (h : Head) (start : ℕ) (form : f ≡ frame_bytes h (drop start f)) (payload : List ℕ) where
+  pub frame_same : drop start f ≡ payload ++ drop (length f) f → frame_bytes h payload ≡ f
+  frame_same e = ap (frame_bytes h) (sym (e ∙ ap (λ (l : List ℕ). payload ++ l) (drop-length f) ∙ append-nil payload)) ∙ sym form
 
-  pub frame-only : frameBytes h payload ≡ f → payload ++ [] ≡ drop start f
-  frame-only is = append-nil payload ∙ payload_same h payload (drop start f) (is ∙ form)
+  pub frame_only : frame_bytes h payload ≡ f → payload ++ [] ≡ drop start f
+  frame_only is = append-nil payload ∙ payload_same h payload (drop start f) (is ∙ form)
 
 -- a frame's length, and one that is these bytes and within the limit
-frame-long : (h : Head) (p : List ℕ) → length (frameBytes h p) ≡ 4 + length (headBytes h ++ p)
-unfolding frameBytes
-frame-long h p = length-append (fourBytes (length (headBytes h ++ p))) (headBytes h ++ p) ∙ ap (λ (n : ℕ). n + length (headBytes h ++ p)) (four-long (length (headBytes h ++ p)))
+frame_long : (h : Head) (p : List ℕ) → length (frame_bytes h p) ≡ 4 + length (head_bytes h ++ p)
+unfolding frame_bytes
+frame_long h p = length-append (four_bytes (length (head_bytes h ++ p))) (head_bytes h ++ p) ∙ ap (λ (n : ℕ). n + length (head_bytes h ++ p)) (four_long (length (head_bytes h ++ p)))
 
-limited-whole : (limit : ℕ) (h : Head) (p f : List ℕ) → frameBytes h p ≡ f → length f ≤ 4 + limit → limited limit h p ≡ written f
-unfolding limited inOrder
-limited-whole limit h p f is l =
-    let fits : length (headBytes h ++ p) ≤ limit = omega (arith, frame-long h p, ap length is) in
-    rw (le-leb (length (headBytes h ++ p)) limit fits) (ap written is)
+limited_whole : (limit : ℕ) (h : Head) (p f : List ℕ) → frame_bytes h p ≡ f → length f ≤ 4 + limit → limited limit h p ≡ written f
+unfolding limited in_order
+limited_whole limit h p f is l =
+    let fits : length (head_bytes h ++ p) ≤ limit = omega (arith, frame_long h p, ap length is) in
+    rw (le-leb (length (head_bytes h ++ p)) limit fits) (ap written is)
 
 -- ---- a writer of one list
 
 -- The records xs stand in a table, and in f from start on, up to its end.
-module _ {A : Type 0} (limit : ℕ) (f : List ℕ) (h : Head) (start : ℕ) (form : f ≡ frameBytes h (drop start f)) (fits : length f ≤ 4 + limit)
+module _ {A : Type 0} (limit : ℕ) (f : List ℕ) (h : Head) (start : ℕ) (form : f ≡ frame_bytes h (drop start f)) (fits : length f ≤ 4 + limit)
     (bytes : A → List ℕ) (well plain : A → Bool) (at : ℕ → A) (n : ℕ) (xs : List A) (hold : records at 0 n ≡ xs)
     (forms : Each (λ x. plain x ≡ true) xs → drop start f ≡ joined bytes xs ++ drop (length f) f)
     (only : joined bytes xs ++ [] ≡ drop start f → Each (λ x. plain x ≡ true) xs)
@@ -107,79 +107,79 @@ module _ {A : Type 0} (limit : ℕ) (f : List ℕ) (h : Head) (start : ℕ) (for
   abbrev all : List ℕ
   all = joined bytes (records at 0 n)
 
-  held : listAnswer allowed width table n checks (limited limit h all) ≡ eachInOrder checks 0 n (limited limit h all)
+  held : list_answer allowed width table n checks (limited limit h all) ≡ each_in_order checks 0 n (limited limit h all)
   held = list_held allowed width table n checks (limited limit h all) may room
 
   -- Law: such a writer does so.
-  pub list-rewrites : Rewrites limit f h (listAnswer allowed width table n checks (limited limit h all)) n (λ i. well (at i)) (λ i. plain (at i))
-  list-rewrites =
+  pub list_rewrites : Rewrites limit f h (list_answer allowed width table n checks (limited limit h all)) n (λ i. well (at i)) (λ i. plain (at i))
+  list_rewrites =
       record {
         payload = all;
         fits = fits;
-        taken = λ ws. held ∙ each-pass checks (limited limit h all) n (none-ill checks n (λ i. well (at i)) says ws);
-        ill = λ i l ill ws. held ∙ first-ill checks n (λ i. well (at i)) says (limited limit h all) i l ill ws;
-        same = λ ps. rw hold (frame_same f h start form (joined bytes xs) (forms (each-held (λ x. plain x ≡ true) at n xs hold ps)));
-        only = λ is. held-each (λ x. plain x ≡ true) at n xs hold (only (rw hold at (frame-only f h start form all is)));
+        taken = λ ws. held ∙ each_pass checks (limited limit h all) n (none_ill checks n (λ i. well (at i)) says ws);
+        ill = λ i l ill ws. held ∙ first_ill checks n (λ i. well (at i)) says (limited limit h all) i l ill ws;
+        same = λ ps. rw hold (frame_same f h start form (joined bytes xs) (forms (each_held (λ x. plain x ≡ true) at n xs hold ps)));
+        only = λ is. held_each (λ x. plain x ≡ true) at n xs hold (only (rw hold at (frame_only f h start form all is)));
       }
 
 -- ---- what its caller learns
 
 -- A call that is to write f, with room for it; one that is refused; and one that is to write another frame.
 module _ {a : Answer (List ℕ)} {out : Written} {old new : List ℕ} (p : Writes a out old new) where
-  caller-written : (f : List ℕ) (n : ℕ) → length f ≡ n → a ≡ written f → n ≤ length old → (out ≡ w.Done n) × (new ≡ f ++ drop n old)
-  caller-written f n long is room =
+  caller_written : (f : List ℕ) (n : ℕ) → length f ≡ n → a ≡ written f → n ≤ length old → (out ≡ w.Done n) × (new ≡ f ++ drop n old)
+  caller_written f n long is room =
       let fits = le-leb (length f) (length old) (omega arith) in
       (said_same out (w.Done n) (rw (is, fits) at p.says ∙ ap (done tt) long), rw (is, fits) at p.holds ∙ ap (λ (k : ℕ). f ++ drop k old) long)
 
-  pub caller-refused : (number place : ℕ) → a ≡ refused number place → (out ≡ w.Refused (record { number = number; place = place })) × (new ≡ old)
-  caller-refused number place is = (said_same out (w.Refused (record { number = number; place = place })) (rw is at p.says), rw is at p.holds)
+  pub caller_refused : (number place : ℕ) → a ≡ refused number place → (out ≡ w.Refused (record { number = number; place = place })) × (new ≡ old)
+  caller_refused number place is = (said_same out (w.Refused (record { number = number; place = place })) (rw is at p.says), rw is at p.holds)
 
-  caller-done : (n : ℕ) → out ≡ w.Done n → (number place : ℕ) → a ≡ refused number place → ⊥
-  caller-done n is number place e = not-both {x = done tt n} refl (sym (ap said is) ∙ rw e at p.says)
+  caller_done : (n : ℕ) → out ≡ w.Done n → (number place : ℕ) → a ≡ refused number place → ⊥
+  caller_done n is number place e = not_both {x = done tt n} refl (sym (ap said is) ∙ rw e at p.says)
 
-  caller-other : (limit : ℕ) (h : Head) (q f : List ℕ) → a ≡ limited limit h q → (frameBytes h q ≡ f → ⊥) → (n : ℕ) → out ≡ w.Done n → take n new ≡ f → ⊥
-  unfolding limited inOrder
-  caller-other limit h q f is other n told same =
-      bool_cases (leb (length (headBytes h ++ q)) limit)
+  caller_other : (limit : ℕ) (h : Head) (q f : List ℕ) → a ≡ limited limit h q → (frame_bytes h q ≡ f → ⊥) → (n : ℕ) → out ≡ w.Done n → take n new ≡ f → ⊥
+  unfolding limited in_order
+  caller_other limit h q f is other n told same =
+      bool_cases (leb (length (head_bytes h ++ q)) limit)
       (λ t.
-      let whole : a ≡ written (frameBytes h q) = is ∙ rw t in
-      other (sym (writes-done (frameBytes h q) {old = old} {new = new} {r = out} {n = n} (rw whole at p) told).2 ∙ same))
-      (λ t. caller-done n told 12 0 (is ∙ rw t))
+      let whole : a ≡ written (frame_bytes h q) = is ∙ rw t in
+      other (sym (writes_done (frame_bytes h q) {old = old} {new = new} {r = out} {n = n} (rw whole at p) told).2 ∙ same))
+      (λ t. caller_done n told 12 0 (is ∙ rw t))
 
 -- an answer does not tell of both
 pub done_refused : {out : Written} {n : ℕ} {r : Refusal} → out ≡ w.Done n → out ≡ w.Refused r → ⊥
 done_refused e g = let z : ◌≡◌ {A = ℕ} 0 1 = cc in omega arith
 
 -- so many tests hold, or there is the first that does not
-pub first-or-all : (test : ℕ → Bool) (n : ℕ) → All test n ⊎ ((i : ℕ) × (i < n) × (test i ≡ false) × All test i)
-first-or-all test zero = inl (λ i l. absurd (omega arith))
-first-or-all test (suc n) =
+pub first_or_all : (test : ℕ → Bool) (n : ℕ) → All test n ⊎ ((i : ℕ) × (i < n) × (test i ≡ false) × All test i)
+first_or_all test zero = inl (λ i l. absurd (omega arith))
+first_or_all test (suc n) =
     ⊎_elim
     (λ all.
     bool_cases (test n)
-    (λ t. inl (λ i l. ⊎_elim (λ b. all i b) (λ b. let same : i ≡ n = omega arith in ap test same ∙ t) (lt-or-le i n)))
+    (λ t. inl (λ i l. ⊎_elim (λ b. all i b) (λ b. let same : i ≡ n = omega arith in ap test same ∙ t) (lt_or_le i n)))
     (λ t. inr (n, omega arith, t, all)))
     (λ x. inr (x.0, omega (arith, x.1), x.2, x.3))
-    (first-or-all test n)
+    (first_or_all test n)
 
 module _ {limit : ℕ} {f : List ℕ} {h : Head} {a : Answer (List ℕ)} {n : ℕ} {well plain : ℕ → Bool} {out : Written} {old new : List ℕ}
     (r : Rewrites limit f h a n well plain) (p : Writes a out old new) where
   -- Law: with room for the frame, where all are well and plain, exactly the frame's bytes are written.
-  pub wrote-back : (used : ℕ) → length f ≡ used → All well n → All plain n → used ≤ length old → (out ≡ w.Done used) × (new ≡ f ++ drop used old)
-  wrote-back used long ws ps room = caller-written p f used long (r.taken ws ∙ limited-whole limit h r.payload f (r.same ps) r.fits) room
+  pub wrote_back : (used : ℕ) → length f ≡ used → All well n → All plain n → used ≤ length old → (out ≡ w.Done used) × (new ≡ f ++ drop used old)
+  wrote_back used long ws ps room = caller_written p f used long (r.taken ws ∙ limited_whole limit h r.payload f (r.same ps) r.fits) room
 
   -- Law: where one is not well, and all before it are, it is 15 with its index, and no byte is written.
   pub wrote_none : (i : ℕ) → i < n → well i ≡ false → All well i → (out ≡ w.Refused (record { number = 15; place = i })) × (new ≡ old)
-  wrote_none i l ill ws = caller-refused p 15 i (r.ill i l ill ws)
+  wrote_none i l ill ws = caller_refused p 15 i (r.ill i l ill ws)
 
   -- Law: where all are well and one is not plain, what is written, if anything is, is another frame.
-  pub wrote-other : All well n → (i : ℕ) → i < n → plain i ≡ false → (k : ℕ) → out ≡ w.Done k → take k new ≡ f → ⊥
-  wrote-other ws i l differs k = caller-other p limit h r.payload f (r.taken ws) (λ is. true-false (r.only is i l) differs) k
+  pub wrote_other : All well n → (i : ℕ) → i < n → plain i ≡ false → (k : ℕ) → out ≡ w.Done k → take k new ≡ f → ⊥
+  wrote_other ws i l differs k = caller_other p limit h r.payload f (r.taken ws) (λ is. true_false (r.only is i l) differs) k
 
   -- Law: so the frame's bytes are written only where all are well and plain.
-  pub wrote-only : (k : ℕ) → out ≡ w.Done k → take k new ≡ f → All well n × All plain n
-  wrote-only k so same =
+  pub wrote_only : (k : ℕ) → out ≡ w.Done k → take k new ≡ f → All well n × All plain n
+  wrote_only k so same =
       ⊎_elim
-      (λ ws. ⊎_elim (λ ps. (ws, ps)) (λ y. absurd (wrote-other ws y.0 y.1 y.2 k so same)) (first-or-all plain n))
+      (λ ws. ⊎_elim (λ ps. (ws, ps)) (λ y. absurd (wrote_other ws y.0 y.1 y.2 k so same)) (first_or_all plain n))
       (λ y. absurd (done_refused so (wrote_none y.0 y.1 y.2 y.3).0))
-      (first-or-all well n)
+      (first_or_all well n)

@@ -15,13 +15,13 @@ module _ {A : Type 0} where
   at_of (refused number place) = place
 
   -- what was read, in the form in which it is handed over, takes the place of what was there before
-  abbrev pub valueOr : {B : Type 0} → (A → B) → Answer A → B → B
-  valueOr form (done value n) before = form value
-  valueOr form (refused number place) before = before
+  abbrev pub value_or : {B : Type 0} → (A → B) → Answer A → B → B
+  value_or form (done value n) before = form value
+  value_or form (refused number place) before = before
 
   pub record Told (a : Answer A) (r at : ℕ) : Type 0 where
     pub says : r ≡ number_of a
-    pub where-at : at ≡ at_of a
+    pub where_at : at ≡ at_of a
 
 -- the three numbers of a version, in the place of what was there before
 abbrev pub chosen_of : Chosen → List ℕ → List ℕ

@@ -11,26 +11,26 @@ use Rattle.buffer.specs.declared.Stop.{Stop}
 use Rattle.buffer.specs.declared.Stop.TheVariants as s
 
 -- the record that the numbers are, and its numbers
-abbrev pub recordIn : List ℕ → Record
-recordIn l = value (get_or l 0 0) (get_or l 1 0) (get_or l 2 0) (get_or l 3 0)
+abbrev pub record_in : List ℕ → Record
+record_in l = value (get_or l 0 0) (get_or l 1 0) (get_or l 2 0) (get_or l 3 0)
 
-abbrev pub recordNumbers : Record → List ℕ
-recordNumbers (value kind a b flags) = kind ∷ a ∷ b ∷ flags ∷ []
+abbrev pub record_numbers : Record → List ℕ
+record_numbers (value kind a b flags) = kind ∷ a ∷ b ∷ flags ∷ []
 
 -- how many records a frame holds, of the two sorts that its side sends
-abbrev pub twoCounts : Side → Counts → List ℕ
-twoCounts side.HAProxy n = n.messages ∷ n.pairs ∷ []
-twoCounts side.Agents n = n.pairs ∷ n.actions ∷ []
+abbrev pub two_counts : Side → Counts → List ℕ
+two_counts side.HAProxy n = n.messages ∷ n.pairs ∷ []
+two_counts side.Agents n = n.pairs ∷ n.actions ∷ []
 
 -- frames, messages, pairs and bytes
-abbrev pub totalNumbers : Totals → List ℕ
-totalNumbers x = x.frames ∷ x.messages ∷ x.pairs ∷ x.bytes ∷ []
+abbrev pub total_numbers : Totals → List ℕ
+total_numbers x = x.frames ∷ x.messages ∷ x.pairs ∷ x.bytes ∷ []
 
 -- what stopped the reading of a buffer, as an answer, in which 1 stands for a wait
-abbrev pub stopSaid : Stop → Answer Unit
-stopSaid (s.Wait missing) = refused 1 missing
-stopSaid (s.Refused r) = refused r.number r.place
+abbrev pub stop_said : Stop → Answer Unit
+stop_said (s.Wait missing) = refused 1 missing
+stop_said (s.Refused r) = refused r.number r.place
 
 -- type, flags, stream id, frame id, and the two counts
-abbrev pub headNumbers : Side → Head → Counts → List ℕ
-headNumbers side h n = h.frame_type ∷ h.flags ∷ h.stream ∷ h.frame ∷ twoCounts side n
+abbrev pub head_numbers : Side → Head → Counts → List ℕ
+head_numbers side h n = h.frame_type ∷ h.flags ∷ h.stream ∷ h.frame ∷ two_counts side n

@@ -5,21 +5,21 @@
 // missing, or the place. Whatever else is lent changes only after 0.
 ghost use Rattle.std.specs.Prelude.{◌≡◌, length};
 ghost use Rattle.answer.specs.Writes.{said};
-ghost use Rattle.types.specs.Promise.{recordOf};
+ghost use Rattle.types.specs.Promise.{record_of};
 ghost use Rattle.frame.specs.Read.{Reading};
 ghost use Rattle.payload.specs.Payload.{Contents};
-ghost use Rattle.parser.specs.Promise.{frameSaid, frameTells};
+ghost use Rattle.parser.specs.Promise.{frame_said, frame_tells};
 ghost use Rattle.spop.specs.Told.{Told, Left};
-ghost use Rattle.spop.specs.Values.{recordIn, headNumbers};
+ghost use Rattle.spop.specs.Values.{record_in, head_numbers};
 ghost use Rattle.spop.specs.Promise.{HeadTold, SpopDecodeVarint, SpopSameTextPlain, SpopTypedData, SpopReadPair, SpopReadFrame, SpopReadFrameRecords, SpopReadAgentFrame, SpopReadFrames, SpopNegotiateVersion};
-ghost use Rattle.types.specs.Form.{valueAnswer, length_of};
-ghost use Rattle.utf8.specs.Text.{isUtf8, sameText, lossy};
-ghost use Rattle.hello.specs.Hello.{frameSize};
+ghost use Rattle.types.specs.Form.{value_answer, length_of};
+ghost use Rattle.utf8.specs.Text.{is_utf8, same_text, lossy};
+ghost use Rattle.hello.specs.Hello.{frame_size};
 ghost use Rattle.answer.specs.Answer.{written};
-ghost use Rattle.answer.specs.Order.{inOrder};
-ghost use Rattle.types.specs.Check.{valueChecks};
-ghost use Rattle.varint.specs.Number.{numberBytes};
-ghost use Rattle.writer.specs.Frame.{headOf, actionsAnswer, notifyAnswer, kvAnswer};
+ghost use Rattle.answer.specs.Order.{in_order};
+ghost use Rattle.types.specs.Check.{value_checks};
+ghost use Rattle.varint.specs.Number.{number_bytes};
+ghost use Rattle.writer.specs.Frame.{head_of, actions_answer, notify_answer, kv_answer};
 
 use answer::{Refusal, WAIT, Written};
 use buffer::Stop;
@@ -35,14 +35,14 @@ const DONE: u64 = 0;
 
 #[unsafe(no_mangle)]
 pub extern "C" fn spop_varint_len(n: u64) -> u64
-    ensures { result ≡ length (numberBytes n) }
+    ensures { result ≡ length (number_bytes n) }
 {
     varint::varint_len(n) as u64
 }
 
 #[unsafe(no_mangle)]
 pub extern "C" fn spop_encode_varint(n: u64, out: &mut [u8], at: &mut u64) -> u64
-    ensures { Left (written (numberBytes n)) result at.new out.old out.new }
+    ensures { Left (written (number_bytes n)) result at.new out.old out.new }
 {
     let answer = varint::encode_varint(n, out);
     tell(answer, at)
@@ -64,14 +64,14 @@ pub extern "C" fn spop_decode_varint(input: &[u8], value: &mut u64, at: &mut u64
 
 #[unsafe(no_mangle)]
 pub extern "C" fn spop_is_utf8(bytes: &[u8]) -> bool
-    ensures { result ≡ isUtf8 bytes.now }
+    ensures { result ≡ is_utf8 bytes.now }
 {
     utf8::is_utf8(bytes)
 }
 
 #[unsafe(no_mangle)]
 pub extern "C" fn spop_same_text(a: &[u8], b: &[u8]) -> bool
-    ensures { result ≡ sameText a.now b.now }
+    ensures { result ≡ same_text a.now b.now }
 {
     utf8::same_text(a, b)
 }
@@ -121,14 +121,14 @@ pub extern "C" fn spop_typed_data(input: &[u8], value: &mut [u64; VALUE_WIDTH], 
 
 #[unsafe(no_mangle)]
 pub extern "C" fn spop_value_len(value: &[u64; VALUE_WIDTH], buffer: &[u8]) -> u64
-    ensures { result ≡ length_of (valueAnswer buffer.now (recordIn value.now)) }
+    ensures { result ≡ length_of (value_answer buffer.now (record_in value.now)) }
 {
     types::value_len(value_of(value), buffer) as u64
 }
 
 #[unsafe(no_mangle)]
 pub extern "C" fn spop_check_value(value: &[u64; VALUE_WIDTH], buffer: &[u8]) -> u64
-    ensures { result ≡ inOrder (valueChecks buffer.now (recordIn value.now)) 0 }
+    ensures { result ≡ in_order (value_checks buffer.now (record_in value.now)) 0 }
 {
     types::check_value(value_of(value), buffer)
 }
@@ -140,7 +140,7 @@ pub extern "C" fn spop_write_value(
     out: &mut [u8],
     at: &mut u64,
 ) -> u64
-    ensures { Left (valueAnswer buffer.now (recordIn value.now)) result at.new out.old out.new }
+    ensures { Left (value_answer buffer.now (record_in value.now)) result at.new out.old out.new }
 {
     let answer = types::write_value(value_of(value), buffer, out);
     tell(answer, at)
@@ -148,7 +148,7 @@ pub extern "C" fn spop_write_value(
 
 // The record that a value's lent numbers are.
 fn value_of(value: &[u64; VALUE_WIDTH]) -> Value
-    ensures { recordOf result ≡ recordIn value.now }
+    ensures { record_of result ≡ record_in value.now }
 {
     Value {
         kind: value[0],
@@ -271,7 +271,7 @@ pub extern "C" fn spop_write_kv(
     out: &mut [u8],
     at: &mut u64,
 ) -> u64
-    ensures { Left (kvAnswer (headOf kind fin abort stream_id frame_id) limit buffer.now pairs.now pair_count) result at.new out.old out.new }
+    ensures { Left (kv_answer (head_of kind fin abort stream_id frame_id) limit buffer.now pairs.now pair_count) result at.new out.old out.new }
 {
     let answer = writer::write_kv(
         kind, fin, abort, stream_id, frame_id, limit, buffer, pairs, pair_count, out,
@@ -292,7 +292,7 @@ pub extern "C" fn spop_write_actions(
     out: &mut [u8],
     at: &mut u64,
 ) -> u64
-    ensures { Left (actionsAnswer (headOf 103 fin abort stream_id frame_id) limit buffer.now actions.now action_count) result at.new out.old out.new }
+    ensures { Left (actions_answer (head_of 103 fin abort stream_id frame_id) limit buffer.now actions.now action_count) result at.new out.old out.new }
 {
     let answer = writer::write_actions(
         fin,
@@ -323,7 +323,7 @@ pub extern "C" fn spop_write_notify(
     out: &mut [u8],
     at: &mut u64,
 ) -> u64
-    ensures { Left (notifyAnswer (headOf 3 fin abort stream_id frame_id) limit buffer.now messages.now message_count pairs.now pair_count) result at.new out.old out.new }
+    ensures { Left (notify_answer (head_of 3 fin abort stream_id frame_id) limit buffer.now messages.now message_count pairs.now pair_count) result at.new out.old out.new }
 {
     let answer = writer::write_notify(
         fin,
@@ -343,7 +343,7 @@ pub extern "C" fn spop_write_notify(
 
 #[unsafe(no_mangle)]
 pub extern "C" fn spop_negotiate_max_frame_size(theirs: u32, ours: u32, at: &mut u64) -> u64
-    ensures { Told (frameSize theirs ours) result at.new }
+    ensures { Told (frame_size theirs ours) result at.new }
 {
     match hello::negotiate_max_frame_size(theirs, ours) {
         Size::Agreed(n) => {
@@ -382,14 +382,14 @@ fn tell(answer: Written, at: &mut u64) -> u64
 
 // What the reader of HAProxy's frames answers.
 fn tell_frame(answer: FrameRead, head: &mut [u64; 6], at: &mut u64) -> u64
-    ensures { (x : Reading (Head × Contents)) → frameSaid answer ≡ frameTells x → HeadTold Side.HAProxy x result at.new head.old head.new }
+    ensures { (x : Reading (Head × Contents)) → frame_said answer ≡ frame_tells x → HeadTold Side.HAProxy x result at.new head.old head.new }
 {
     tell_side(answer, Side::HAProxy, head, at)
 }
 
 // What the reader of a side's frames answers.
 fn tell_side(answer: FrameRead, side: Side, head: &mut [u64; 6], at: &mut u64) -> u64
-    ensures { (x : Reading (Head × Contents)) → frameSaid answer ≡ frameTells x → HeadTold side x result at.new head.old head.new }
+    ensures { (x : Reading (Head × Contents)) → frame_said answer ≡ frame_tells x → HeadTold side x result at.new head.old head.new }
 {
     match answer {
         FrameRead::Done {
@@ -411,7 +411,7 @@ fn tell_side(answer: FrameRead, side: Side, head: &mut [u64; 6], at: &mut u64) -
 
 // The six numbers of a frame's head. The last two count messages and pairs, or pairs and actions, by the side that sends.
 fn head_numbers(side: Side, h: Head, counts: Counts) -> [u64; 6]
-    ensures { result ≡ headNumbers side h counts }
+    ensures { result ≡ head_numbers side h counts }
 {
     let frame_type = h.frame_type as u64;
     let flags = h.flags as u64;

@@ -3,22 +3,22 @@
 use mathlib.Core.Path.{◌≡◌, refl}
 use mathlib.Core.List.{List, [], ◌∷◌, ◌++◌}
 use Prim.Native.Nat.{ℕ}
-use Rattle.answer.specs.Order.{inOrder}
-use Rattle.answer.specs.Row.{soMany, toEnd}
+use Rattle.answer.specs.Order.{in_order}
+use Rattle.answer.specs.Row.{so_many, to_end}
 use Rattle.answer.specs.Table.{joined, some}
 use Rattle.varint.specs.Number.{more, number}
-use Rattle.types.specs.Value.{string, typed, shape, signExtended}
-use Rattle.frame.specs.Head.{fourNumber}
+use Rattle.types.specs.Value.{string, typed, shape, sign_extended}
+use Rattle.frame.specs.Head.{four_number}
 use Rattle.frame.specs.declared.Side.TheVariants as side
 use Rattle.frame.specs.Read.{cut, head}
 use Rattle.payload.specs.Pair.{pair}
 use Rattle.payload.specs.Action.{variable, action}
-use Rattle.payload.specs.Payload.{messageFrom, onePair, oneMessage, oneAction, payload}
-use Rattle.parser.specs.Frame.{framed, frameRead}
+use Rattle.payload.specs.Payload.{message_from, one_pair, one_message, one_action, payload}
+use Rattle.parser.specs.Frame.{framed, frame_read}
 use Rattle.listing.specs.Digits.{letters, digits, decimal, signed, shown}
-use Rattle.listing.specs.Lines.{filled, valueText, frameLine, messageLine, pairLine, actionLine, endLine}
-use Rattle.spoplist.specs.Listing.{stopFrom}
-use Rattle.listing.proofs.Frames.{pairLines, itemLines, frameLines, actionLines}
+use Rattle.listing.specs.Lines.{filled, value_text, frame_line, message_line, pair_line, action_line, end_line}
+use Rattle.spoplist.specs.Listing.{stop_from}
+use Rattle.listing.proofs.Frames.{pair_lines, item_lines, frame_lines, action_lines}
 use Rattle.spoplist.proofs.Inputs.{lines_from, listing}
 
 abbrev pub input : List ℕ
@@ -35,9 +35,9 @@ lines =
     ++ letters "end 29 0 0\n"
 
 pub example : listing side.HAProxy 65532 (record { messages = 64; pairs = 256; actions = 0 }) input ≡ lines
-unfolding more number string typed shape signExtended fourNumber inOrder some joined soMany toEnd
-    pair messageFrom onePair oneMessage payload head cut framed frameRead
-    digits decimal signed shown filled valueText frameLine messageLine pairLine endLine pairLines itemLines actionLines frameLines stopFrom lines_from
+unfolding more number string typed shape sign_extended four_number in_order some joined so_many to_end
+    pair message_from one_pair one_message payload head cut framed frame_read
+    digits decimal signed shown filled value_text frame_line message_line pair_line end_line pair_lines item_lines action_lines frame_lines stop_from lines_from
 example = refl
 
 -- ---- an agent's
@@ -47,16 +47,16 @@ sent =
     0x00 ∷ 0x00 ∷ 0x00 ∷ 0x1C ∷ 0x67 ∷ 0x00 ∷ 0x00 ∷ 0x00 ∷ 0x01 ∷ 0x01 ∷ 0x02 ∷ 0x01 ∷ 0x03 ∷ 0x02 ∷ 0x04 ∷ 0x73 ∷ 0x6C ∷ 0x6F ∷ 0x74 ∷ 0x03 ∷ 0x07 ∷
     0x02 ∷ 0x02 ∷ 0x01 ∷ 0x02 ∷ 0x6F ∷ 0x6B ∷ 0x01 ∷ 0x03 ∷ 0x00 ∷ 0x00 ∷ 0x00 ∷ []
 
-abbrev pub sentLinesOf : List ℕ
-sentLinesOf =
+abbrev pub sent_lines_of : List ℕ
+sent_lines_of =
     letters "frame 0 type 103 stream 1 id 2 bytes 32\n"
     ++ letters "action 0 set scope 2 name 736c6f74 kind 3 value 7\n"
     ++ letters "action 1 unset scope 1 name 6f6b\n"
     ++ letters "action 2 set scope 0 name - kind 0 value -\n"
     ++ letters "end 32 0 0\n"
 
-pub sent-example : listing side.Agents 65532 (record { messages = 0; pairs = 256; actions = 256 }) sent ≡ sentLinesOf
-unfolding more number string typed shape signExtended fourNumber inOrder some joined toEnd
-    pair variable action oneAction payload head cut framed frameRead
-    digits decimal signed shown filled valueText frameLine actionLine endLine pairLines itemLines actionLines frameLines stopFrom lines_from
-sent-example = refl
+pub sent_example : listing side.Agents 65532 (record { messages = 0; pairs = 256; actions = 256 }) sent ≡ sent_lines_of
+unfolding more number string typed shape sign_extended four_number in_order some joined to_end
+    pair variable action one_action payload head cut framed frame_read
+    digits decimal signed shown filled value_text frame_line action_line end_line pair_lines item_lines action_lines frame_lines stop_from lines_from
+sent_example = refl

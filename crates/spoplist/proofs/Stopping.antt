@@ -8,43 +8,43 @@ use lib.ListN.{length, drop, length-drop}
 use lib.Seq.{drop-drop}
 use borrow.Author.Tests.{lt-ltb, le-ltb}
 use Rattle.answer.specs.Answer.{Answer, done, refused}
-use Rattle.answer.proofs.Cases.{not-both}
+use Rattle.answer.proofs.Cases.{not_both}
 use Rattle.frame.specs.declared.Head.{Head}
 use Rattle.frame.specs.declared.Side.{Side}
 use Rattle.frame.specs.Read.{Reading, wait, answered}
-use Rattle.frame.proofs.Answers.{answered-same, wait-same, wait-answered}
-use Rattle.answer.proofs.Answers.{refused-same}
+use Rattle.frame.proofs.Answers.{answered_same, wait_same, wait_answered}
+use Rattle.answer.proofs.Answers.{refused_same}
 use Rattle.payload.specs.declared.Counts.{Counts}
 use Rattle.payload.specs.Payload.{Contents}
-use Rattle.parser.specs.Frame.{frameRead}
-use Rattle.parser.specs.Promise.{frameTells}
-use Rattle.parser.proofs.Entries.{said-done}
-use Rattle.parser.proofs.Frames.{frame-cut}
-use Rattle.spoplist.specs.Listing.{taken, stopFrom, stopOf}
-use Rattle.spoplist.specs.Inner.{Accepts, readIn}
+use Rattle.parser.specs.Frame.{frame_read}
+use Rattle.parser.specs.Promise.{frame_tells}
+use Rattle.parser.proofs.Entries.{said_done}
+use Rattle.parser.proofs.Frames.{frame_cut}
+use Rattle.spoplist.specs.Listing.{taken, stop_from, stop_of}
+use Rattle.spoplist.specs.Inner.{Accepts, read_in}
 
 -- ---- what a reader said
 
-pub said-wait : (x : Reading (Head × Contents)) (n : ℕ) → wait n ≡ frameTells x → taken x ≡ refused 1 n
-said-wait (wait m) n e = ap (refused 1) (sym (wait-same e))
-said-wait (answered a) n e = wait-answered e
+pub said_wait : (x : Reading (Head × Contents)) (n : ℕ) → wait n ≡ frame_tells x → taken x ≡ refused 1 n
+said_wait (wait m) n e = ap (refused 1) (sym (wait_same e))
+said_wait (answered a) n e = wait_answered e
 
-pub said-refused : (x : Reading (Head × Contents)) (number place : ℕ) → answered (refused number place) ≡ frameTells x → taken x ≡ refused number place
-said-refused (wait m) number place e = wait-answered (sym e)
-said-refused (answered (refused m p)) number place e = let o = refused-same (answered-same e) in ap₂ refused (sym o.0) (sym o.1)
-said-refused (answered (done y u)) number place e = not-both refl (sym (answered-same e))
+pub said_refused : (x : Reading (Head × Contents)) (number place : ℕ) → answered (refused number place) ≡ frame_tells x → taken x ≡ refused number place
+said_refused (wait m) number place e = wait_answered (sym e)
+said_refused (answered (refused m p)) number place e = let o = refused_same (answered_same e) in ap₂ refused (sym o.0) (sym o.1)
+said_refused (answered (done y u)) number place e = not_both refl (sym (answered_same e))
 
-side-taken : (x : Side) (limit : ℕ) (rooms : Counts) (s : List ℕ) (h : Head) (k : Counts) (used : ℕ) → answered (done (h, k) used) ≡ frameTells (frameRead x limit rooms s)
-    → Accepts s (taken (frameRead x limit rooms s)) used
-side-taken x limit rooms s h k used e =
-    let o = said-done (frameRead x limit rooms s) h k used e in
-    let c = frame-cut x limit rooms s h o.0 used o.1 in
+side_taken : (x : Side) (limit : ℕ) (rooms : Counts) (s : List ℕ) (h : Head) (k : Counts) (used : ℕ) → answered (done (h, k) used) ≡ frame_tells (frame_read x limit rooms s)
+    → Accepts s (taken (frame_read x limit rooms s)) used
+side_taken x limit rooms s h k used e =
+    let o = said_done (frame_read x limit rooms s) h k used e in
+    let c = frame_cut x limit rooms s h o.0 used o.1 in
     record { is = ap taken o.1; some = omega (arith, c.four); most = c.there }
 
-pub said-taken : (agents : Bool) (messages pairs actions s : List ℕ) (h : Head) (k : Counts) (used : ℕ) → answered (done (h, k) used) ≡ frameTells (readIn agents messages pairs actions s)
-    → Accepts s (taken (readIn agents messages pairs actions s)) used
-said-taken true messages pairs actions s h k used e = side-taken _ _ _ s h k used e
-said-taken false messages pairs actions s h k used e = side-taken _ _ _ s h k used e
+pub said_taken : (agents : Bool) (messages pairs actions s : List ℕ) (h : Head) (k : Counts) (used : ℕ) → answered (done (h, k) used) ≡ frame_tells (read_in agents messages pairs actions s)
+    → Accepts s (taken (read_in agents messages pairs actions s)) used
+said_taken true messages pairs actions s h k used e = side_taken _ _ _ s h k used e
+said_taken false messages pairs actions s h k used e = side_taken _ _ _ s h k used e
 
 -- ---- how it goes on
 
@@ -52,10 +52,10 @@ said-taken false messages pairs actions s h k used e = side-taken _ _ _ s h k us
 pub record Stopping (read : List ℕ → Answer Unit) (input : List ℕ) (at : ℕ) : Type 0 where
   pub fuel : ℕ
   pub enough : length input ≤ at + fuel
-  pub is : stopOf read input ≡ stopFrom read fuel at (drop at input)
+  pub is : stop_of read input ≡ stop_from read fuel at (drop at input)
 
-pub stopping-none : (read : List ℕ → Answer Unit) (input : List ℕ) → Stopping read input 0
-stopping-none read input = record { fuel = length input; enough = omega arith; is = refl }
+pub stopping_none : (read : List ℕ → Answer Unit) (input : List ℕ) → Stopping read input 0
+stopping_none read input = record { fuel = length input; enough = omega arith; is = refl }
 
 module _ {read : List ℕ → Answer Unit} {input : List ℕ} {at : ℕ} (g : Stopping read input at) where
   module _ (h : at < length input) where
@@ -64,31 +64,31 @@ module _ {read : List ℕ → Answer Unit} {input : List ℕ} {at : ℕ} (g : St
 
     -- behind a frame
     go_on : (k used : ℕ) → length input ≤ at + k → 1 ≤ used → read (drop at input) ≡ done tt used
-        → stopOf read input ≡ stopFrom read k at (drop at input) → Stopping read input (at + used)
-    unfolding stopFrom
+        → stop_of read input ≡ stop_from read k at (drop at input) → Stopping read input (at + used)
+    unfolding stop_from
     go_on zero used l s is e = absurd (omega arith)
     go_on (suc k) used l s is e =
-        record { fuel = k; enough = omega arith; is = e ∙ rw (lt-ltb 0 (length (drop at input)) long, is) (ap (stopFrom read k (at + used)) (drop-drop used at input)) }
+        record { fuel = k; enough = omega arith; is = e ∙ rw (lt-ltb 0 (length (drop at input)) long, is) (ap (stop_from read k (at + used)) (drop-drop used at input)) }
 
-    pub stopping-on : (used : ℕ) → Accepts (drop at input) (read (drop at input)) used → Stopping read input (at + used)
-    stopping-on used t = go_on g.fuel used g.enough t.some t.is g.is
+    pub stopping_on : (used : ℕ) → Accepts (drop at input) (read (drop at input)) used → Stopping read input (at + used)
+    stopping_on used t = go_on g.fuel used g.enough t.some t.is g.is
 
     -- at one that is not accepted
     stop : (k number place : ℕ) → length input ≤ at + k → read (drop at input) ≡ refused number place
-        → stopFrom read k at (drop at input) ≡ record { used = at; number = number; at = place }
-    unfolding stopFrom
+        → stop_from read k at (drop at input) ≡ record { used = at; number = number; at = place }
+    unfolding stop_from
     stop zero number place l is = absurd (omega arith)
     stop (suc k) number place l is = rw (lt-ltb 0 (length (drop at input)) long, is)
 
-    pub stopping-stop : (number place : ℕ) → read (drop at input) ≡ refused number place
-        → stopOf read input ≡ record { used = at; number = number; at = place }
-    stopping-stop number place is = g.is ∙ stop g.fuel number place g.enough is
+    pub stopping_stop : (number place : ℕ) → read (drop at input) ≡ refused number place
+        → stop_of read input ≡ record { used = at; number = number; at = place }
+    stopping_stop number place is = g.is ∙ stop g.fuel number place g.enough is
 
   -- and where no byte is left
-  over : length input ≤ at → (k : ℕ) → stopFrom read k at (drop at input) ≡ record { used = at; number = 0; at = 0 }
-  unfolding stopFrom
+  over : length input ≤ at → (k : ℕ) → stop_from read k at (drop at input) ≡ record { used = at; number = 0; at = 0 }
+  unfolding stop_from
   over h zero = refl
   over h (suc k) = rw (le-ltb 0 (length (drop at input)) (omega (arith, length-drop at input)))
 
-  pub stopping-over : length input ≤ at → stopOf read input ≡ record { used = at; number = 0; at = 0 }
-  stopping-over h = g.is ∙ over h g.fuel
+  pub stopping_over : length input ≤ at → stop_of read input ≡ record { used = at; number = 0; at = 0 }
+  stopping_over h = g.is ∙ over h g.fuel

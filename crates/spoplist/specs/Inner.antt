@@ -7,14 +7,14 @@ use Rattle.answer.specs.Table.{joined}
 use Rattle.frame.specs.declared.Head.{Head}
 use Rattle.frame.specs.declared.Side.TheVariants as side
 use Rattle.frame.specs.Read.{Reading, Sender}
-use Rattle.frame.specs.Records.{messageNumbers, pairNumbers, actionNumbers}
+use Rattle.frame.specs.Records.{message_numbers, pair_numbers, action_numbers}
 use Rattle.payload.specs.declared.Counts.{Counts}
 use Rattle.payload.specs.Payload.{Contents}
 use Rattle.payload.specs.Promise.{rooms_of}
 use Rattle.parser.specs.declared.FrameRead.{FrameRead}
-use Rattle.parser.specs.Frame.{framed, frameRead}
+use Rattle.parser.specs.Frame.{framed, frame_read}
 use Rattle.parser.specs.Promise.{FrameFills}
-use Rattle.spoplist.specs.Listing.{taken, stopOf}
+use Rattle.spoplist.specs.Listing.{taken, stop_of}
 use Rattle.spoplist.specs.declared.Listed.{Listed}
 use Rattle.spoplist.specs.declared.Listed.TheVariants as l
 use Rattle.spoplist.specs.declared.Ended.{Ended}
@@ -25,23 +25,23 @@ abbrev pub limit : ℕ
 limit = 65532
 
 -- bytes for a line: two for each of such a frame, its length bytes among them, and 128 others
-abbrev pub lineRoom : ℕ
-lineRoom = 2 * (4 + limit) + 128
+abbrev pub line_room : ℕ
+line_room = 2 * (4 + limit) + 128
 
 -- A frame that agents send with the room of two tables, or one that HAProxy sends.
-abbrev pub readIn : Bool → List ℕ → List ℕ → List ℕ → List ℕ → Reading (Head × Contents)
-readIn agents messages pairs actions s =
-    cond agents (frameRead side.Agents limit (rooms_of [] pairs actions) s) (frameRead side.HAProxy limit (rooms_of messages pairs []) s)
+abbrev pub read_in : Bool → List ℕ → List ℕ → List ℕ → List ℕ → Reading (Head × Contents)
+read_in agents messages pairs actions s =
+    cond agents (frame_read side.Agents limit (rooms_of [] pairs actions) s) (frame_read side.HAProxy limit (rooms_of messages pairs []) s)
 
 -- and what it takes
 abbrev pub side_in : Bool → List ℕ → List ℕ → List ℕ → List ℕ → Answer Unit
-side_in agents messages pairs actions s = taken (readIn agents messages pairs actions s)
+side_in agents messages pairs actions s = taken (read_in agents messages pairs actions s)
 
 -- It was read so, and two tables are filled with its records. Of the third, which the frames of its side have none for, nothing is said.
 abbrev pub ReadsIn : Bool → List ℕ → FrameRead → List ℕ → List ℕ → List ℕ → List ℕ → List ℕ → List ℕ → Type 0
-ReadsIn agents s r oldMessages newMessages oldPairs newPairs oldActions newActions =
-    FrameFills (readIn agents oldMessages oldPairs oldActions s) r (cond agents [] oldMessages) (cond agents [] newMessages) oldPairs newPairs
-    (cond agents oldActions []) (cond agents newActions [])
+ReadsIn agents s r old_messages new_messages old_pairs new_pairs old_actions new_actions =
+    FrameFills (read_in agents old_messages old_pairs old_actions s) r (cond agents [] old_messages) (cond agents [] new_messages) old_pairs new_pairs
+    (cond agents old_actions []) (cond agents new_actions [])
 
 -- a frame that was accepted takes so many bytes of those that are left
 pub record Accepts (input : List ℕ) (a : Answer Unit) (used : ℕ) : Type 0 where
@@ -57,7 +57,7 @@ Takes input a l.Closed = Unit
 
 -- The last line says where the listing of the input stops, and why.
 abbrev pub Ends : List ℕ → (List ℕ → Answer Unit) → Ended → Type 0
-Ends input read (e.Behind used why) = stopOf read input ≡ record { used = used; number = why.number; at = why.place }
+Ends input read (e.Behind used why) = stop_of read input ≡ record { used = used; number = why.number; at = why.place }
 Ends input read e.Closed = Unit
 
 -- ---- lines that are not refused
@@ -75,13 +75,13 @@ pub record Stands {A : Type 0} (numbers : A → List ℕ) (sort : Contents → L
   pub front : table ≡ joined numbers (sort contents) ++ behind
 
 abbrev pub StandMessages : List ℕ → List ℕ → ℕ → Type 0
-StandMessages = Stands messageNumbers (λ c. c.messages)
+StandMessages = Stands message_numbers (λ c. c.messages)
 
 abbrev pub StandPairs : List ℕ → List ℕ → ℕ → Type 0
-StandPairs = Stands pairNumbers (λ c. c.pairs)
+StandPairs = Stands pair_numbers (λ c. c.pairs)
 
 abbrev pub StandActions : List ℕ → List ℕ → ℕ → Type 0
-StandActions = Stands actionNumbers (λ c. c.actions)
+StandActions = Stands action_numbers (λ c. c.actions)
 
 -- A line was not refused, and it lies in the bytes that were lent.
 abbrev pub Lies : Written → List ℕ → Type 0

@@ -15,20 +15,20 @@ abbrev pub taken : {A : Type 0} → Reading A → Answer Unit
 taken x = next (answer_of x) (λ y n. done tt n)
 
 -- what a frame that was read leads on to, and what one that was not comes to
-abbrev pub goesOn : {A B : Type 0} → Answer A → (A → ℕ → B) → (ℕ → ℕ → B) → B
-goesOn (done x n) go stop = go x n
-goesOn (refused number place) go stop = stop number place
+abbrev pub goes_on : {A B : Type 0} → Answer A → (A → ℕ → B) → (ℕ → ℕ → B) → B
+goes_on (done x n) go stop = go x n
+goes_on (refused number place) go stop = stop number place
 
 -- Behind so many bytes of accepted frames, as many frames more as are counted down at most, each read by the same reader. With no byte left the
 -- answer is 0.
-unfoldable pub stopFrom : (List ℕ → Answer Unit) → ℕ → ℕ → List ℕ → Stop
-stopFrom read zero used s = record { used = used; number = 0; at = 0 }
-stopFrom read (suc k) used s =
+unfoldable pub stop_from : (List ℕ → Answer Unit) → ℕ → ℕ → List ℕ → Stop
+stop_from read zero used s = record { used = used; number = 0; at = 0 }
+stop_from read (suc k) used s =
     cond (ltb 0 (length s))
-    (goesOn (read s) (λ x n. stopFrom read k (used + n) (drop n s))
+    (goes_on (read s) (λ x n. stop_from read k (used + n) (drop n s))
     (λ number place. record { used = used; number = number; at = place }))
     (record { used = used; number = 0; at = 0 })
 
 -- Each frame takes a byte at least, so there are no more than bytes.
-abbrev pub stopOf : (List ℕ → Answer Unit) → List ℕ → Stop
-stopOf read s = stopFrom read (length s) 0 s
+abbrev pub stop_of : (List ℕ → Answer Unit) → List ℕ → Stop
+stop_of read s = stop_from read (length s) 0 s

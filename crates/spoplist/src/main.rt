@@ -3,7 +3,7 @@
 //
 // What a line has, and which comes next, is the library's to say and proved there. Here frames are read, and their lines written out.
 ghost use Rattle.std.specs.Prelude.{◌+◌, ◌*◌, ◌≤◌, length};
-ghost use Rattle.spoplist.specs.Inner.{lineRoom, ReadsIn, side_in, Takes, Ends, StandMessages, StandPairs, StandActions, Lies};
+ghost use Rattle.spoplist.specs.Inner.{line_room, ReadsIn, side_in, Takes, Ends, StandMessages, StandPairs, StandActions, Lies};
 
 use answer::{Refusal, WAIT, Written};
 use frame::{ACTION_WIDTH, MESSAGE_WIDTH, PAIR_WIDTH};
@@ -95,7 +95,7 @@ fn list_all(
     actions: &mut [u64],
     out: &mut [u8],
 ) -> Ended
-    requires { lineRoom ≤ length out.old }
+    requires { line_room ≤ length out.old }
     ensures { Ends input.now (side_in agents messages.old pairs.old actions.old) result }
 {
     let mut at = 0;
@@ -134,7 +134,7 @@ fn list_one(
     actions: &mut [u64],
     out: &mut [u8],
 ) -> Listed
-    requires { lineRoom ≤ length out.old }
+    requires { line_room ≤ length out.old }
     ensures { Takes rest.now (side_in agents messages.old pairs.old actions.old rest.now) result }
 {
     match read_one(agents, rest, messages, pairs, actions) {
@@ -233,7 +233,7 @@ fn list_records(
 
 // Writes the last line: how many bytes accepted frames took, and why there is no frame behind them.
 fn end(used: usize, r: Refusal, out: &mut [u8])
-    requires { lineRoom ≤ length out.old }
+    requires { line_room ≤ length out.old }
 {
     print(
         listing::write_end_line(used as u64, r.number, r.place as u64, out),

@@ -7,43 +7,43 @@ use lib.ListN.{length, take, drop, length-append, length-drop, take-append-drop}
 use lib.Seq.{length-take-le, take-add, take_at, take-take, take-append-le, drop-append-add, drop-drop}
 use borrow.Rule.Slice.PartMut.{put_mid}
 use Rattle.answer.specs.Answer.{written, leaves}
-use Rattle.answer.proofs.Output.{Partly, partly-all, leaves-tail}
-use Rattle.answer.proofs.Parts.{copy-all}
+use Rattle.answer.proofs.Output.{Partly, partly_all, leaves_tail}
+use Rattle.answer.proofs.Parts.{copy_all}
 use Rattle.types.specs.Inner.{block}
 
 module _ (bytes : List ℕ) (at n : ℕ) (fits : at + n ≤ length bytes) where
-  pub part-long : length (take n (drop at bytes)) ≡ n
-  part-long = length-take-le n (drop at bytes) (simp length-drop (omega arith))
+  pub part_long : length (take n (drop at bytes)) ≡ n
+  part_long = length-take-le n (drop at bytes) (simp length-drop (omega arith))
 
   -- the block by itself, at the front of what it was read into
-  pub own-part : (own zeros : List ℕ) (m : ℕ) → m ≡ n → own ≡ leaves (written (take m (drop at bytes))) zeros → take n own ≡ take n (drop at bytes)
-  own-part own zeros m e is =
+  pub own_part : (own zeros : List ℕ) (m : ℕ) → m ≡ n → own ≡ leaves (written (take m (drop at bytes))) zeros → take n own ≡ take n (drop at bytes)
+  own_part own zeros m e is =
       ap (take n) (is ∙ ap (λ (k : ℕ). leaves (written (take k (drop at bytes))) zeros) e)
-      ∙ take_at (take n (drop at bytes)) (drop (length (take n (drop at bytes))) zeros) n part-long
+      ∙ take_at (take n (drop at bytes)) (drop (length (take n (drop at bytes))) zeros) n part_long
 
   -- and at its place, by whoever was lent the tail from there
-  pub block-put : (out tail part : List ℕ) → at ≤ length out → part ≡ take n (drop at bytes)
+  pub block_put : (out tail part : List ℕ) → at ≤ length out → part ≡ take n (drop at bytes)
       → tail ≡ leaves (written part) (take (length out - at) (drop at out)) → put_mid at (length out - at) out tail ≡ block bytes at n out
-  block-put out tail part h is then =
-      leaves-tail (take at out) part out out tail at front_long (sym (ap (λ (k : ℕ). take at out ++ drop k out) front_long ∙ take-append-drop at out)) then
+  block_put out tail part h is then =
+      leaves_tail (take at out) part out out tail at front_long (sym (ap (λ (k : ℕ). take at out ++ drop k out) front_long ∙ take-append-drop at out)) then
       ∙ append_assoc (take at out) part (drop (length (take at out ++ part)) out)
-      ∙ ap₂ (λ (l : List ℕ) (k : ℕ). take at out ++ (l ++ drop k out)) is (length-append (take at out) part ∙ ap₂ ◌+◌ front_long (ap length is ∙ part-long))
+      ∙ ap₂ (λ (l : List ℕ) (k : ℕ). take at out ++ (l ++ drop k out)) is (length-append (take at out) part ∙ ap₂ ◌+◌ front_long (ap length is ∙ part_long))
     where
       front_long : length (take at out) ≡ at
       front_long = length-take-le at out h
 
   -- A copy that has come to k goes on to the end of a block that starts no further.
-  pub block-next : (old out : List ℕ) (k : ℕ) → Partly bytes old k (drop k bytes) out → at ≤ k → k ≤ at + n
+  pub block_next : (old out : List ℕ) (k : ℕ) → Partly bytes old k (drop k bytes) out → at ≤ k → k ≤ at + n
       → Partly bytes old (at + n) (drop (at + n) bytes) (block bytes at n out)
-  block-next old out k p from to = record { room = p.room; so_far = made; to-do = refl; at_most = fits }
+  block_next old out k p from to = record { room = p.room; so_far = made; to_do = refl; at_most = fits }
     where
-      k-long : length (take k bytes) ≡ k
-      k-long = length-take-le k bytes p.at_most
+      k_long : length (take k bytes) ≡ k
+      k_long = length-take-le k bytes p.at_most
 
       front : take at out ≡ take at bytes
       front =
           ap (take at) p.so_far
-          ∙ take-append-le at (take k bytes) (drop k old) (omega (arith, k-long))
+          ∙ take-append-le at (take k bytes) (drop k old) (omega (arith, k_long))
           ∙ take-take at k bytes from
 
       behind : drop (at + n) out ≡ drop (at + n) old
@@ -51,7 +51,7 @@ module _ (bytes : List ℕ) (at n : ℕ) (fits : at + n ≤ length bytes) where
         where
           later : (m : ℕ) → at + n ≡ k + m → drop (at + n) out ≡ drop (at + n) old
           later m e =
-              ap₂ drop (e ∙ ap (λ (x : ℕ). x + m) (sym k-long)) p.so_far
+              ap₂ drop (e ∙ ap (λ (x : ℕ). x + m) (sym k_long)) p.so_far
               ∙ drop-append-add (take k bytes) (drop k old) m
               ∙ drop-drop m k old
               ∙ ap (λ (x : ℕ). drop x old) (sym e)
@@ -65,4 +65,4 @@ module _ (bytes : List ℕ) (at n : ℕ) (fits : at + n ≤ length bytes) where
   -- A block that ends with the bytes ends the copy.
   pub block_last : (old out : List ℕ) (k : ℕ) → Partly bytes old k (drop k bytes) out → at ≤ k → at + n ≡ length bytes
       → block bytes at n out ≡ leaves (written bytes) old
-  block_last old out k p from end = partly-all (copy-all (block-next old out k p from (omega (arith, p.at_most))) (omega arith))
+  block_last old out k p from end = partly_all (copy_all (block_next old out k p from (omega (arith, p.at_most))) (omega arith))

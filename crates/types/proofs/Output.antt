@@ -11,28 +11,28 @@ use borrow.Author.Tests.{le-leb, lt-leb}
 use Rattle.answer.specs.declared.Written.{Written}
 use Rattle.answer.specs.Answer.{Answer, done, refused, written, within, tells}
 use Rattle.answer.specs.Writes.{counted, Writes}
-use Rattle.answer.proofs.Cases.{lt-or-le}
-use Rattle.answer.proofs.Output.{Partly, partly_none, partly-count, partly-all, leaves-length, leaves-byte}
-use Rattle.answer.proofs.Parts.{room-counted, room-leaves, both-start, both-room, both-count, both-leaves, copy-place, copy-next, copy-all}
+use Rattle.answer.proofs.Cases.{lt_or_le}
+use Rattle.answer.proofs.Output.{Partly, partly_none, partly_count, partly_all, leaves_length, leaves_byte}
+use Rattle.answer.proofs.Parts.{room_counted, room_leaves, both_start, both_room, both_count, both_leaves, copy_place, copy_next, copy_all}
 use Rattle.types.specs.Form.{length_of}
 use Rattle.types.specs.Inner.{Puts}
 
 -- what has no written form is not written
-pub puts-refusal : {a : Answer (List ℕ)} (room n : ℕ) (old : List ℕ) → a ≡ refused n 0 → Puts (within room a) 0 old old
-puts-refusal room n old e = rw e (record { counts = refl; holds = refl })
+pub puts_refusal : {a : Answer (List ℕ)} (room n : ℕ) (old : List ℕ) → a ≡ refused n 0 → Puts (within room a) 0 old old
+puts_refusal room n old e = rw e (record { counts = refl; holds = refl })
 
 -- what has one is written, or finds no room
 module _ {a : Answer (List ℕ)} (bytes old : List ℕ) (is : a ≡ written bytes) where
-  pub puts-short : length old < length bytes → Puts (within (length old) a) 0 old old
-  puts-short h = rw is (simp (lt-leb (length bytes) (length old) h) (record { counts = refl; holds = refl }))
+  pub puts_short : length old < length bytes → Puts (within (length old) a) 0 old old
+  puts_short h = rw is (simp (lt-leb (length bytes) (length old) h) (record { counts = refl; holds = refl }))
 
   pub puts_whole : {new : List ℕ} {n : ℕ} → length bytes ≤ length old → Puts (written bytes) n old new → Puts (within (length old) a) n old new
   puts_whole h p = rw is (simp (le-leb (length bytes) (length old) h) p)
 
 -- what another writer wrote, where there is room
-pub puts-wrote : (bytes : List ℕ) {old new : List ℕ} {r : Written} {n : ℕ}
+pub puts_wrote : (bytes : List ℕ) {old new : List ℕ} {r : Written} {n : ℕ}
     → Writes (written bytes) r old new → length bytes ≤ length old → n ≡ counted r → Puts (written bytes) n old new
-puts-wrote bytes p room e = record { counts = e ∙ room-counted bytes p room; holds = room-leaves bytes p room }
+puts_wrote bytes p room e = record { counts = e ∙ room_counted bytes p room; holds = room_leaves bytes p room }
 
 -- a count that is not 0 is told as it is
 pub told : (a : Answer (List ℕ)) (n : ℕ) → n ≡ length_of a → (n ≡ 0 → ⊥) → done tt n ≡ tells a
@@ -40,13 +40,13 @@ told (done bytes m) n e some = ap (done tt) e
 told (refused number place) n e some = absurd (some e)
 
 -- a form that is not empty and has no count finds no room
-pub told-short : {a : Answer (List ℕ)} (bytes : List ℕ) (room : ℕ) → a ≡ written bytes → 1 ≤ length bytes → length_of (within room a) ≡ 0
+pub told_short : {a : Answer (List ℕ)} (bytes : List ℕ) (room : ℕ) → a ≡ written bytes → 1 ≤ length bytes → length_of (within room a) ≡ 0
     → tells (within room a) ≡ refused 11 0
-told-short {a} bytes room is some none =
+told_short {a} bytes room is some none =
     ⊎_elim
     (λ h. rw is (simp (lt-leb (length bytes) room h)))
     (λ h. let z : length bytes ≡ 0 = simp (le-leb (length bytes) room h) at (rw is at none) in absurd (omega arith))
-    (lt-or-le room (length bytes))
+    (lt_or_le room (length bytes))
 
 -- Of two parts the first is written, n bytes, which made out of old, and there is room for both.
 pub record Begun (front rest old : List ℕ) (n : ℕ) (out : List ℕ) : Type 0 where
@@ -54,31 +54,31 @@ pub record Begun (front rest old : List ℕ) (n : ℕ) (out : List ℕ) : Type 0
   pub room : length (front ++ rest) ≤ length old
 
 -- the first is a byte, as a store leaves it
-pub begun-byte : (b : ℕ) (rest old : List ℕ) → length (b ∷ rest) ≤ length old → Begun (b ∷ []) rest old 1 (set old 0 b)
-begun-byte b rest old room = record { first = record { counts = refl; holds = leaves-byte b old (omega arith) }; room = room }
+pub begun_byte : (b : ℕ) (rest old : List ℕ) → length (b ∷ rest) ≤ length old → Begun (b ∷ []) rest old 1 (set old 0 b)
+begun_byte b rest old room = record { first = record { counts = refl; holds = leaves_byte b old (omega arith) }; room = room }
 
 -- by what the byte is
-pub begun-known : {b t : ℕ} (rest old : List ℕ) → b ≡ t → length (t ∷ rest) ≤ length old → Begun (t ∷ []) rest old 1 (set old 0 b)
-begun-known rest old e room = rw e (begun-byte _ rest old room)
+pub begun_known : {b t : ℕ} (rest old : List ℕ) → b ≡ t → length (t ∷ rest) ≤ length old → Begun (t ∷ []) rest old 1 (set old 0 b)
+begun_known rest old e room = rw e (begun_byte _ rest old room)
 
 -- the second goes behind it, by whoever is lent `&mut out[n..]`
 module _ {front rest old out : List ℕ} {n : ℕ} (b : Begun front rest old n out) where
-  pub begun-start : n ≤ length out
-  begun-start = both-start front rest old out n b.first.counts b.first.holds b.room
+  pub begun_start : n ≤ length out
+  begun_start = both_start front rest old out n b.first.counts b.first.holds b.room
 
-  pub begun-room : length rest ≤ length (take (length out - n) (drop n out))
-  begun-room = both-room front rest old out n b.first.counts b.first.holds b.room
+  pub begun_room : length rest ≤ length (take (length out - n) (drop n out))
+  begun_room = both_room front rest old out n b.first.counts b.first.holds b.room
 
   module _ {k : ℕ} {tail : List ℕ} (p : Puts (written rest) k (take (length out - n) (drop n out)) tail) where
-    pub begun-both : Puts (written (front ++ rest)) (n + k) old (put_mid n (length out - n) out tail)
-    begun-both =
+    pub begun_both : Puts (written (front ++ rest)) (n + k) old (put_mid n (length out - n) out tail)
+    begun_both =
         record {
-          counts = both-count front rest old out n b.first.counts b.first.holds b.room k p.counts;
-          holds = both-leaves front rest old out n b.first.counts b.first.holds b.room tail p.holds;
+          counts = both_count front rest old out n b.first.counts b.first.holds b.room k p.counts;
+          holds = both_leaves front rest old out n b.first.counts b.first.holds b.room tail p.holds;
         }
 
-    pub begun-most : n + k ≤ length old
-    begun-most = omega (arith, begun-both.counts, b.room)
+    pub begun_most : n + k ≤ length old
+    begun_most = omega (arith, begun_both.counts, b.room)
 
-    pub begun-length : length (put_mid n (length out - n) out tail) ≡ length old
-    begun-length = ap length begun-both.holds ∙ leaves-length (front ++ rest) old b.room
+    pub begun_length : length (put_mid n (length out - n) out tail) ≡ length old
+    begun_length = ap length begun_both.holds ∙ leaves_length (front ++ rest) old b.room

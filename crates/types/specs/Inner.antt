@@ -3,8 +3,8 @@ use Rattle.types.specs.declared.Value.{Value}
 use Rattle.std.specs.Prelude.{◌≡◌, Bool, true, false, List, ◌++◌, ℕ, ◌+◌, length, take, drop}
 use Rattle.answer.specs.Answer.{Answer, refused, behind, within, leaves, tells}
 use Rattle.types.specs.Value.{Shape, nothing, flag, integer, address, text, reserved, shape, Record, value, moved, content}
-use Rattle.types.specs.Form.{valueAnswer, length_of}
-use Rattle.types.specs.Promise.{recordOf}
+use Rattle.types.specs.Form.{value_answer, length_of}
+use Rattle.types.specs.Promise.{record_of}
 
 -- What the reader of one kind is to answer: it is lent the type byte too, of which the kind and the flags are known.
 abbrev pub ReadsKind : ℕ → ℕ → List ℕ → Answer Record → Type 0
@@ -31,11 +31,11 @@ block bytes at n old = take at old ++ (take n (drop at bytes) ++ drop (at + n) o
 
 -- such a writer of a value
 abbrev pub PutsValue : Value → List ℕ → ℕ → List ℕ → List ℕ → Type 0
-PutsValue v buffer n old new = Puts (within (length old) (valueAnswer buffer (recordOf v))) n old new
+PutsValue v buffer n old new = Puts (within (length old) (value_answer buffer (record_of v))) n old new
 
 -- the number of a value that was not written, whatever room there was
 abbrev pub WhyNot : Value → List ℕ → ℕ → Type 0
 WhyNot v buffer r =
     (room : ℕ)
-    → length_of (within room (valueAnswer buffer (recordOf v))) ≡ 0
-    → tells (within room (valueAnswer buffer (recordOf v))) ≡ refused r 0
+    → length_of (within room (value_answer buffer (record_of v))) ≡ 0
+    → tells (within room (value_answer buffer (record_of v))) ≡ refused r 0

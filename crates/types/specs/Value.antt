@@ -85,11 +85,11 @@ abbrev pub moved : ℕ → Record → Record
 moved n (value kind a b flags) = value kind (cond (points (shape kind)) (n + a) a) b flags
 
 -- the low 32 bits, and where the highest of them is set, 32 ones above them
-unfoldable pub signExtended : ℕ → ℕ
-signExtended n = cond (ltb (n % 2 ^ 32) (2 ^ 31)) (n % 2 ^ 32) (n % 2 ^ 32 + (2 ^ 64 - 2 ^ 32))
+unfoldable pub sign_extended : ℕ → ℕ
+sign_extended n = cond (ltb (n % 2 ^ 32) (2 ^ 31)) (n % 2 ^ 32) (n % 2 ^ 32 + (2 ^ 64 - 2 ^ 32))
 
 abbrev pub narrowed : Width → ℕ → ℕ
-narrowed signed32 n = signExtended n
+narrowed signed32 n = sign_extended n
 narrowed unsigned32 n = n % 2 ^ 32
 narrowed whole64 n = n
 
@@ -120,24 +120,24 @@ typed (b ∷ s) = behind moved 1 (content (shape (b % 16)) (b % 16) (upper b) s)
 -- Whether a kind's numbers lie in their fields: where not, it is 14 (docs/RULES.md). An unused number is 0, an i32's number is its
 -- sign extension to 64 bits, an address has its length, and no integer or length passes 64 bits. A start has no field of its own: one
 -- that is too large points outside, which is 16.
-abbrev pub inWidth : Width → ℕ → Bool
-inWidth signed32 a = eqb a (signExtended a)
-inWidth unsigned32 a = ltb a (2 ^ 32)
-inWidth whole64 a = ltb a (2 ^ 64)
+abbrev pub in_width : Width → ℕ → Bool
+in_width signed32 a = eqb a (sign_extended a)
+in_width unsigned32 a = ltb a (2 ^ 32)
+in_width whole64 a = ltb a (2 ^ 64)
 
-abbrev pub inFields : Shape → ℕ → ℕ → Bool
-inFields nothing a b = eqb a 0 && eqb b 0
-inFields flag a b = ltb a 2 && eqb b 0
-inFields (integer w) a b = inWidth w a && eqb b 0
-inFields (address n) a b = eqb b n
-inFields text a b = ltb b (2 ^ 64)
-inFields reserved a b = false
+abbrev pub in_fields : Shape → ℕ → ℕ → Bool
+in_fields nothing a b = eqb a 0 && eqb b 0
+in_fields flag a b = ltb a 2 && eqb b 0
+in_fields (integer w) a b = in_width w a && eqb b 0
+in_fields (address n) a b = eqb b n
+in_fields text a b = ltb b (2 ^ 64)
+in_fields reserved a b = false
 
 -- The flags are four bits, and none where they are the boolean itself.
-abbrev pub inFlags : Shape → ℕ → Bool
-inFlags nothing flags = ltb flags 16
-inFlags flag flags = eqb flags 0
-inFlags (integer w) flags = ltb flags 16
-inFlags (address n) flags = ltb flags 16
-inFlags text flags = ltb flags 16
-inFlags reserved flags = ltb flags 16
+abbrev pub in_flags : Shape → ℕ → Bool
+in_flags nothing flags = ltb flags 16
+in_flags flag flags = eqb flags 0
+in_flags (integer w) flags = ltb flags 16
+in_flags (address n) flags = ltb flags 16
+in_flags text flags = ltb flags 16
+in_flags reserved flags = ltb flags 16

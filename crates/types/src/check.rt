@@ -1,17 +1,17 @@
 // What a string or a value is refused with before it is written: its numbers, its range, its text.
 ghost use Rattle.std.specs.Prelude.{◌≡◌, ◌&&◌, ◌<◌};
-ghost use Rattle.types.specs.Value.{shape, inFields, inFlags};
-ghost use Rattle.types.specs.Form.{inside, ranged, writableRecord};
-ghost use Rattle.types.specs.Promise.{recordOf};
-ghost use Rattle.answer.specs.Order.{inOrder};
-ghost use Rattle.types.specs.Check.{valueChecks, partChecks, stringChecks};
+ghost use Rattle.types.specs.Value.{shape, in_fields, in_flags};
+ghost use Rattle.types.specs.Form.{inside, ranged, writable_record};
+ghost use Rattle.types.specs.Promise.{record_of};
+ghost use Rattle.answer.specs.Order.{in_order};
+ghost use Rattle.types.specs.Check.{value_checks, part_checks, string_checks};
 
 use crate::Value;
 use answer::{NOT_TEXT, NOT_WRITABLE, OUTSIDE};
 
 // Whether a value's numbers lie in their fields: where not, it is 14.
 pub fn writable(value: Value) -> bool
-    ensures { result ≡ writableRecord (recordOf value) }
+    ensures { result ≡ writable_record (record_of value) }
 {
     let kind = value.kind;
     if 16 <= value.flags {
@@ -35,7 +35,7 @@ pub fn writable(value: Value) -> bool
 // Whether the number of a kind that points at no bytes lies in its field, and a boolean has no flags.
 fn in_field(kind: u64, a: u64, flags: u64) -> bool
     requires { (kind < 6) × (flags < 16) }
-    ensures { result ≡ inFlags (shape kind) flags && inFields (shape kind) a 0 }
+    ensures { result ≡ in_flags (shape kind) flags && in_fields (shape kind) a 0 }
 {
     if kind == 0 {
         return a == 0;
@@ -57,7 +57,7 @@ fn in_field(kind: u64, a: u64, flags: u64) -> bool
 
 // Whether a value points inside the buffer, or at no bytes: where not, it is 16.
 pub(crate) fn in_range(value: Value, buffer: &[u8]) -> bool
-    ensures { result ≡ ranged buffer.now (recordOf value) }
+    ensures { result ≡ ranged buffer.now (record_of value) }
 {
     let kind = value.kind;
     if kind < 6 {
@@ -82,7 +82,7 @@ pub(crate) fn part_inside(start: u64, len: u64, buffer: &[u8]) -> bool
 
 // What a string that a record points at is refused with: 16 outside the buffer, 15 where it is not UTF-8; else 0.
 pub fn check_string(start: u64, len: u64, buffer: &[u8]) -> u64
-    ensures { result ≡ inOrder (stringChecks buffer.now start len) 0 }
+    ensures { result ≡ in_order (string_checks buffer.now start len) 0 }
 {
     if !part_inside(start, len, buffer) {
         return OUTSIDE;
@@ -97,7 +97,7 @@ pub fn check_string(start: u64, len: u64, buffer: &[u8]) -> u64
 
 // What a value is refused with past 14: its range, and the text of a string.
 pub fn check_part(value: Value, buffer: &[u8]) -> u64
-    ensures { result ≡ inOrder (partChecks buffer.now (recordOf value)) 0 }
+    ensures { result ≡ in_order (part_checks buffer.now (record_of value)) 0 }
 {
     if value.kind == 8 {
         return check_string(value.a, value.b, buffer);
@@ -110,7 +110,7 @@ pub fn check_part(value: Value, buffer: &[u8]) -> u64
 
 // What a value is refused with: 14, 16 or 15, the first of these that holds; else 0.
 pub fn check_value(value: Value, buffer: &[u8]) -> u64
-    ensures { result ≡ inOrder (valueChecks buffer.now (recordOf value)) 0 }
+    ensures { result ≡ in_order (value_checks buffer.now (record_of value)) 0 }
 {
     if !writable(value) {
         return NOT_WRITABLE;

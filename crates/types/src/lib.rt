@@ -6,7 +6,7 @@ mod read;
 mod write;
 
 ghost use Rattle.std.specs.Prelude.{◌≡◌};
-ghost use Rattle.types.specs.Value.{signExtended};
+ghost use Rattle.types.specs.Value.{sign_extended};
 
 use answer::Refusal;
 pub use check::{check_part, check_string, check_value, writable};
@@ -55,7 +55,7 @@ pub struct Measured {
 
 // The low 32 bits, the highest of them repeated above: what a reader keeps of an i32, and what its number has to be where one is written.
 pub(crate) fn sign_extend(n: u64) -> u64
-    ensures { result ≡ signExtended n }
+    ensures { result ≡ sign_extended n }
 {
     let low = n % 0x1_0000_0000;
     if low < 0x8000_0000 {

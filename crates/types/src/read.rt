@@ -2,7 +2,7 @@
 ghost use Rattle.std.specs.Prelude.{◌≡◌, true, false, cond, ◌+◌, ◌≤◌, ◌<◌, leb, length};
 ghost use Rattle.answer.specs.Answer.{done, refused};
 ghost use Rattle.types.specs.Value.{Width, integer, address, shape, value as aRecord, narrowed};
-ghost use Rattle.types.specs.Promise.{valueSaid, ReadString, TypedData};
+ghost use Rattle.types.specs.Promise.{value_said, ReadString, TypedData};
 ghost use Rattle.types.specs.Inner.{ReadsKind, numbered};
 
 use crate::{StringRead, Value, ValueRead};
@@ -61,7 +61,7 @@ const NUMBERED: u64 = 0x33C;
 fn read_number(kind: u64, flags: u64, input: &[u8]) -> ValueRead
     requires input_nonzero { 0 < length input.now }
     requires kind_value { numbered (shape kind) ≡ true }
-    ensures { ReadsKind kind flags input.now (valueSaid result) }
+    ensures { ReadsKind kind flags input.now (value_said result) }
 {
     match varint::decode_varint(&input[1..]) {
         NumberRead::Refused(r) => {
@@ -84,7 +84,7 @@ fn read_number(kind: u64, flags: u64, input: &[u8]) -> ValueRead
 // An integer whose number is n, and which took so many bytes.
 fn integer_value(kind: u64, flags: u64, n: u64, taken: usize) -> ValueRead
     requires { (2 ≤ kind) × (kind < 6) }
-    ensures { (w : Width) → shape kind ≡ integer w → valueSaid result ≡ done (aRecord kind (narrowed w n) 0 flags) taken }
+    ensures { (w : Width) → shape kind ≡ integer w → value_said result ≡ done (aRecord kind (narrowed w n) 0 flags) taken }
 {
     ValueRead::Done {
         value: Value {
@@ -115,7 +115,7 @@ fn narrow(kind: u64, n: u64) -> u64
 fn read_address(kind: u64, len: usize, flags: u64, input: &[u8]) -> ValueRead
     requires input_nonzero { 0 < length input.now }
     requires kind_value { shape kind ≡ address len }
-    ensures { ReadsKind kind flags input.now (valueSaid result) }
+    ensures { ReadsKind kind flags input.now (value_said result) }
 {
     if input.len() - 1 < len {
         return ValueRead::Refused(Refusal {
@@ -138,7 +138,7 @@ fn read_address(kind: u64, len: usize, flags: u64, input: &[u8]) -> ValueRead
 // A string or a binary of n bytes, which start behind those taken so far.
 fn bytes_value(kind: u64, flags: u64, n: u64, taken: usize, input: &[u8]) -> ValueRead
     requires { taken ≤ length input.now }
-    ensures { valueSaid result ≡ cond (leb (taken + n) (length input.now)) (done (aRecord kind taken n flags) (taken + n)) (refused 3 taken) }
+    ensures { value_said result ≡ cond (leb (taken + n) (length input.now)) (done (aRecord kind taken n flags) (taken + n)) (refused 3 taken) }
 {
     if ((input.len() - taken) as u64) < n {
         return ValueRead::Refused(Refusal {
@@ -173,7 +173,7 @@ fn address_len(kind: u64) -> usize
 fn read_other(kind: u64, flags: u64, input: &[u8]) -> ValueRead
     requires input_nonzero { 0 < length input.now }
     requires kind_value { numbered (shape kind) ≡ false }
-    ensures { ReadsKind kind flags input.now (valueSaid result) }
+    ensures { ReadsKind kind flags input.now (value_said result) }
 {
     if 8 <= kind {
         return ValueRead::Refused(Refusal {

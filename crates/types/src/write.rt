@@ -1,10 +1,10 @@
 // Strings and values, measured and written at the front of some bytes.
 ghost use Rattle.std.specs.Prelude.{◌≡◌, true, List, ℕ, ◌+◌, ◌≤◌, ◌<◌, ◌^◌, leb, length};
 ghost use Rattle.answer.specs.Answer.{written, leaves};
-ghost use Rattle.varint.specs.Number.{numberBytes};
+ghost use Rattle.varint.specs.Number.{number_bytes};
 ghost use Rattle.types.specs.Value.{address, shape};
-ghost use Rattle.types.specs.Form.{stringBytes, dataBytes, type_of, writableRecord, valueAnswer, length_of};
-ghost use Rattle.types.specs.Promise.{recordOf, MeasureValue};
+ghost use Rattle.types.specs.Form.{string_bytes, data_bytes, type_of, writable_record, value_answer, length_of};
+ghost use Rattle.types.specs.Promise.{record_of, MeasureValue};
 ghost use Rattle.types.specs.Inner.{Puts, PutsValue, WhyNot, block};
 ghost use Rattle.answer.specs.Writes.{Writes};
 
@@ -14,7 +14,7 @@ use answer::{NO_ROOM, NOT_WRITABLE, OUTSIDE, Refusal, Written};
 
 // How many bytes the written form of a value has; 0 where it has none.
 pub fn value_len(value: Value, buffer: &[u8]) -> usize
-    ensures { result ≡ length_of (valueAnswer buffer.now (recordOf value)) }
+    ensures { result ≡ length_of (value_answer buffer.now (record_of value)) }
 {
     if !writable(value) {
         return 0;
@@ -41,9 +41,9 @@ pub fn measure_value(value: Value, buffer: &[u8]) -> Measured
 
 // How many bytes the written form of a value has that has one.
 fn form_len(value: Value) -> usize
-    requires value_value { writableRecord (recordOf value) ≡ true }
+    requires value_value { writable_record (record_of value) ≡ true }
     requires b_bound { value.b < 2 ^ 63 }
-    ensures { (bytes : List ℕ) → length bytes ≡ value.b → result ≡ length (dataBytes (shape value.kind) (type_of value.kind value.flags) value.a bytes) }
+    ensures { (bytes : List ℕ) → length bytes ≡ value.b → result ≡ length (data_bytes (shape value.kind) (type_of value.kind value.flags) value.a bytes) }
 {
     let kind = value.kind;
     if kind < 2 {
@@ -61,7 +61,7 @@ fn form_len(value: Value) -> usize
 
 // Writes a string at the front of `out`: its length number and its bytes.
 pub fn write_string(text: &[u8], out: &mut [u8]) -> Written
-    ensures { Writes (written (stringBytes text.now)) result out.old out.new }
+    ensures { Writes (written (string_bytes text.now)) result out.old out.new }
 {
     if !string_fits(text, out.len()) {
         return Written::Refused(Refusal {
@@ -74,7 +74,7 @@ pub fn write_string(text: &[u8], out: &mut [u8]) -> Written
 
 // Whether the written form of a string has at most `room` bytes. Ten beside its own are always enough, and spare the measuring.
 fn string_fits(text: &[u8], room: usize) -> bool
-    ensures { result ≡ leb (length (stringBytes text.now)) room }
+    ensures { result ≡ leb (length (string_bytes text.now)) room }
 {
     let len = text.len();
     if room < len {
@@ -88,7 +88,7 @@ fn string_fits(text: &[u8], room: usize) -> bool
 
 // Writes a value at the front of `out`. It refuses what has no written form; whether a string is UTF-8 is not its to ask.
 pub fn write_value(value: Value, buffer: &[u8], out: &mut [u8]) -> Written
-    ensures { Writes (valueAnswer buffer.now (recordOf value)) result out.old out.new }
+    ensures { Writes (value_answer buffer.now (record_of value)) result out.old out.new }
 {
     let n = put_value(value, buffer, out);
     if n == 0 {
@@ -224,7 +224,7 @@ fn type_byte(kind: u64, flags: u64) -> u8
 
 // Whether a type byte and the written form of n have at most `room` bytes. Eleven are always enough, and spare the measuring.
 fn number_fits(n: u64, room: usize) -> bool
-    ensures { result ≡ leb (1 + length (numberBytes n)) room }
+    ensures { result ≡ leb (1 + length (number_bytes n)) room }
 {
     if 11 <= room {
         return true;
@@ -234,8 +234,8 @@ fn number_fits(n: u64, room: usize) -> bool
 
 // Writes a string where there is room.
 fn put_string(text: &[u8], out: &mut [u8]) -> usize
-    requires { length (stringBytes text.now) ≤ length out.old }
-    ensures { Puts (written (stringBytes text.now)) result out.old out.new }
+    requires { length (string_bytes text.now) ≤ length out.old }
+    ensures { Puts (written (string_bytes text.now)) result out.old out.new }
 {
     let n = answer::wrote(varint::encode_varint(text.len() as u64, out));
     n + put_bytes(text, &mut out[n..])

@@ -17,15 +17,15 @@ abbrev pub no_row : Row
 no_row = row (0 to 0) (0 to 0) 0
 
 -- The code's table has no name here: `lead_row`'s proof holds it to this list, by computing, where a row is read.
-abbrev pub codeRows : List r.Row
-codeRows = map in_code rows
+abbrev pub code_rows : List r.Row
+code_rows = map in_code rows
 
 same_row : (x : Row) → as_row (in_code x) ≡ x
 same_row (row (a to b) (c to d) n) = refl
 
 -- What is left of the table starts with row i of that list: a row comes back from the code's form as it was.
-pub row-at : (i : ℕ) → i < 9 → drop i rows ≡ as_row (get_or codeRows i (in_code no_row)) ∷ drop (i + 1) rows
+pub row_at_lem : (i : ℕ) → i < 9 → drop i rows ≡ as_row (get_or code_rows i (in_code no_row)) ∷ drop (i + 1) rows
 unfolding rows
-row-at i h =
+row_at_lem i h =
     rw (add-one, drop-cons rows i no_row h)
     (ap (λ (x : Row). x ∷ drop (suc i) rows) (sym (ap as_row (get_or-map in_code rows i no_row) ∙ same_row (get_or rows i no_row))))

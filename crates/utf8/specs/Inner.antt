@@ -9,14 +9,14 @@ use Rattle.utf8.specs.declared.Lead as l
 use Rattle.utf8.specs.declared.Lead.TheVariants as v
 use Rattle.utf8.specs.declared.Both as b
 use Rattle.utf8.specs.declared.Both.TheVariants as o
-use Rattle.utf8.specs.Text.{Range, ◌to◌, Row, row, Led, unused, led, Step, ends, char, mark, stepSize, wellFormed, becomes, isUtf8, lossy, sameText}
+use Rattle.utf8.specs.Text.{Range, ◌to◌, Row, row, Led, unused, led, Step, ends, char, mark, step_size, well_formed, becomes, is_utf8, lossy, same_text}
 
 -- a range and a row of the code's table
-abbrev pub asRange : g.Range → Range
-asRange x = x.low to x.high
+abbrev pub as_range : g.Range → Range
+as_range x = x.low to x.high
 
 abbrev pub as_row : r.Row → Row
-as_row x = row (asRange x.lead) (asRange x.second) x.bytes
+as_row x = row (as_range x.lead) (as_range x.second) x.bytes
 
 -- what the code saw at the front of some bytes
 abbrev pub seen : t.Step → Step
@@ -25,9 +25,9 @@ seen (s.Char n) = char n
 seen (s.Mark n) = mark n
 
 -- the row that it found for a first byte
-abbrev pub ledBy : l.Lead → Led
-ledBy v.Unused = unused
-ledBy (v.In x) = led (as_row x)
+abbrev pub led_by : l.Lead → Led
+led_by v.Unused = unused
+led_by (v.In x) = led (as_row x)
 
 -- ---- ASCII
 
@@ -44,16 +44,16 @@ pub record AsciiTo (s : List ℕ) (n : ℕ) : Type 0 where
 
 -- As a step does, x takes some bytes off the front of s, and says what they become.
 pub record Advances (s : List ℕ) (x : Step) : Type 0 where
-  pub text : lossy s ≡ becomes x s ++ lossy (drop (stepSize x) s)
-  pub well : isUtf8 s ≡ wellFormed x && isUtf8 (drop (stepSize x) s)
-  pub there : stepSize x ≤ length s
-  pub moves : 1 ≤ length s → 1 ≤ stepSize x
+  pub text : lossy s ≡ becomes x s ++ lossy (drop (step_size x) s)
+  pub well : is_utf8 s ≡ well_formed x && is_utf8 (drop (step_size x) s)
+  pub there : step_size x ≤ length s
+  pub moves : 1 ≤ length s → 1 ≤ step_size x
 
 -- how many bytes it becomes
-abbrev pub textSize : Step → ℕ
-textSize ends = 0
-textSize (char n) = n
-textSize (mark n) = 3
+abbrev pub text_size : Step → ℕ
+text_size ends = 0
+text_size (char n) = n
+text_size (mark n) = 3
 
 -- ---- each byte beside the three before it
 
@@ -94,5 +94,5 @@ pub record EndsWhole (s : List ℕ) : Type 0 where
 -- The texts differ; or they start in the same way, with m bytes of the first and n of the second, and are the same exactly
 -- where what is left of them is.
 abbrev pub Walks : List ℕ → List ℕ → b.Both → Type 0
-Walks s t o.Apart = sameText s t ≡ false
-Walks s t (o.On m n) = (sameText s t ≡ sameText (drop m s) (drop n t)) × (m ≤ length s) × (n ≤ length t) × (1 ≤ length s → 1 ≤ m)
+Walks s t o.Apart = same_text s t ≡ false
+Walks s t (o.On m n) = (same_text s t ≡ same_text (drop m s) (drop n t)) × (m ≤ length s) × (n ≤ length t) × (1 ≤ length s → 1 ≤ m)

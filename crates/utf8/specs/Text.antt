@@ -37,14 +37,14 @@ unfoldable pub in_range : Range → ℕ → Bool
 in_range (low to high) b = leb low b && leb b high
 
 -- the first byte is there and in the range
-abbrev pub startsIn : Range → List ℕ → Bool
-startsIn p [] = false
-startsIn p (b ∷ s) = in_range p b
+abbrev pub starts_in : Range → List ℕ → Bool
+starts_in p [] = false
+starts_in p (b ∷ s) = in_range p b
 
 -- how many bytes at the front are as these places say
 unfoldable pub matching : List Range → List ℕ → ℕ
 matching [] s = 0
-matching (p ∷ ps) s = cond (startsIn p s) (suc (matching ps (drop 1 s))) 0
+matching (p ∷ ps) s = cond (starts_in p s) (suc (matching ps (drop 1 s))) 0
 
 -- What stands at the front of some bytes: nothing, a well-formed sequence of so many bytes, or a maximal subpart of an
 -- ill-formed one.
@@ -62,31 +62,31 @@ pub data Led : Type 0 where
   unused : Led
   led : Row → Led
 
-unfoldable pub rowFor : List Row → ℕ → Led
-rowFor [] b = unused
-rowFor (row lead second bytes ∷ rs) b = cond (in_range lead b) (led (row lead second bytes)) (rowFor rs b)
+unfoldable pub row_for : List Row → ℕ → Led
+row_for [] b = unused
+row_for (row lead second bytes ∷ rs) b = cond (in_range lead b) (led (row lead second bytes)) (row_for rs b)
 
 -- By the row of the first byte: a maximal subpart is the longest start of a well-formed sequence, or one byte where there is
 -- none (D93b).
-abbrev pub stepFor : Led → List ℕ → Step
-stepFor unused s = mark 1
-stepFor (led r) s = taken (length (places r)) (matching (places r) s)
+abbrev pub step_for : Led → List ℕ → Step
+step_for unused s = mark 1
+step_for (led r) s = taken (length (places r)) (matching (places r) s)
 
 unfoldable pub step : List ℕ → Step
 step [] = ends
-step (b ∷ s) = stepFor (rowFor rows b) (b ∷ s)
+step (b ∷ s) = step_for (row_for rows b) (b ∷ s)
 
 -- how many bytes a step takes
-abbrev pub stepSize : Step → ℕ
-stepSize ends = 0
-stepSize (char n) = n
-stepSize (mark n) = n
+abbrev pub step_size : Step → ℕ
+step_size ends = 0
+step_size (char n) = n
+step_size (mark n) = n
 
 -- whether it is well-formed
-abbrev pub wellFormed : Step → Bool
-wellFormed ends = true
-wellFormed (char n) = true
-wellFormed (mark n) = false
+abbrev pub well_formed : Step → Bool
+well_formed ends = true
+well_formed (char n) = true
+well_formed (mark n) = false
 
 -- U+FFFD, the replacement character
 abbrev pub replacement : List ℕ
@@ -100,26 +100,26 @@ becomes (mark n) s = replacement
 
 -- Step after step, as many as are counted down: `turn` makes something of a step, the bytes that it stands in front of, and
 -- what comes of the bytes behind it.
-unfoldable pub bySteps : {A : Type 0} → (Step → List ℕ → A → A) → A → ℕ → List ℕ → A
-bySteps turn end zero s = end
-bySteps turn end (suc left) s = turn (step s) s (bySteps turn end left (drop (stepSize (step s)) s))
+unfoldable pub by_steps : {A : Type 0} → (Step → List ℕ → A → A) → A → ℕ → List ℕ → A
+by_steps turn end zero s = end
+by_steps turn end (suc left) s = turn (step s) s (by_steps turn end left (drop (step_size (step s)) s))
 
 -- A step takes at least one byte, so there are no more steps than bytes.
 
 -- The bytes are well-formed UTF-8: every step is.
-unfoldable pub isUtf8 : List ℕ → Bool
-isUtf8 s = bySteps (λ x t others. wellFormed x && others) true (length s) s
+unfoldable pub is_utf8 : List ℕ → Bool
+is_utf8 s = by_steps (λ x t others. well_formed x && others) true (length s) s
 
 -- The bytes with each maximal subpart of an ill-formed sequence replaced ("U+FFFD Substitution of Maximal Subparts").
 unfoldable pub lossy : List ℕ → List ℕ
-lossy s = bySteps (λ x t others. becomes x t ++ others) [] (length s) s
+lossy s = by_steps (λ x t others. becomes x t ++ others) [] (length s) s
 
 -- The same bytes, and the same lossy text.
-unfoldable pub sameBytes : List ℕ → List ℕ → Bool
-sameBytes [] [] = true
-sameBytes [] (b ∷ t) = false
-sameBytes (a ∷ s) [] = false
-sameBytes (a ∷ s) (b ∷ t) = eqb a b && sameBytes s t
+unfoldable pub same_bytes : List ℕ → List ℕ → Bool
+same_bytes [] [] = true
+same_bytes [] (b ∷ t) = false
+same_bytes (a ∷ s) [] = false
+same_bytes (a ∷ s) (b ∷ t) = eqb a b && same_bytes s t
 
-unfoldable pub sameText : List ℕ → List ℕ → Bool
-sameText s t = sameBytes (lossy s) (lossy t)
+unfoldable pub same_text : List ℕ → List ℕ → Bool
+same_text s t = same_bytes (lossy s) (lossy t)

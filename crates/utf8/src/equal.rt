@@ -1,6 +1,6 @@
 // Texts that are the same: equal bytes first, and then both lossy texts at once.
 ghost use Rattle.std.specs.Prelude.{◌≡◌, true, ◌&&◌, ◌+◌, ◌≤◌, length, take};
-ghost use Rattle.utf8.specs.Text.{stepSize, becomes, sameBytes, sameText};
+ghost use Rattle.utf8.specs.Text.{step_size, becomes, same_bytes, same_text};
 ghost use Rattle.utf8.specs.Inner.{seen, ascii, Walks};
 
 use crate::replace::step_len;
@@ -10,7 +10,7 @@ use crate::{Both, Step};
 
 // Whether the lossy texts are the same.
 pub fn same_text(a: &[u8], b: &[u8]) -> bool
-    ensures { result ≡ sameText a.now b.now }
+    ensures { result ≡ same_text a.now b.now }
 {
     // The same bytes have the same lossy text, and a comparison of blocks tells them.
     if surely_same(a, b) {
@@ -21,7 +21,7 @@ pub fn same_text(a: &[u8], b: &[u8]) -> bool
 
 // The same, by walking both at once.
 fn same_steps(a: &[u8], b: &[u8]) -> bool
-    ensures { result ≡ sameText a.now b.now }
+    ensures { result ≡ same_text a.now b.now }
 {
     let mut i = 0;
     let mut j = 0;
@@ -73,7 +73,7 @@ fn eights_equal(a: &[u8], b: &[u8], last: usize) -> bool
 fn eight_equal(a: &[u8], b: &[u8]) -> bool
     requires in_bounds { 8 ≤ length a.now }
     requires in_bounds_2 { 8 ≤ length b.now }
-    ensures { result ≡ sameBytes (take 8 a.now) (take 8 b.now) }
+    ensures { result ≡ same_bytes (take 8 a.now) (take 8 b.now) }
 {
     (a[0] == b[0])
         & (a[1] == b[1])
@@ -102,7 +102,7 @@ fn both_stride(a: &[u8], b: &[u8]) -> Both
 fn eight_same(a: &[u8], b: &[u8]) -> bool
     requires in_bounds { 8 ≤ length a.now }
     requires in_bounds_2 { 8 ≤ length b.now }
-    ensures { result ≡ ascii (take 8 a.now) && sameBytes (take 8 a.now) (take 8 b.now) }
+    ensures { result ≡ ascii (take 8 a.now) && same_bytes (take 8 a.now) (take 8 b.now) }
 {
     eight_ascii(a) & eight_equal(a, b)
 }
@@ -121,9 +121,9 @@ fn both_step(a: &[u8], b: &[u8]) -> Both
 
 // Whether two steps at the front of `a` and `b` become the same.
 fn same_start(a: &[u8], x: Step, b: &[u8], y: Step) -> bool
-    requires x_in_bounds { stepSize (seen x) ≤ length a.now }
-    requires y_in_bounds { stepSize (seen y) ≤ length b.now }
-    ensures { result ≡ sameBytes (becomes (seen x) a.now) (becomes (seen y) b.now) }
+    requires x_in_bounds { step_size (seen x) ≤ length a.now }
+    requires y_in_bounds { step_size (seen y) ≤ length b.now }
+    ensures { result ≡ same_bytes (becomes (seen x) a.now) (becomes (seen y) b.now) }
 {
     match x {
         Step::End => starts_as(&[], b, y),
@@ -133,8 +133,8 @@ fn same_start(a: &[u8], x: Step, b: &[u8], y: Step) -> bool
 }
 
 fn starts_as(text: &[u8], b: &[u8], y: Step) -> bool
-    requires { stepSize (seen y) ≤ length b.now }
-    ensures { result ≡ sameBytes text.now (becomes (seen y) b.now) }
+    requires { step_size (seen y) ≤ length b.now }
+    ensures { result ≡ same_bytes text.now (becomes (seen y) b.now) }
 {
     match y {
         Step::End => same_bytes(text, &[]),
@@ -144,7 +144,7 @@ fn starts_as(text: &[u8], b: &[u8], y: Step) -> bool
 }
 
 fn same_bytes(a: &[u8], b: &[u8]) -> bool
-    ensures { result ≡ sameBytes a.now b.now }
+    ensures { result ≡ same_bytes a.now b.now }
 {
     if a.len() != b.len() {
         return false;

@@ -1,8 +1,8 @@
 // Lossy text: each maximal subpart of an ill-formed sequence becomes EF BF BD.
 ghost use Rattle.std.specs.Prelude.{◌≡◌, ◌≤◌, length, leb};
 ghost use Rattle.answer.specs.Answer.{written, leaves};
-ghost use Rattle.utf8.specs.Text.{stepSize, becomes, lossy};
-ghost use Rattle.utf8.specs.Inner.{seen, textSize};
+ghost use Rattle.utf8.specs.Text.{step_size, becomes, lossy};
+ghost use Rattle.utf8.specs.Inner.{seen, text_size};
 ghost use Rattle.answer.specs.Writes.{Writes};
 
 use crate::Step;
@@ -85,7 +85,7 @@ fn write_lossy(bytes: &[u8], out: &mut [u8]) -> usize
 
 // How many bytes a step takes, and how many it becomes.
 pub(crate) fn step_len(x: Step) -> usize
-    ensures { result ≡ stepSize (seen x) }
+    ensures { result ≡ step_size (seen x) }
 {
     match x {
         Step::End => 0,
@@ -95,7 +95,7 @@ pub(crate) fn step_len(x: Step) -> usize
 }
 
 fn text_len(x: Step) -> usize
-    ensures { result ≡ textSize (seen x) }
+    ensures { result ≡ text_size (seen x) }
 {
     match x {
         Step::End => 0,
@@ -106,8 +106,8 @@ fn text_len(x: Step) -> usize
 
 // Writes what a step at the front of `s` becomes, where there is room.
 fn put(s: &[u8], x: Step, out: &mut [u8])
-    requires x_in_bounds { stepSize (seen x) ≤ length s.now }
-    requires x_in_bounds_2 { textSize (seen x) ≤ length out.old }
+    requires x_in_bounds { step_size (seen x) ≤ length s.now }
+    requires x_in_bounds_2 { text_size (seen x) ≤ length out.old }
     ensures { out.new ≡ leaves (written (becomes (seen x) s.now)) out.old }
 {
     match x {

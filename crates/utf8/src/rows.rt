@@ -1,7 +1,7 @@
 // Table 3-7: its nine rows, and the step that stands at the front of some bytes by them.
 ghost use Rattle.std.specs.Prelude.{◌≡◌, suc, ◌-◌, ◌≤◌, length, drop};
-ghost use Rattle.utf8.specs.Text.{rows, rowFor, follow, matching, taken, step};
-ghost use Rattle.utf8.specs.Inner.{asRange, seen, ledBy};
+ghost use Rattle.utf8.specs.Text.{rows, row_for, follow, matching, taken, step};
+ghost use Rattle.utf8.specs.Inner.{as_range, seen, led_by};
 
 use crate::{Lead, Range, Row, Step};
 
@@ -126,7 +126,7 @@ pub(crate) fn front_step(s: &[u8]) -> Step
 }
 
 fn lead_row(lead: u8) -> Lead
-    ensures { ledBy result ≡ rowFor rows lead }
+    ensures { led_by result ≡ row_for rows lead }
 {
     let mut i = 0;
     while i < 9 {
@@ -142,7 +142,7 @@ fn lead_row(lead: u8) -> Lead
 // The step whose first byte is right, in a row of so many bytes and this range for the second.
 fn step_on(s: &[u8], bytes: usize, second: Range) -> Step
     requires { 1 ≤ length s.now }
-    ensures { seen result ≡ taken (suc (bytes - 1)) (suc (matching (follow (bytes - 1) (asRange second)) (drop 1 s.now))) }
+    ensures { seen result ≡ taken (suc (bytes - 1)) (suc (matching (follow (bytes - 1) (as_range second)) (drop 1 s.now))) }
 {
     let mut at = 1;
     let mut low = second.low;

@@ -1,6 +1,6 @@
 // Well-formed text: by each byte and the three before it where there are enough, and else step by step.
 ghost use Rattle.std.specs.Prelude.{◌≡◌, true, ◌+◌, ◌≤◌, length};
-ghost use Rattle.utf8.specs.Text.{isUtf8};
+ghost use Rattle.utf8.specs.Text.{is_utf8};
 ghost use Rattle.utf8.specs.Inner.{Fits, FitTo, FirstFit, EndsWhole};
 
 use crate::Step;
@@ -8,7 +8,7 @@ use crate::run::{ascii_front, stride};
 
 // Whether the bytes are well-formed UTF-8.
 pub fn is_utf8(bytes: &[u8]) -> bool
-    ensures { result ≡ isUtf8 bytes.now }
+    ensures { result ≡ is_utf8 bytes.now }
 {
     if surely_utf8(bytes) {
         return true;
@@ -18,7 +18,7 @@ pub fn is_utf8(bytes: &[u8]) -> bool
 
 // The same, step by step.
 fn steps_whole(bytes: &[u8]) -> bool
-    ensures { result ≡ isUtf8 bytes.now }
+    ensures { result ≡ is_utf8 bytes.now }
 {
     let mut at = 0;
     while at < bytes.len() {
@@ -32,7 +32,7 @@ fn steps_whole(bytes: &[u8]) -> bool
 
 // Whether the bytes are well-formed, without a step. A yes is sure, and a no may be of bytes that are too few.
 pub(crate) fn surely_utf8(bytes: &[u8]) -> bool
-    ensures { result ≡ true → isUtf8 bytes.now ≡ true }
+    ensures { result ≡ true → is_utf8 bytes.now ≡ true }
 {
     let n = ascii_front(bytes);
     if n == bytes.len() {
@@ -44,7 +44,7 @@ pub(crate) fn surely_utf8(bytes: &[u8]) -> bool
 // The same by each byte and the three before it: what a byte may be follows from them alone, so the compiler can take many
 // together. The last block may test some twice.
 fn all_fit(s: &[u8]) -> bool
-    ensures { result ≡ true → isUtf8 s.now ≡ true }
+    ensures { result ≡ true → is_utf8 s.now ≡ true }
 {
     let len = s.len();
     if len < 19 {

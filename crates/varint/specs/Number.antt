@@ -15,15 +15,15 @@ abbrev pub worth : ℕ → ℕ → ℕ
 worth k b = b * 2 ^ (7 * k - 3)
 
 -- A tenth byte has four bits of the 64.
-abbrev pub tenthTooHigh : ℕ → ℕ → Bool
-tenthTooHigh k b = eqb k 9 && ltb 15 b
+abbrev pub tenth_too_high : ℕ → ℕ → Bool
+tenth_too_high k b = eqb k 9 && ltb 15 b
 
 -- The number that goes on with these bytes, after k bytes that add up to sum. Of each byte, in the order of docs/RULES.md: it is
 -- missing (3), it is a tenth that is too high (19), the sum passes 2^64-1 (7); a byte below 128 is the last. So there is no eleventh.
 unfoldable pub more : ℕ → ℕ → List ℕ → Answer ℕ
 more sum k [] = refused 3 k
 more sum k (b ∷ s) =
-    cond (tenthTooHigh k b) (refused 19 (suc k))
+    cond (tenth_too_high k b) (refused 19 (suc k))
     (cond (leb (2 ^ 64) (sum + worth k b)) (refused 7 (suc k))
     (cond (ltb b 128) (done (sum + worth k b) (suc k)) (more (sum + worth k b) (suc k) s)))
 
@@ -39,5 +39,5 @@ groups zero v = []
 groups (suc left) v = cond (ltb v 128) (v ∷ []) ((128 + v % 128) ∷ groups left ((v - 128) / 128))
 
 -- The bytes that a number below 2^64 is written as.
-unfoldable pub numberBytes : ℕ → List ℕ
-numberBytes n = cond (ltb n 240) (n ∷ []) ((240 + n % 16) ∷ groups 9 ((n - 240) / 16))
+unfoldable pub number_bytes : ℕ → List ℕ
+number_bytes n = cond (ltb n 240) (n ∷ []) ((240 + n % 16) ∷ groups 9 ((n - 240) / 16))

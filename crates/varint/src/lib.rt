@@ -3,8 +3,8 @@
 // No public call has a `requires`: each does its own refusing, and a refusal changes no byte.
 ghost use Rattle.std.specs.Prelude.{◌≡◌, ◌≤◌, ◌<◌, ◌^◌, length, drop};
 ghost use Rattle.answer.specs.Answer.{written, leaves};
-ghost use Rattle.varint.specs.Number.{more, groups, numberBytes};
-ghost use Rattle.varint.specs.Promise.{numberSaid, DecodeVarint};
+ghost use Rattle.varint.specs.Number.{more, groups, number_bytes};
+ghost use Rattle.varint.specs.Promise.{number_said, DecodeVarint};
 ghost use Rattle.answer.specs.Writes.{Writes};
 
 use answer::{NO_ROOM, NOT_FITTING, Refusal, TOO_LARGE, TOO_SOON, Written};
@@ -19,7 +19,7 @@ pub enum NumberRead {
 // How many bytes the written form of i has. From 240 on it is counted in steps of 16, whose bits, seven to a byte, leave two lengths: k and k + 1 bytes
 // behind the first. The longer one starts at 2^7 + 2^14 + ... + 2^7k steps, of which 127 128ths are 2^7k - 1.
 pub fn varint_len(i: u64) -> usize
-    ensures { result ≡ length (numberBytes i) }
+    ensures { result ≡ length (number_bytes i) }
 {
     if i < 240 {
         return 1;
@@ -36,7 +36,7 @@ pub fn varint_len(i: u64) -> usize
 
 // Writes i at the front of `out`.
 pub fn encode_varint(i: u64, out: &mut [u8]) -> Written
-    ensures { Writes (written (numberBytes i)) result out.old out.new }
+    ensures { Writes (written (number_bytes i)) result out.old out.new }
 {
     // Ten bytes are always enough, and spare the measuring.
     if out.len() < 10 && out.len() < varint_len(i) {
@@ -92,7 +92,7 @@ pub fn decode_varint(input: &[u8]) -> NumberRead
 // Reads on after a first byte that is not the number itself. Nine bytes cannot add up to more than 64 bits, so the tenth alone is asked.
 fn decode_more(first: u64, input: &[u8]) -> NumberRead
     requires { first < 256 }
-    ensures { numberSaid result ≡ more first 1 (drop 1 input.now) }
+    ensures { number_said result ≡ more first 1 (drop 1 input.now) }
 {
     let mut sum = first;
     let mut used = 1;
@@ -117,7 +117,7 @@ fn decode_more(first: u64, input: &[u8]) -> NumberRead
 
 // Reads a tenth byte, after nine that add up to sum.
 fn decode_tenth(sum: u64, input: &[u8]) -> NumberRead
-    ensures { numberSaid result ≡ more sum 9 (drop 9 input.now) }
+    ensures { number_said result ≡ more sum 9 (drop 9 input.now) }
 {
     if input.len() <= 9 {
         return refused(TOO_SOON, 9);

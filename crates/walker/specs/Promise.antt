@@ -4,7 +4,7 @@ use Rattle.std.specs.Borrow.{Bor}
 use Rattle.walker.specs.declared.Place.{Place}
 use Rattle.walker.specs.declared.Step.{Step}
 use Rattle.walker.specs.declared.Walker.{Walker}
-use Rattle.walker.specs.Walk.{walkStep}
+use Rattle.walker.specs.Walk.{walk_step}
 
 -- a walker holds the borrow that was lent, and the place
 abbrev pub New : Bor (List ℕ) → Place → Walker → Type 0
@@ -15,4 +15,4 @@ Moved w place r = r ≡ record { frame = w.frame; place = place }
 
 -- and `next` takes the step at its place
 abbrev pub Next : Walker → Step → Type 0
-Next w r = r ≡ walkStep w.frame.now w.place
+Next w r = r ≡ walk_step w.frame.now w.place

@@ -4,27 +4,27 @@ use Rattle.std.specs.Prelude.{Bool, true, false, cond, List, ℕ, ◌+◌, ◌-�
 use Rattle.answer.specs.Answer.{Answer, done, refused}
 use Rattle.frame.specs.declared.Pair.{Pair}
 use Rattle.frame.specs.declared.Message.{Message}
-use Rattle.frame.specs.Read.{numberFrom}
-use Rattle.payload.specs.Pair.{pairFrom}
+use Rattle.frame.specs.Read.{number_from}
+use Rattle.payload.specs.Pair.{pair_from}
 use Rattle.walker.specs.declared.Place.{Place}
 use Rattle.walker.specs.declared.Step.{Step}
 use Rattle.walker.specs.declared.Step.TheVariants as v
 
 -- where a number ends that stands at a place; the end of the bytes where none can be read
-abbrev pub endOr : ℕ → Answer ℕ → ℕ
-endOr last (done x end) = end
-endOr last (refused n place) = last
+abbrev pub end_or : ℕ → Answer ℕ → ℕ
+end_or last (done x end) = end
+end_or last (refused n place) = last
 
-abbrev pub behindNumber : List ℕ → ℕ → ℕ
-behindNumber s at = endOr (length s) (numberFrom at s)
+abbrev pub behind_number : List ℕ → ℕ → ℕ
+behind_number s at = end_or (length s) (number_from at s)
 
 -- A frame's KV list starts behind its two numbers, the first of which stands behind the length bytes, the type and the flags.
-unfoldable pub kvOf : List ℕ → Place
-kvOf s = record { at = behindNumber s (behindNumber s 9); left = 0; kv = true }
+unfoldable pub kv_of : List ℕ → Place
+kv_of s = record { at = behind_number s (behind_number s 9); left = 0; kv = true }
 
 -- A message's arguments start behind its name and its count byte. Places are 64-bit numbers.
-unfoldable pub argumentsPlace : Message → Place
-argumentsPlace m =
+unfoldable pub arguments_place : Message → Place
+arguments_place m =
     let at = m.start + m.len + 1 in
     record { at = cond (ltb at (2 ^ 64)) at (2 ^ 64 - 1); left = m.count; kv = false }
 
@@ -33,13 +33,13 @@ abbrev pub comes : List ℕ → Place → Bool
 comes s x = cond x.kv (ltb x.at (length s)) (ltb 0 x.left)
 
 -- where the walk goes on behind a pair that ends there
-abbrev pub afterPlace : Place → ℕ → Place
-afterPlace x end = record { at = end; left = x.left - 1; kv = x.kv }
+abbrev pub after_place : Place → ℕ → Place
+after_place x end = record { at = end; left = x.left - 1; kv = x.kv }
 
-abbrev pub stepSaid : Place → Answer Pair → Step
-stepSaid x (done p end) = v.Found p (afterPlace x end)
-stepSaid x (refused n place) = v.Refused (record { number = n; place = place })
+abbrev pub step_said : Place → Answer Pair → Step
+step_said x (done p end) = v.Found p (after_place x end)
+step_said x (refused n place) = v.Refused (record { number = n; place = place })
 
 -- The step: the pair that stands at the place, where one is to come.
-unfoldable pub walkStep : List ℕ → Place → Step
-walkStep s x = cond (comes s x) (stepSaid x (pairFrom x.at s)) v.End
+unfoldable pub walk_step : List ℕ → Place → Step
+walk_step s x = cond (comes s x) (step_said x (pair_from x.at s)) v.End

@@ -1,6 +1,6 @@
 // A walker over the pairs of a KV list or of a message. Its step takes it apart and calls `step_at`, which reads the pair at a place.
 ghost use Rattle.std.specs.Prelude.{◌≡◌};
-ghost use Rattle.walker.specs.Walk.{comes, afterPlace, walkStep, behindNumber, argumentsPlace, kvOf};
+ghost use Rattle.walker.specs.Walk.{comes, after_place, walk_step, behind_number, arguments_place, kv_of};
 ghost use Rattle.walker.specs.Promise.{New, Moved, Next};
 
 use crate::{Place, Step, Walker};
@@ -10,7 +10,7 @@ use varint::NumberRead;
 
 // Where the number that stands at `at` ends; the end of the bytes where none does.
 fn behind_number(frame: &[u8], at: usize) -> usize
-    ensures { result ≡ behindNumber frame.now at }
+    ensures { result ≡ behind_number frame.now at }
 {
     let end = frame.len();
     if end < at {
@@ -28,7 +28,7 @@ fn behind_number(frame: &[u8], at: usize) -> usize
 
 // The place of the KV list of a frame, which stands behind the numbers of its stream and of the frame in it.
 pub fn kv_of(frame: &[u8]) -> Place
-    ensures { result ≡ kvOf frame.now }
+    ensures { result ≡ kv_of frame.now }
 {
     Place {
         at: behind_number(frame, behind_number(frame, 9)),
@@ -39,7 +39,7 @@ pub fn kv_of(frame: &[u8]) -> Place
 
 // The place of a message's arguments, which stand behind its name and its count byte.
 pub fn arguments_of(message: Message) -> Place
-    ensures { result ≡ argumentsPlace message }
+    ensures { result ≡ arguments_place message }
 {
     let start = message.start;
     let len = message.len;
@@ -69,7 +69,7 @@ fn to_come(frame: &[u8], place: Place) -> bool
 
 // Where the walk goes on behind a pair that ends there.
 fn after(place: Place, end: usize) -> Place
-    ensures { result ≡ afterPlace place end }
+    ensures { result ≡ after_place place end }
 {
     let mut left = place.left;
     if 0 < left {
@@ -84,7 +84,7 @@ fn after(place: Place, end: usize) -> Place
 
 // The step of a walk over the pairs of these bytes.
 pub(crate) fn step_at(frame: &[u8], place: Place) -> Step
-    ensures { result ≡ walkStep frame.now place }
+    ensures { result ≡ walk_step frame.now place }
 {
     if !to_come(frame, place) {
         return Step::End;
@@ -128,7 +128,7 @@ pub fn next<'a>(w: Walker<'a>) -> Step
 
 // The step of a walker that is made for it: for callers that hold plain slices.
 pub fn step_from(frame: &[u8], place: Place) -> Step
-    ensures { result ≡ walkStep frame.now place }
+    ensures { result ≡ walk_step frame.now place }
 {
     next(new(frame, place))
 }

@@ -8,119 +8,119 @@ use lib.Dec.{eqb}
 use lib.ListN.{length}
 use borrow.Author.Tests.{le-leb, lt-leb, eq-eqb, ne_eqb, eqb-true, eqb-false}
 use Rattle.answer.specs.Answer.{Answer, refused}
-use Rattle.answer.specs.Order.{Check, inOrder, eachInOrder}
+use Rattle.answer.specs.Order.{Check, in_order, each_in_order}
 use Rattle.answer.specs.Inner.{Sound}
 use Rattle.answer.specs.Table.{holds}
-use Rattle.answer.proofs.Cases.{bool_cases, true-false}
-use Rattle.answer.proofs.Order.{each-pass}
+use Rattle.answer.proofs.Cases.{bool_cases, true_false}
+use Rattle.answer.proofs.Order.{each_pass}
 use Rattle.frame.specs.declared.Head.{Head}
-use Rattle.frame.specs.Records.{pairWidth, actionWidth, messageWidth}
-use Rattle.writer.specs.Pair.{kvChecks}
-use Rattle.writer.specs.Inner.{pairOrder, actionOrder, messageOrder}
-use Rattle.writer.specs.Frame.{limited, finAlone, agentAllowed, kvAllowed, pairsBytes, kvAnswer, actionsBytes, actionsAnswer, messagesBytes, notifyAnswer}
+use Rattle.frame.specs.Records.{pair_width, action_width, message_width}
+use Rattle.writer.specs.Pair.{kv_checks}
+use Rattle.writer.specs.Inner.{pair_order, action_order, message_order}
+use Rattle.writer.specs.Frame.{limited, fin_alone, agent_allowed, kv_allowed, pairs_bytes, kv_answer, actions_bytes, actions_answer, messages_bytes, notify_answer}
 
 -- ---- which metadata is writable
 
 module _ (h : Head) where
-  pub kv-haproxy-hello : h.frame_type ≡ 1 → kvAllowed h ≡ true
-  unfolding kvAllowed
-  kv-haproxy-hello e = simp (eq-eqb h.frame_type 1 e)
+  pub kv_haproxy_hello : h.frame_type ≡ 1 → kv_allowed h ≡ true
+  unfolding kv_allowed
+  kv_haproxy_hello e = simp (eq-eqb h.frame_type 1 e)
 
-  pub kv-haproxy-disconnect : h.frame_type ≡ 2 → kvAllowed h ≡ true
-  unfolding kvAllowed
-  kv-haproxy-disconnect e = rw e
+  pub kv_haproxy_disconnect : h.frame_type ≡ 2 → kv_allowed h ≡ true
+  unfolding kv_allowed
+  kv_haproxy_disconnect e = rw e
 
-  pub kv-agent-hello : h.frame_type ≡ 101 → kvAllowed h ≡ agentAllowed h
-  unfolding kvAllowed
-  kv-agent-hello e = rw e
+  pub kv_agent_hello : h.frame_type ≡ 101 → kv_allowed h ≡ agent_allowed h
+  unfolding kv_allowed
+  kv_agent_hello e = rw e
 
-  pub kv-agent-disconnect : h.frame_type ≡ 102 → kvAllowed h ≡ agentAllowed h
-  unfolding kvAllowed
-  kv-agent-disconnect e = rw e
+  pub kv_agent_disconnect : h.frame_type ≡ 102 → kv_allowed h ≡ agent_allowed h
+  unfolding kv_allowed
+  kv_agent_disconnect e = rw e
 
-  pub kv-other : (h.frame_type ≡ 1 → ⊥) → (h.frame_type ≡ 2 → ⊥) → (h.frame_type ≡ 101 → ⊥) → (h.frame_type ≡ 102 → ⊥) → kvAllowed h ≡ false
-  unfolding kvAllowed
-  kv-other a b c d = rw (ne_eqb h.frame_type 1 a, ne_eqb h.frame_type 2 b, ne_eqb h.frame_type 101 c, ne_eqb h.frame_type 102 d)
+  pub kv_other : (h.frame_type ≡ 1 → ⊥) → (h.frame_type ≡ 2 → ⊥) → (h.frame_type ≡ 101 → ⊥) → (h.frame_type ≡ 102 → ⊥) → kv_allowed h ≡ false
+  unfolding kv_allowed
+  kv_other a b c d = rw (ne_eqb h.frame_type 1 a, ne_eqb h.frame_type 2 b, ne_eqb h.frame_type 101 c, ne_eqb h.frame_type 102 d)
 
   -- a writable type is one byte
-  pub kv-type : kvAllowed h ≡ true → h.frame_type < 256
-  kv-type e =
+  pub kv_type : kv_allowed h ≡ true → h.frame_type < 256
+  kv_type e =
       bool_cases (eqb h.frame_type 1) (λ t. omega (arith, eqb-true h.frame_type 1 t))
       (λ a. bool_cases (eqb h.frame_type 2) (λ t. omega (arith, eqb-true h.frame_type 2 t))
       (λ b. bool_cases (eqb h.frame_type 101) (λ t. omega (arith, eqb-true h.frame_type 101 t))
       (λ c. bool_cases (eqb h.frame_type 102) (λ t. omega (arith, eqb-true h.frame_type 102 t))
       (λ d.
-      true-false e (kv-other (eqb-false h.frame_type 1 a) (eqb-false h.frame_type 2 b) (eqb-false h.frame_type 101 c) (eqb-false h.frame_type 102 d))))))
+      true_false e (kv_other (eqb-false h.frame_type 1 a) (eqb-false h.frame_type 2 b) (eqb-false h.frame_type 101 c) (eqb-false h.frame_type 102 d))))))
 
 -- ---- metadata, a count of records, and then the records in their order
 
 -- the answer of a list of records: which metadata is allowed, how wide a record is, what refuses one and what comes after
-abbrev pub listAnswer : Bool → ℕ → List ℕ → ℕ → (ℕ → List Check) → Answer (List ℕ) → Answer (List ℕ)
-listAnswer allowed width table count checks a =
-    inOrder ((refused 14 0, allowed) ∷ (refused 16 0, holds width table count) ∷ []) (eachInOrder checks 0 count a)
+abbrev pub list_answer : Bool → ℕ → List ℕ → ℕ → (ℕ → List Check) → Answer (List ℕ) → Answer (List ℕ)
+list_answer allowed width table count checks a =
+    in_order ((refused 14 0, allowed) ∷ (refused 16 0, holds width table count) ∷ []) (each_in_order checks 0 count a)
 
 module _ (allowed : Bool) (width : ℕ) (table : List ℕ) (count : ℕ) (checks : ℕ → List Check) (a : Answer (List ℕ)) where
-  pub list-metadata : allowed ≡ false → listAnswer allowed width table count checks a ≡ refused 14 0
-  unfolding inOrder
-  list-metadata e = rw e
+  pub list_metadata : allowed ≡ false → list_answer allowed width table count checks a ≡ refused 14 0
+  unfolding in_order
+  list_metadata e = rw e
 
-  pub list_count : allowed ≡ true → length table < count * width → listAnswer allowed width table count checks a ≡ refused 16 0
-  unfolding inOrder
+  pub list_count : allowed ≡ true → length table < count * width → list_answer allowed width table count checks a ≡ refused 16 0
+  unfolding in_order
   list_count e l = rw (e, lt-leb (count * width) (length table) l)
 
-  pub list_held : allowed ≡ true → count * width ≤ length table → listAnswer allowed width table count checks a ≡ eachInOrder checks 0 count a
-  unfolding inOrder
+  pub list_held : allowed ≡ true → count * width ≤ length table → list_answer allowed width table count checks a ≡ each_in_order checks 0 count a
+  unfolding in_order
   list_held e l = rw (e, le-leb (count * width) (length table) l)
 
 -- both writers of one list have such an answer
-pub kv-list : (h : Head) (limit : ℕ) (buffer pairs : List ℕ) (count : ℕ)
-    → kvAnswer h limit buffer pairs count ≡ listAnswer (kvAllowed h) pairWidth pairs count (kvChecks buffer pairs) (limited limit h (pairsBytes buffer pairs count))
-unfolding kvAnswer
-kv-list h limit buffer pairs count = refl
+pub kv_list : (h : Head) (limit : ℕ) (buffer pairs : List ℕ) (count : ℕ)
+    → kv_answer h limit buffer pairs count ≡ list_answer (kv_allowed h) pair_width pairs count (kv_checks buffer pairs) (limited limit h (pairs_bytes buffer pairs count))
+unfolding kv_answer
+kv_list h limit buffer pairs count = refl
 
-pub actions-list : (h : Head) (limit : ℕ) (buffer actions : List ℕ) (count : ℕ)
-    → actionsAnswer h limit buffer actions count ≡ listAnswer (finAlone h) actionWidth actions count (actionOrder buffer actions) (limited limit h (actionsBytes buffer actions count))
-unfolding actionsAnswer
-actions-list h limit buffer actions count = refl
+pub actions_list : (h : Head) (limit : ℕ) (buffer actions : List ℕ) (count : ℕ)
+    → actions_answer h limit buffer actions count ≡ list_answer (fin_alone h) action_width actions count (action_order buffer actions) (limited limit h (actions_bytes buffer actions count))
+unfolding actions_answer
+actions_list h limit buffer actions count = refl
 
 -- ---- the NOTIFY writer's answer
 
 module _ (h : Head) (limit : ℕ) (buffer messages : List ℕ) (count : ℕ) (pairs : List ℕ) (total : ℕ) where
   -- what comes after the lines of the frame, and after the messages
-  abbrev pub notifyArguments : Answer (List ℕ)
-  notifyArguments = eachInOrder (pairOrder buffer pairs) 0 total (limited limit h (messagesBytes buffer messages count pairs))
+  abbrev pub notify_arguments : Answer (List ℕ)
+  notify_arguments = each_in_order (pair_order buffer pairs) 0 total (limited limit h (messages_bytes buffer messages count pairs))
 
-  abbrev pub notifyRecords : Answer (List ℕ)
-  notifyRecords = eachInOrder (messageOrder buffer total messages count) 0 count notifyArguments
+  abbrev pub notify_records : Answer (List ℕ)
+  notify_records = each_in_order (message_order buffer total messages count) 0 count notify_arguments
 
-  pub notify-metadata : finAlone h ≡ false → notifyAnswer h limit buffer messages count pairs total ≡ refused 14 0
-  unfolding notifyAnswer inOrder
-  notify-metadata e = rw e
+  pub notify_metadata : fin_alone h ≡ false → notify_answer h limit buffer messages count pairs total ≡ refused 14 0
+  unfolding notify_answer in_order
+  notify_metadata e = rw e
 
-  module _ (e : finAlone h ≡ true) where
-    pub notify-messages : length messages < count * messageWidth → notifyAnswer h limit buffer messages count pairs total ≡ refused 16 0
-    unfolding notifyAnswer inOrder
-    notify-messages l = rw (e, lt-leb (count * messageWidth) (length messages) l)
+  module _ (e : fin_alone h ≡ true) where
+    pub notify_messages : length messages < count * message_width → notify_answer h limit buffer messages count pairs total ≡ refused 16 0
+    unfolding notify_answer in_order
+    notify_messages l = rw (e, lt-leb (count * message_width) (length messages) l)
 
-    module _ (m : count * messageWidth ≤ length messages) where
-      pub notify-pairs : length pairs < total * pairWidth → notifyAnswer h limit buffer messages count pairs total ≡ refused 16 0
-      unfolding notifyAnswer inOrder
-      notify-pairs l = rw (e, le-leb (count * messageWidth) (length messages) m, lt-leb (total * pairWidth) (length pairs) l)
+    module _ (m : count * message_width ≤ length messages) where
+      pub notify_pairs : length pairs < total * pair_width → notify_answer h limit buffer messages count pairs total ≡ refused 16 0
+      unfolding notify_answer in_order
+      notify_pairs l = rw (e, le-leb (count * message_width) (length messages) m, lt-leb (total * pair_width) (length pairs) l)
 
-      module _ (p : total * pairWidth ≤ length pairs) where
-        pub notify-stray : not (eqb count 0) || eqb total 0 ≡ false → notifyAnswer h limit buffer messages count pairs total ≡ refused 14 0
-        unfolding notifyAnswer inOrder
-        notify-stray s = rw (e, le-leb (count * messageWidth) (length messages) m, le-leb (total * pairWidth) (length pairs) p, s)
+      module _ (p : total * pair_width ≤ length pairs) where
+        pub notify_stray : not (eqb count 0) || eqb total 0 ≡ false → notify_answer h limit buffer messages count pairs total ≡ refused 14 0
+        unfolding notify_answer in_order
+        notify_stray s = rw (e, le-leb (count * message_width) (length messages) m, le-leb (total * pair_width) (length pairs) p, s)
 
         module _ (s : not (eqb count 0) || eqb total 0 ≡ true) where
-          pub notify-held : notifyAnswer h limit buffer messages count pairs total ≡ notifyRecords
-          unfolding notifyAnswer inOrder
-          notify-held = rw (e, le-leb (count * messageWidth) (length messages) m, le-leb (total * pairWidth) (length pairs) p, s)
+          pub notify_held : notify_answer h limit buffer messages count pairs total ≡ notify_records
+          unfolding notify_answer in_order
+          notify_held = rw (e, le-leb (count * message_width) (length messages) m, le-leb (total * pair_width) (length pairs) p, s)
 
-          module _ (sound : Sound (messageOrder buffer total messages count) count) where
-            pub notify-named : notifyAnswer h limit buffer messages count pairs total ≡ notifyArguments
-            notify-named = notify-held ∙ each-pass (messageOrder buffer total messages count) notifyArguments count sound
+          module _ (sound : Sound (message_order buffer total messages count) count) where
+            pub notify_named : notify_answer h limit buffer messages count pairs total ≡ notify_arguments
+            notify_named = notify_held ∙ each_pass (message_order buffer total messages count) notify_arguments count sound
 
-            pub notify-passed : Sound (pairOrder buffer pairs) total
-                → notifyAnswer h limit buffer messages count pairs total ≡ limited limit h (messagesBytes buffer messages count pairs)
-            notify-passed passed = notify-named ∙ each-pass (pairOrder buffer pairs) (limited limit h (messagesBytes buffer messages count pairs)) total passed
+            pub notify_passed : Sound (pair_order buffer pairs) total
+                → notify_answer h limit buffer messages count pairs total ≡ limited limit h (messages_bytes buffer messages count pairs)
+            notify_passed passed = notify_named ∙ each_pass (pair_order buffer pairs) (limited limit h (messages_bytes buffer messages count pairs)) total passed

@@ -6,25 +6,25 @@
 use Rattle.std.specs.Prelude.{Bool, not, List, [], ◌∷◌, ◌++◌, ℕ}
 use Rattle.answer.specs.Order.{Check}
 use Rattle.answer.specs.Table.{records, some}
-use Rattle.types.specs.Form.{stringBytes, valueBytes, writableRecord}
-use Rattle.types.specs.Check.{stringChecks, partChecks}
-use Rattle.types.specs.Promise.{recordOf}
+use Rattle.types.specs.Form.{string_bytes, value_bytes, writable_record}
+use Rattle.types.specs.Check.{string_checks, part_checks}
+use Rattle.types.specs.Promise.{record_of}
 use Rattle.frame.specs.declared.Pair.{Pair}
-use Rattle.frame.specs.Records.{pair_at, key_of, sameKey}
+use Rattle.frame.specs.Records.{pair_at, key_of, same_key}
 
-unfoldable pub pairBytes : List ℕ → Pair → List ℕ
-pairBytes buffer p = stringBytes (key_of buffer p) ++ valueBytes buffer (recordOf p.value)
+unfoldable pub pair_bytes : List ℕ → Pair → List ℕ
+pair_bytes buffer p = string_bytes (key_of buffer p) ++ value_bytes buffer (record_of p.value)
 
 -- the value's numbers; the key's range and text; the value's range and text
-abbrev pub pairChecks : List ℕ → Pair → List Check
-pairChecks buffer p =
-    (14, writableRecord (recordOf p.value))
-    ∷ (stringChecks buffer p.start p.len ++ partChecks buffer (recordOf p.value))
+abbrev pub pair_checks : List ℕ → Pair → List Check
+pair_checks buffer p =
+    (14, writable_record (record_of p.value))
+    ∷ (string_checks buffer p.start p.len ++ part_checks buffer (record_of p.value))
 
 -- whether pair i has a key that none before it has
-unfoldable pub newKey : List ℕ → List ℕ → ℕ → Bool
-newKey buffer pairs i = not (some (sameKey buffer (pair_at pairs i)) (records (pair_at pairs) 0 i))
+unfoldable pub new_key : List ℕ → List ℕ → ℕ → Bool
+new_key buffer pairs i = not (some (same_key buffer (pair_at pairs i)) (records (pair_at pairs) 0 i))
 
 -- what pair i of a KV list is refused with: its keys are met once
-abbrev pub kvChecks : List ℕ → List ℕ → ℕ → List Check
-kvChecks buffer pairs i = pairChecks buffer (pair_at pairs i) ++ ((9, newKey buffer pairs i) ∷ [])
+abbrev pub kv_checks : List ℕ → List ℕ → ℕ → List Check
+kv_checks buffer pairs i = pair_checks buffer (pair_at pairs i) ++ ((9, new_key buffer pairs i) ∷ [])

@@ -3,11 +3,11 @@ ghost use Rattle.std.specs.Prelude.{◌≡◌, [], ◌∷◌, ◌+◌, ◌*◌, 
 ghost use Rattle.answer.specs.Answer.{written, leaves};
 ghost use Rattle.answer.specs.Writes.{Writes};
 ghost use Rattle.answer.specs.Inner.{Passes, Sound};
-ghost use Rattle.types.specs.Promise.{recordOf};
-ghost use Rattle.frame.specs.Records.{actionWidth};
-ghost use Rattle.writer.specs.Action.{noValue, actionWritable, actionBytes, actionChecks};
-ghost use Rattle.writer.specs.Frame.{limited, actionsBytes, headOf, actionsAnswer};
-ghost use Rattle.writer.specs.Inner.{capped, actionOrder, Measures, Checks};
+ghost use Rattle.types.specs.Promise.{record_of};
+ghost use Rattle.frame.specs.Records.{action_width};
+ghost use Rattle.writer.specs.Action.{no_value, action_writable, action_bytes, action_checks};
+ghost use Rattle.writer.specs.Frame.{limited, actions_bytes, head_of, actions_answer};
+ghost use Rattle.writer.specs.Inner.{capped, action_order, Measures, Checks};
 
 use crate::pair::{measure_pair, put_pair};
 use crate::{Checked, begin_frame, cap, fin_alone, head_of};
@@ -16,8 +16,8 @@ use frame::{ACTION_WIDTH, Action, Head, SET_VAR, UNSET_VAR};
 use types::{Measured, Value};
 
 // Whether a value's four numbers are 0.
-fn no_value(value: Value) -> bool
-    ensures { result ≡ noValue (recordOf value) }
+fn no_value_lem(value: Value) -> bool
+    ensures { result ≡ no_value (record_of value) }
 {
     if value.kind != 0 {
         return false;
@@ -33,7 +33,7 @@ fn no_value(value: Value) -> bool
 
 // Whether an action's own numbers lie in their fields.
 fn action_writable(action: Action) -> bool
-    ensures { result ≡ actionWritable action }
+    ensures { result ≡ action_writable action }
 {
     if 4 < action.scope {
         return false;
@@ -44,12 +44,12 @@ fn action_writable(action: Action) -> bool
     if action.verb != UNSET_VAR {
         return false;
     }
-    no_value(action.pair.value)
+    no_value_lem(action.pair.value)
 }
 
 // What an action is refused with: 14, 16 or 15, the first that holds; else 0, and how many bytes its written form has, as far as it matters.
 fn measure_action(action: Action, buffer: &[u8], most: u32) -> Measured
-    ensures { Measures (actionChecks buffer.now action) most (actionBytes buffer.now action) result }
+    ensures { Measures (action_checks buffer.now action) most (action_bytes buffer.now action) result }
 {
     if !action_writable(action) {
         return Measured {
@@ -79,8 +79,8 @@ fn measure_action(action: Action, buffer: &[u8], most: u32) -> Measured
 
 // The first action that is refused, or how many bytes all have.
 fn check_actions(actions: &[u64], count: usize, buffer: &[u8], most: u32) -> Checked
-    requires { count * actionWidth ≤ length actions.now }
-    ensures { Checks (actionOrder buffer.now actions.now) count most (actionsBytes buffer.now actions.now count) result }
+    requires { count * action_width ≤ length actions.now }
+    ensures { Checks (action_order buffer.now actions.now) count most (actions_bytes buffer.now actions.now count) result }
 {
     let mut len = 0;
     let mut i = 0;
@@ -118,10 +118,10 @@ fn put_three(a: u8, b: u8, c: u8, out: &mut [u8])
 
 // Writes an action where there is room.
 fn put_action(action: Action, buffer: &[u8], out: &mut [u8]) -> usize
-    requires passes { Passes (actionChecks buffer.now action) }
-    requires action_in_bounds { length (actionBytes buffer.now action) ≤ length out.old }
-    ensures value { result ≡ length (actionBytes buffer.now action) }
-    ensures out_after { out.new ≡ leaves (written (actionBytes buffer.now action)) out.old }
+    requires passes { Passes (action_checks buffer.now action) }
+    requires action_in_bounds { length (action_bytes buffer.now action) ≤ length out.old }
+    ensures value { result ≡ length (action_bytes buffer.now action) }
+    ensures out_after { out.new ≡ leaves (written (action_bytes buffer.now action)) out.old }
 {
     if action.verb == SET_VAR {
         put_three(1, 3, action.scope as u8, out);
@@ -135,11 +135,11 @@ fn put_action(action: Action, buffer: &[u8], out: &mut [u8]) -> usize
 
 // Writes the first records of a table, one after the other, where there is room.
 fn put_actions(actions: &[u64], count: usize, buffer: &[u8], out: &mut [u8]) -> usize
-    requires action_width_in_bounds { count * actionWidth ≤ length actions.now }
-    requires sound { Sound (actionOrder buffer.now actions.now) count }
-    requires count_in_bounds { length (actionsBytes buffer.now actions.now count) ≤ length out.old }
-    ensures value { result ≡ length (actionsBytes buffer.now actions.now count) }
-    ensures out_after { out.new ≡ leaves (written (actionsBytes buffer.now actions.now count)) out.old }
+    requires action_width_in_bounds { count * action_width ≤ length actions.now }
+    requires sound { Sound (action_order buffer.now actions.now) count }
+    requires count_in_bounds { length (actions_bytes buffer.now actions.now count) ≤ length out.old }
+    ensures value { result ≡ length (actions_bytes buffer.now actions.now count) }
+    ensures out_after { out.new ≡ leaves (written (actions_bytes buffer.now actions.now count)) out.old }
 {
     let mut at = 0;
     let mut i = 0;
@@ -162,7 +162,7 @@ pub fn write_actions(
     action_count: u64,
     out: &mut [u8],
 ) -> Written
-    ensures { Writes (actionsAnswer (headOf 103 fin abort stream_id frame_id) limit buffer.now actions.now action_count) result out.old out.new }
+    ensures { Writes (actions_answer (head_of 103 fin abort stream_id frame_id) limit buffer.now actions.now action_count) result out.old out.new }
 {
     if !fin_alone(fin, abort) {
         return Written::Refused(Refusal {
@@ -196,10 +196,10 @@ fn action_frame(
     count: usize,
     out: &mut [u8],
 ) -> Written
-    requires action_width_in_bounds { count * actionWidth ≤ length actions.now }
-    requires sound { Sound (actionOrder buffer.now actions.now) count }
-    requires len_value { len ≡ capped limit (length (actionsBytes buffer.now actions.now count)) }
-    ensures { Writes (limited limit head (actionsBytes buffer.now actions.now count)) result out.old out.new }
+    requires action_width_in_bounds { count * action_width ≤ length actions.now }
+    requires sound { Sound (action_order buffer.now actions.now) count }
+    requires len_value { len ≡ capped limit (length (actions_bytes buffer.now actions.now count)) }
+    ensures { Writes (limited limit head (actions_bytes buffer.now actions.now count)) result out.old out.new }
 {
     let begun = begin_frame(head, len, limit, out);
     match begun {

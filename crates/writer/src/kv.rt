@@ -3,10 +3,10 @@ ghost use Rattle.std.specs.Prelude.{◌≡◌, ◌+◌, ◌*◌, ◌≤◌, leng
 ghost use Rattle.answer.specs.Writes.{Writes};
 ghost use Rattle.answer.specs.Table.{records, some};
 ghost use Rattle.answer.specs.Inner.{Sound};
-ghost use Rattle.frame.specs.Records.{pairWidth, pair_at, sameKey};
-ghost use Rattle.writer.specs.Pair.{kvChecks};
-ghost use Rattle.writer.specs.Frame.{headOf, limited, agentAllowed, kvAllowed, pairsBytes, kvAnswer};
-ghost use Rattle.writer.specs.Inner.{capped, pairOrder, Checks, FormedRun};
+ghost use Rattle.frame.specs.Records.{pair_width, pair_at, same_key};
+ghost use Rattle.writer.specs.Pair.{kv_checks};
+ghost use Rattle.writer.specs.Frame.{head_of, limited, agent_allowed, kv_allowed, pairs_bytes, kv_answer};
+ghost use Rattle.writer.specs.Inner.{capped, pair_order, Checks, FormedRun};
 
 use crate::pair::{measure_pair, put_pairs};
 use crate::{Checked, begin_frame, cap, fin_alone, head_of};
@@ -17,7 +17,7 @@ use frame::{Head, PAIR_WIDTH, Pair};
 fn same_key(p: Pair, q: Pair, buffer: &[u8]) -> bool
     requires len_in_bounds { p.start + p.len ≤ length buffer.now }
     requires len_in_bounds_2 { q.start + q.len ≤ length buffer.now }
-    ensures { result ≡ sameKey buffer.now p q }
+    ensures { result ≡ same_key buffer.now p q }
 {
     let from = p.start as usize;
     let to = from + p.len as usize;
@@ -28,9 +28,9 @@ fn same_key(p: Pair, q: Pair, buffer: &[u8]) -> bool
 
 // Whether the key of record i is that of an earlier record.
 fn key_met(pairs: &[u64], i: usize, buffer: &[u8]) -> bool
-    requires pair_width_in_bounds { i * pairWidth + pairWidth ≤ length pairs.now }
-    requires sound { Sound (pairOrder buffer.now pairs.now) (i + 1) }
-    ensures { result ≡ some (sameKey buffer.now (pair_at pairs.now i)) (records (pair_at pairs.now) 0 i) }
+    requires pair_width_in_bounds { i * pair_width + pair_width ≤ length pairs.now }
+    requires sound { Sound (pair_order buffer.now pairs.now) (i + 1) }
+    ensures { result ≡ some (same_key buffer.now (pair_at pairs.now i)) (records (pair_at pairs.now) 0 i) }
 {
     let pair = frame::pair_at(pairs, i);
     let mut j = 0;
@@ -45,8 +45,8 @@ fn key_met(pairs: &[u64], i: usize, buffer: &[u8]) -> bool
 
 // The first record of a KV list that is refused, or how many bytes the list has.
 fn check_pairs(pairs: &[u64], count: usize, buffer: &[u8], most: u32) -> Checked
-    requires { count * pairWidth ≤ length pairs.now }
-    ensures { Checks (kvChecks buffer.now pairs.now) count most (pairsBytes buffer.now pairs.now count) result }
+    requires { count * pair_width ≤ length pairs.now }
+    ensures { Checks (kv_checks buffer.now pairs.now) count most (pairs_bytes buffer.now pairs.now count) result }
 {
     let mut len = 0;
     let mut i = 0;
@@ -83,7 +83,7 @@ fn check_pairs(pairs: &[u64], count: usize, buffer: &[u8], most: u32) -> Checked
 
 // Whether the metadata of an AGENT-HELLO or an AGENT-DISCONNECT is writable.
 fn agent_allowed(frame_type: u64, fin: bool, abort: bool, stream_id: u64, frame_id: u64) -> bool
-    ensures { result ≡ agentAllowed (headOf frame_type fin abort stream_id frame_id) }
+    ensures { result ≡ agent_allowed (head_of frame_type fin abort stream_id frame_id) }
 {
     if !fin_alone(fin, abort) {
         return false;
@@ -96,7 +96,7 @@ fn agent_allowed(frame_type: u64, fin: bool, abort: bool, stream_id: u64, frame_
 
 // Whether the metadata of a KV frame is writable.
 fn kv_allowed(frame_type: u64, fin: bool, abort: bool, stream_id: u64, frame_id: u64) -> bool
-    ensures { result ≡ kvAllowed (headOf frame_type fin abort stream_id frame_id) }
+    ensures { result ≡ kv_allowed (head_of frame_type fin abort stream_id frame_id) }
 {
     if frame_type == frame::HAPROXY_HELLO as u64 {
         return true;
@@ -126,7 +126,7 @@ pub fn write_kv(
     pair_count: u64,
     out: &mut [u8],
 ) -> Written
-    ensures { Writes (kvAnswer (headOf frame_type fin abort stream_id frame_id) limit buffer.now pairs.now pair_count) result out.old out.new }
+    ensures { Writes (kv_answer (head_of frame_type fin abort stream_id frame_id) limit buffer.now pairs.now pair_count) result out.old out.new }
 {
     if !kv_allowed(frame_type, fin, abort, stream_id, frame_id) {
         return Written::Refused(Refusal {
@@ -161,8 +161,8 @@ fn kv_frame(
     out: &mut [u8],
 ) -> Written
     requires formed_run { FormedRun buffer.now pairs.now 0 count }
-    requires len_value { len ≡ capped limit (length (pairsBytes buffer.now pairs.now count)) }
-    ensures { Writes (limited limit head (pairsBytes buffer.now pairs.now count)) result out.old out.new }
+    requires len_value { len ≡ capped limit (length (pairs_bytes buffer.now pairs.now count)) }
+    ensures { Writes (limited limit head (pairs_bytes buffer.now pairs.now count)) result out.old out.new }
 {
     let begun = begin_frame(head, len, limit, out);
     match begun {

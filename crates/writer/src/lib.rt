@@ -9,7 +9,7 @@ mod pair;
 
 ghost use Rattle.std.specs.Prelude.{◌≡◌, eqb, length};
 ghost use Rattle.answer.specs.Writes.{Writes};
-ghost use Rattle.writer.specs.Frame.{flags_of, headOf};
+ghost use Rattle.writer.specs.Frame.{flags_of, head_of};
 ghost use Rattle.writer.specs.Inner.{capped, begun, Begins};
 
 pub use action::write_actions;
@@ -55,7 +55,7 @@ pub(crate) fn fin_alone(fin: bool, abort: bool) -> bool
 }
 
 pub(crate) fn head_of(frame_type: u8, fin: bool, abort: bool, stream: u64, frame: u64) -> Head
-    ensures { result ≡ headOf frame_type fin abort stream frame }
+    ensures { result ≡ head_of frame_type fin abort stream frame }
 {
     Head {
         frame_type,

@@ -4,12 +4,12 @@
 ghost use Rattle.std.specs.Prelude.{◌≡◌, ◌+◌, ◌*◌, ◌≤◌, ◌<◌, eqb, length};
 ghost use Rattle.answer.specs.Answer.{written, leaves};
 ghost use Rattle.answer.specs.Writes.{Writes};
-ghost use Rattle.answer.specs.Order.{inOrder};
+ghost use Rattle.answer.specs.Order.{in_order};
 ghost use Rattle.answer.specs.Table.{records, joined};
-ghost use Rattle.frame.specs.Records.{messageWidth, messageAt, pairWidth};
-ghost use Rattle.writer.specs.Message.{nameBytes, messageBytes, messageChecks};
-ghost use Rattle.writer.specs.Frame.{limited, pairsBytes, messagesBytes, notifyAnswer, headOf};
-ghost use Rattle.writer.specs.Inner.{capped, pairOrder, messageOrder, Checks, Ready, AllReady};
+ghost use Rattle.frame.specs.Records.{message_width, message_at, pair_width};
+ghost use Rattle.writer.specs.Message.{name_bytes, message_bytes, message_checks};
+ghost use Rattle.writer.specs.Frame.{limited, pairs_bytes, messages_bytes, notify_answer, head_of};
+ghost use Rattle.writer.specs.Inner.{capped, pair_order, message_order, Checks, Ready, AllReady};
 
 use crate::pair::{measure_pair, put_pairs};
 use crate::{Checked, begin_frame, cap, fin_alone, head_of};
@@ -39,7 +39,7 @@ fn check_message(
     total: u64,
     buffer: &[u8],
 ) -> u64
-    ensures { result ≡ inOrder (messageChecks buffer.now «total» (run_first + run_count) last message) 0 }
+    ensures { result ≡ in_order (message_checks buffer.now «total» (run_first + run_count) last message) 0 }
 {
     if !ends_at(run_first, run_count, message.first) {
         return NOT_WRITABLE;
@@ -57,8 +57,8 @@ fn check_message(
 
 // The first message that is refused, or how many bytes all names and counts have.
 fn check_messages(messages: &[u64], count: usize, total: u64, buffer: &[u8], most: u32) -> Checked
-    requires { count * messageWidth ≤ length messages.now }
-    ensures { Checks (messageOrder buffer.now «total» messages.now count) count most (joined (nameBytes buffer.now) (records (messageAt messages.now) 0 count)) result }
+    requires { count * message_width ≤ length messages.now }
+    ensures { Checks (message_order buffer.now «total» messages.now count) count most (joined (name_bytes buffer.now) (records (message_at messages.now) 0 count)) result }
 {
     let mut run_first = 0;
     let mut run_count = 0;
@@ -93,8 +93,8 @@ fn check_messages(messages: &[u64], count: usize, total: u64, buffer: &[u8], mos
 
 // The first pair that is refused, or how many bytes all pairs have. Names may be met twice.
 fn check_arguments(pairs: &[u64], count: usize, buffer: &[u8], most: u32) -> Checked
-    requires { count * pairWidth ≤ length pairs.now }
-    ensures { Checks (pairOrder buffer.now pairs.now) count most (pairsBytes buffer.now pairs.now count) result }
+    requires { count * pair_width ≤ length pairs.now }
+    ensures { Checks (pair_order buffer.now pairs.now) count most (pairs_bytes buffer.now pairs.now count) result }
 {
     let mut len = 0;
     let mut i = 0;
@@ -124,9 +124,9 @@ fn check_arguments(pairs: &[u64], count: usize, buffer: &[u8], most: u32) -> Che
 fn put_name(message: Message, buffer: &[u8], out: &mut [u8]) -> usize
     requires len_in_bounds { message.start + message.len ≤ length buffer.now }
     requires count_bound { message.count < 256 }
-    requires message_in_bounds { length (nameBytes buffer.now message) ≤ length out.old }
-    ensures value { result ≡ length (nameBytes buffer.now message) }
-    ensures out_after { out.new ≡ leaves (written (nameBytes buffer.now message)) out.old }
+    requires message_in_bounds { length (name_bytes buffer.now message) ≤ length out.old }
+    ensures value { result ≡ length (name_bytes buffer.now message) }
+    ensures out_after { out.new ≡ leaves (written (name_bytes buffer.now message)) out.old }
 {
     let from = message.start as usize;
     let to = from + message.len as usize;
@@ -138,9 +138,9 @@ fn put_name(message: Message, buffer: &[u8], out: &mut [u8]) -> usize
 // Writes a message where there is room: its name and count, and its arguments in the tail behind them.
 fn put_message(message: Message, pairs: &[u64], buffer: &[u8], out: &mut [u8]) -> usize
     requires ready { Ready buffer.now pairs.now message }
-    requires message_in_bounds { length (messageBytes buffer.now pairs.now message) ≤ length out.old }
-    ensures value { result ≡ length (messageBytes buffer.now pairs.now message) }
-    ensures out_after { out.new ≡ leaves (written (messageBytes buffer.now pairs.now message)) out.old }
+    requires message_in_bounds { length (message_bytes buffer.now pairs.now message) ≤ length out.old }
+    ensures value { result ≡ length (message_bytes buffer.now pairs.now message) }
+    ensures out_after { out.new ≡ leaves (written (message_bytes buffer.now pairs.now message)) out.old }
 {
     let first = message.first as usize;
     let count = message.count as usize;
@@ -156,11 +156,11 @@ fn put_messages(
     buffer: &[u8],
     out: &mut [u8],
 ) -> usize
-    requires message_width_in_bounds { count * messageWidth ≤ length messages.now }
+    requires message_width_in_bounds { count * message_width ≤ length messages.now }
     requires all_ready { AllReady buffer.now pairs.now messages.now count }
-    requires pairs_in_bounds { length (messagesBytes buffer.now messages.now count pairs.now) ≤ length out.old }
-    ensures value { result ≡ length (messagesBytes buffer.now messages.now count pairs.now) }
-    ensures out_after { out.new ≡ leaves (written (messagesBytes buffer.now messages.now count pairs.now)) out.old }
+    requires pairs_in_bounds { length (messages_bytes buffer.now messages.now count pairs.now) ≤ length out.old }
+    ensures value { result ≡ length (messages_bytes buffer.now messages.now count pairs.now) }
+    ensures out_after { out.new ≡ leaves (written (messages_bytes buffer.now messages.now count pairs.now)) out.old }
 {
     let mut at = 0;
     let mut i = 0;
@@ -190,7 +190,7 @@ pub fn write_notify(
     pair_count: u64,
     out: &mut [u8],
 ) -> Written
-    ensures { Writes (notifyAnswer (headOf 3 fin abort stream_id frame_id) limit buffer.now messages.now message_count pairs.now pair_count) result out.old out.new }
+    ensures { Writes (notify_answer (head_of 3 fin abort stream_id frame_id) limit buffer.now messages.now message_count pairs.now pair_count) result out.old out.new }
 {
     if !fin_alone(fin, abort) {
         return Written::Refused(Refusal {
@@ -243,10 +243,10 @@ fn notify_frame(
     pairs: &[u64],
     out: &mut [u8],
 ) -> Written
-    requires message_width_in_bounds { count * messageWidth ≤ length messages.now }
+    requires message_width_in_bounds { count * message_width ≤ length messages.now }
     requires all_ready { AllReady buffer.now pairs.now messages.now count }
-    requires len_value { len ≡ capped limit (length (messagesBytes buffer.now messages.now count pairs.now)) }
-    ensures { Writes (limited limit head (messagesBytes buffer.now messages.now count pairs.now)) result out.old out.new }
+    requires len_value { len ≡ capped limit (length (messages_bytes buffer.now messages.now count pairs.now)) }
+    ensures { Writes (limited limit head (messages_bytes buffer.now messages.now count pairs.now)) result out.old out.new }
 {
     let begun = begin_frame(head, len, limit, out);
     match begun {

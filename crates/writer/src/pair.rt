@@ -3,7 +3,7 @@ ghost use Rattle.std.specs.Prelude.{◌≡◌, ◌+◌, ◌≤◌, length};
 ghost use Rattle.answer.specs.Answer.{written, leaves};
 ghost use Rattle.answer.specs.Table.{records, joined};
 ghost use Rattle.frame.specs.Records.{pair_at};
-ghost use Rattle.writer.specs.Pair.{pairBytes, pairChecks};
+ghost use Rattle.writer.specs.Pair.{pair_bytes, pair_checks};
 ghost use Rattle.writer.specs.Inner.{Measures, Formed, FormedRun};
 
 use crate::cap;
@@ -14,7 +14,7 @@ use types::Measured;
 // What a pair on its own is refused with: 14, 16 or 15, the first that holds; else 0, and how many bytes its written form has, as far as it
 // matters.
 pub(crate) fn measure_pair(pair: Pair, buffer: &[u8], most: u32) -> Measured
-    ensures { Measures (pairChecks buffer.now pair) most (pairBytes buffer.now pair) result }
+    ensures { Measures (pair_checks buffer.now pair) most (pair_bytes buffer.now pair) result }
 {
     let value = types::measure_value(pair.value, buffer);
     let number = value.number;
@@ -41,9 +41,9 @@ pub(crate) fn measure_pair(pair: Pair, buffer: &[u8], most: u32) -> Measured
 // Writes a pair that has a written form, where there is room.
 pub(crate) fn put_pair(pair: Pair, buffer: &[u8], out: &mut [u8]) -> usize
     requires formed { Formed buffer.now pair }
-    requires pair_in_bounds { length (pairBytes buffer.now pair) ≤ length out.old }
-    ensures value { result ≡ length (pairBytes buffer.now pair) }
-    ensures out_after { out.new ≡ leaves (written (pairBytes buffer.now pair)) out.old }
+    requires pair_in_bounds { length (pair_bytes buffer.now pair) ≤ length out.old }
+    ensures value { result ≡ length (pair_bytes buffer.now pair) }
+    ensures out_after { out.new ≡ leaves (written (pair_bytes buffer.now pair)) out.old }
 {
     let from = pair.start as usize;
     let to = from + pair.len as usize;
@@ -60,9 +60,9 @@ pub(crate) fn put_pairs(
     out: &mut [u8],
 ) -> usize
     requires formed_run { FormedRun buffer.now pairs.now first count }
-    requires count_in_bounds { length (joined (pairBytes buffer.now) (records (pair_at pairs.now) first count)) ≤ length out.old }
-    ensures value { result ≡ length (joined (pairBytes buffer.now) (records (pair_at pairs.now) first count)) }
-    ensures out_after { out.new ≡ leaves (written (joined (pairBytes buffer.now) (records (pair_at pairs.now) first count))) out.old }
+    requires count_in_bounds { length (joined (pair_bytes buffer.now) (records (pair_at pairs.now) first count)) ≤ length out.old }
+    ensures value { result ≡ length (joined (pair_bytes buffer.now) (records (pair_at pairs.now) first count)) }
+    ensures out_after { out.new ≡ leaves (written (joined (pair_bytes buffer.now) (records (pair_at pairs.now) first count))) out.old }
 {
     let mut at = 0;
     let mut i = 0;

@@ -4,143 +4,143 @@ use borrow.Author.Rules.{rules}
 use Prim.Native.Nat.{◌+◌, ◌-◌, ◌*◌, ◌/◌, ◌≤◌, ◌<◌}
 use native.Mathlib.Omega.{arith}
 use lib.ListN.{length}
-use Rattle.frame.specs.Records.{messageWidth, pairWidth}
-use Rattle.buffer.specs.Buffer.{rowWidth}
-use Rattle.buffer.proofs.Going.{lent_length, Going, going-none, long-rows, long-messages, long-pairs, in-table-messages, in-table-pairs, row_room, going-full, wait-lengths, going-wait, refused-lengths, going-refused, with-within, going_on}
+use Rattle.frame.specs.Records.{message_width, pair_width}
+use Rattle.buffer.specs.Buffer.{row_width}
+use Rattle.buffer.proofs.Going.{lent_length, Going, going_none, long_rows, long_messages, long_pairs, in_table_messages, in_table_pairs, row_room, going_full, wait_lengths, going_wait, refused_lengths, going_refused, with_within, going_on}
 use Rattle.buffer.proofs.read_frames.Statement.{statement}
 use Rattle.buffer.proofs.read_frames.Tie as tie
 
-abbrev invariant-loop : tie.invariant-loop
-invariant-loop input limit rows₀ messages₀ pairs₀ room x₀ rows messages pairs x = Going input limit rows₀ messages₀ pairs₀ x rows messages pairs
+abbrev invariant_loop : tie.invariant-loop
+invariant_loop input limit rows₀ messages₀ pairs₀ room x₀ rows messages pairs x = Going input limit rows₀ messages₀ pairs₀ x rows messages pairs
 
-abbrev decreases-loop : tie.decreases-loop
-decreases-loop input limit rows₀ messages₀ pairs₀ room x₀ rows messages pairs x = room - x.frames
+abbrev decreases_loop : tie.decreases-loop
+decreases_loop input limit rows₀ messages₀ pairs₀ room x₀ rows messages pairs x = room - x.frames
 
 -- the loop, and where the function was entered
-abbrev start : tie.At-loop invariant-loop decreases-loop → tie.Start invariant-loop decreases-loop
+abbrev start : tie.At-loop invariant_loop decreases_loop → tie.Start invariant_loop decreases_loop
 start l = l.before.before.before.before.before
 
-loop-holds : tie.Need-loop-init invariant-loop decreases-loop
-loop-holds c = let a = c.before.before.before.before.args in going-none a.input.now a.limit a.rows.now a.messages.now a.pairs.now
+loop-holds : tie.Need-loop-init invariant_loop decreases_loop
+loop-holds c = let a = c.before.before.before.before.args in going_none a.input.now a.limit a.rows.now a.messages.now a.pairs.now
 
 -- what was read stands in the bytes and in both tables
-module _ (l : tie.At-loop invariant-loop decreases-loop) where
-  within-messages : l.loop.x.messages * messageWidth ≤ length l.loop.messages
-  within-messages = in-table-messages _ _ _ _ _ l.loop.invariant
+module _ (l : tie.At-loop invariant_loop decreases_loop) where
+  within_messages : l.loop.x.messages * message_width ≤ length l.loop.messages
+  within_messages = in_table_messages _ _ _ _ _ l.loop.invariant
 
-  within-pairs : l.loop.x.pairs * pairWidth ≤ length l.loop.pairs
-  within-pairs = in-table-pairs _ _ _ _ _ l.loop.inv
+  within_pairs : l.loop.x.pairs * pair_width ≤ length l.loop.pairs
+  within_pairs = in_table_pairs _ _ _ _ _ l.loop.inv
 
-mul-m : tie.Need-overflow-mul-m invariant-loop decreases-loop
-mul-m c = let l = c.before.before.before in omega (arith, within-messages l, long-messages _ _ _ _ _ l.loop.invariant, (start l).well-formed)
+mul-m : tie.Need-overflow-mul-m invariant_loop decreases_loop
+mul-m c = let l = c.before.before.before in omega (arith, within_messages l, long_messages _ _ _ _ _ l.loop.invariant, (start l).well-formed)
 
-mul-p : tie.Need-overflow-mul-p invariant-loop decreases-loop
-mul-p c = let l = c.before.before.before.before in omega (arith, within-pairs l, long-pairs _ _ _ _ _ l.loop.invariant, (start l).well-formed)
+mul-p : tie.Need-overflow-mul-p invariant_loop decreases_loop
+mul-p c = let l = c.before.before.before.before in omega (arith, within_pairs l, long_pairs _ _ _ _ _ l.loop.invariant, (start l).well-formed)
 
-sub-read-frame : tie.Need-overflow-sub-read-frame invariant-loop decreases-loop
+sub-read-frame : tie.Need-overflow-sub-read-frame invariant_loop decreases_loop
 sub-read-frame c = c.before.before.before.before.loop.invariant.there
 
-mul-read-frame : tie.Need-overflow-mul-read-frame invariant-loop decreases-loop
-mul-read-frame c = let l = c.before.before.before.before.before in omega (arith, within-messages l, long-messages _ _ _ _ _ l.loop.invariant, (start l).well-formed)
+mul-read-frame : tie.Need-overflow-mul-read-frame invariant_loop decreases_loop
+mul-read-frame c = let l = c.before.before.before.before.before in omega (arith, within_messages l, long_messages _ _ _ _ _ l.loop.invariant, (start l).well-formed)
 
-sub-read-frame-2 : tie.Need-overflow-sub-read-frame-2 invariant-loop decreases-loop
-sub-read-frame-2 c = within-messages c.before.before.before.before.before
+sub-read-frame-2 : tie.Need-overflow-sub-read-frame-2 invariant_loop decreases_loop
+sub-read-frame-2 c = within_messages c.before.before.before.before.before
 
-mul-read-frame-2 : tie.Need-overflow-mul-read-frame-2 invariant-loop decreases-loop
-mul-read-frame-2 c = let l = c.before.before.before.before.before.before in omega (arith, within-pairs l, long-pairs _ _ _ _ _ l.loop.invariant, (start l).well-formed)
+mul-read-frame-2 : tie.Need-overflow-mul-read-frame-2 invariant_loop decreases_loop
+mul-read-frame-2 c = let l = c.before.before.before.before.before.before in omega (arith, within_pairs l, long_pairs _ _ _ _ _ l.loop.invariant, (start l).well-formed)
 
-sub-read-frame-3 : tie.Need-overflow-sub-read-frame-3 invariant-loop decreases-loop
-sub-read-frame-3 c = within-pairs c.before.before.before.before.before.before
+sub-read-frame-3 : tie.Need-overflow-sub-read-frame-3 invariant_loop decreases_loop
+sub-read-frame-3 c = within_pairs c.before.before.before.before.before.before
 
 -- the frame that was read, and the loop there
-abbrev read : tie.After-slice-known5 invariant-loop decreases-loop → tie.After-read-frame invariant-loop decreases-loop
+abbrev read : tie.After-slice-known5 invariant_loop decreases_loop → tie.After-read-frame invariant_loop decreases_loop
 read t = t.before.before.before.before
 
-abbrev loop : tie.After-read-frame invariant-loop decreases-loop → tie.At-loop invariant-loop decreases-loop
+abbrev loop : tie.After-read-frame invariant_loop decreases_loop → tie.At-loop invariant_loop decreases_loop
 loop t = t.before.before.before.before.before.before.before.before
 
 -- it waits
-same_length : tie.Need-same-length invariant-loop decreases-loop
-same_length c = long-rows _ _ _ _ _ (loop (read c.before.before.before)).loop.inv
+same_length : tie.Need-same-length invariant_loop decreases_loop
+same_length c = long_rows _ _ _ _ _ (loop (read c.before.before.before)).loop.inv
 
-same-length-2 : tie.Need-same-length-2 invariant-loop decreases-loop
+same-length-2 : tie.Need-same-length-2 invariant_loop decreases_loop
 same-length-2 c =
     let t = read c.before.before.before in
-    (wait-lengths _ _ _ _ _ (loop t).loop.inv _ _ _ t.read-frame.ensures _ c.before.missing.given.1).0
+    (wait_lengths _ _ _ _ _ (loop t).loop.inv _ _ _ t.read-frame.ensures _ c.before.missing.given.1).0
 
-same-length-3 : tie.Need-same-length-3 invariant-loop decreases-loop
+same-length-3 : tie.Need-same-length-3 invariant_loop decreases_loop
 same-length-3 c =
     let t = read c.before.before.before in
-    (wait-lengths _ _ _ _ _ (loop t).loop.inv _ _ _ t.read-frame.ensures _ c.before.missing.given.1).1
+    (wait_lengths _ _ _ _ _ (loop t).loop.inv _ _ _ t.read-frame.ensures _ c.before.missing.given.1).1
 
-returns : tie.Need-returns invariant-loop decreases-loop
+returns : tie.Need-returns invariant_loop decreases_loop
 returns c =
     let t = read c.before.before.before in
-    going-wait _ _ _ _ _ (loop t).loop.inv _ _ _ t.read-frame.ensures _ c.before.missing.given.1
+    going_wait _ _ _ _ _ (loop t).loop.inv _ _ _ t.read-frame.ensures _ c.before.missing.given.1
 
 -- it is refused
-same-length-4 : tie.Need-same-length-4 invariant-loop decreases-loop
-same-length-4 c = long-rows _ _ _ _ _ (loop (read c.before.before.before)).loop.inv
+same-length-4 : tie.Need-same-length-4 invariant_loop decreases_loop
+same-length-4 c = long_rows _ _ _ _ _ (loop (read c.before.before.before)).loop.inv
 
-same-length-5 : tie.Need-same-length-5 invariant-loop decreases-loop
+same-length-5 : tie.Need-same-length-5 invariant_loop decreases_loop
 same-length-5 c =
     let t = read c.before.before.before in
-    (refused-lengths _ _ _ _ _ (loop t).loop.inv _ _ _ t.read-frame.ensures _ c.before.r.given.1).0
+    (refused_lengths _ _ _ _ _ (loop t).loop.inv _ _ _ t.read-frame.ensures _ c.before.r.given.1).0
 
-same-length-6 : tie.Need-same-length-6 invariant-loop decreases-loop
+same-length-6 : tie.Need-same-length-6 invariant_loop decreases_loop
 same-length-6 c =
     let t = read c.before.before.before in
-    (refused-lengths _ _ _ _ _ (loop t).loop.inv _ _ _ t.read-frame.ensures _ c.before.r.given.1).1
+    (refused_lengths _ _ _ _ _ (loop t).loop.inv _ _ _ t.read-frame.ensures _ c.before.r.given.1).1
 
-returns-2 : tie.Need-returns-2 invariant-loop decreases-loop
+returns-2 : tie.Need-returns-2 invariant_loop decreases_loop
 returns-2 c =
     let t = read c.before.before.before in
-    going-refused _ _ _ _ _ (loop t).loop.inv _ _ _ t.read-frame.ensures _ c.before.r.given.1
+    going_refused _ _ _ _ _ (loop t).loop.inv _ _ _ t.read-frame.ensures _ c.before.r.given.1
 
 -- it is accepted
-module _ (c : tie.After-head invariant-loop decreases-loop) where
-  abbrev t : tie.After-read-frame invariant-loop decreases-loop
+module _ (c : tie.After-head invariant_loop decreases_loop) where
+  abbrev t : tie.After-read-frame invariant_loop decreases_loop
   t = read c.before.before
 
-  abbrev l : tie.At-loop invariant-loop decreases-loop
+  abbrev l : tie.At-loop invariant_loop decreases_loop
   l = loop t
 
-  below : l.loop.x.frames < length (start l).args.rows.now / rowWidth
+  below : l.loop.x.frames < length (start l).args.rows.now / row_width
   below = t.before.before.before.before.before.before.if1.taken
 
-  row-there : l.loop.x.frames * rowWidth + rowWidth ≤ length l.loop.rows
-  row-there = row_room _ _ _ _ _ l.loop.inv below
+  row_there : l.loop.x.frames * row_width + row_width ≤ length l.loop.rows
+  row_there = row_room _ _ _ _ _ l.loop.inv below
 
-  row_fits : l.loop.x.frames * rowWidth + rowWidth ≤ length (start l).args.rows.now
-  row_fits = omega (arith, row-there, long-rows _ _ _ _ _ l.loop.inv)
+  row_fits : l.loop.x.frames * row_width + row_width ≤ length (start l).args.rows.now
+  row_fits = omega (arith, row_there, long_rows _ _ _ _ _ l.loop.inv)
 
-mul-to : tie.Need-overflow-mul-to invariant-loop decreases-loop
+mul-to : tie.Need-overflow-mul-to invariant_loop decreases_loop
 mul-to c = let h = c.before.before in omega (arith, row_fits h, (start (l h)).good)
 
-mul-put-row : tie.Need-overflow-mul-put-row invariant-loop decreases-loop
+mul-put-row : tie.Need-overflow-mul-put-row invariant_loop decreases_loop
 mul-put-row c = let h = c.before.before in omega (arith, row_fits h, (start (l h)).good)
 
-sub-put-row : tie.Need-overflow-sub-put-row invariant-loop decreases-loop
-sub-put-row c = omega (arith, row-there c.before.before)
+sub-put-row : tie.Need-overflow-sub-put-row invariant_loop decreases_loop
+sub-put-row c = omega (arith, row_there c.before.before)
 
-put-row-requires : tie.Need-put-row-requires invariant-loop decreases-loop
+put-row-requires : tie.Need-put-row-requires invariant_loop decreases_loop
 put-row-requires c κs =
     let h = c.before.before.before in
-    omega (arith, row-there h, lent_length ((l h).loop.x.frames * rowWidth) (l h).loop.rows)
+    omega (arith, row_there h, lent_length ((l h).loop.x.frames * row_width) (l h).loop.rows)
 
-with-read-requires : tie.Need-with-read-requires invariant-loop decreases-loop
+with-read-requires : tie.Need-with-read-requires invariant_loop decreases_loop
 with-read-requires c κs =
     let h = c.before.before.before.before.before.before in
     let a = start (l h) in
-    let w = with-within _ _ _ _ _ (l h).loop.invariant _ _ _ (t h).read-frame.ensures _ _ _ h.head.given.1 in
+    let w = with_within _ _ _ _ _ (l h).loop.invariant _ _ _ (t h).read-frame.ensures _ _ _ h.head.given.1 in
     (omega (arith, row_fits h, a.good), (omega (arith, w.0, a.good), (omega (arith, w.1, a.good), omega (arith, w.2, a.good))))
 
-loop-less : tie.Need-loop-smaller invariant-loop decreases-loop
+loop-less : tie.Need-loop-smaller invariant_loop decreases_loop
 loop-less c =
     let h = c.before.before.before.before.before.before.before in
     rw c.with_read.ensures (omega (arith, below h))
 
-loop-again : tie.Need-loop-preserved invariant-loop decreases-loop
+loop-again : tie.Need-loop-preserved invariant_loop decreases_loop
 loop-again c =
     let h = c.before.before.before.before.before.before.before in
     let p = c.before.before.before in
@@ -148,36 +148,36 @@ loop-again c =
     (going_on _ _ _ _ _ (l h).loop.invariant _ _ _ (t h).read-frame.ensures _ _ _ h.head.given.1 (below h) _ p.put-row.ensures)
 
 -- no row is left
-sub-t45 : tie.Need-overflow-sub-t45 invariant-loop decreases-loop
-sub-t45 c = let l = c.before.before.before in omega (arith, within-messages l)
+sub-t45 : tie.Need-overflow-sub-t45 invariant_loop decreases_loop
+sub-t45 c = let l = c.before.before.before in omega (arith, within_messages l)
 
-sub-t48 : tie.Need-overflow-sub-t48 invariant-loop decreases-loop
-sub-t48 c = let l = c.before.before.before.before in omega (arith, within-pairs l)
+sub-t48 : tie.Need-overflow-sub-t48 invariant_loop decreases_loop
+sub-t48 c = let l = c.before.before.before.before in omega (arith, within_pairs l)
 
-sub-look-frame : tie.Need-overflow-sub-look-frame invariant-loop decreases-loop
+sub-look-frame : tie.Need-overflow-sub-look-frame invariant_loop decreases_loop
 sub-look-frame c = c.before.before.before.before.loop.invariant.there
 
-same-length-7 : tie.Need-same-length-7 invariant-loop decreases-loop
-same-length-7 c = long-rows _ _ _ _ _ c.before.before.before.before.before.before.before.loop.invariant
+same-length-7 : tie.Need-same-length-7 invariant_loop decreases_loop
+same-length-7 c = long_rows _ _ _ _ _ c.before.before.before.before.before.before.before.loop.invariant
 
-same-length-8 : tie.Need-same-length-8 invariant-loop decreases-loop
-same-length-8 c = long-messages _ _ _ _ _ c.before.before.before.before.before.before.before.loop.invariant
+same-length-8 : tie.Need-same-length-8 invariant_loop decreases_loop
+same-length-8 c = long_messages _ _ _ _ _ c.before.before.before.before.before.before.before.loop.invariant
 
-same-length-9 : tie.Need-same-length-9 invariant-loop decreases-loop
-same-length-9 c = long-pairs _ _ _ _ _ c.before.before.before.before.before.before.before.loop.invariant
+same-length-9 : tie.Need-same-length-9 invariant_loop decreases_loop
+same-length-9 c = long_pairs _ _ _ _ _ c.before.before.before.before.before.before.before.loop.invariant
 
-returns-3 : tie.Need-returns-3 invariant-loop decreases-loop
+returns-3 : tie.Need-returns-3 invariant_loop decreases_loop
 returns-3 c =
     let e = c.before.before.before.before.before in
     let l = e.before.before in
-    rw c.stop-of.ensures (going-full _ _ _ _ _ l.loop.invariant e.if1.false c.before.look-frame.result c.before.look-frame.ensures)
+    rw c.stop-of.ensures (going_full _ _ _ _ _ l.loop.invariant e.if1.false c.before.look-frame.result c.before.look-frame.ensures)
 
 pub read-frames-spec : {M : Type 1} → statement M
 read-frames-spec =
     tie.close
     (tie.spec
-    invariant-loop
-    decreases-loop
+    invariant_loop
+    decreases_loop
     loop-holds
     mul-m
     mul-p

@@ -5,9 +5,9 @@ use mathlib.Core.Path.{sym, ap, ◌∙◌}
 use lib.ListN.{length, take}
 use lib.Seq.{length-take-le}
 use Rattle.frame.specs.declared.Side.TheVariants as side
-use Rattle.frame.specs.Promise.{cutSaid}
+use Rattle.frame.specs.Promise.{cut_said}
 use Rattle.frame.proofs.Cutting.{cut_out}
-use Rattle.parser.specs.Promise.{frameSaid, frameTells}
+use Rattle.parser.specs.Promise.{frame_said, frame_tells}
 use Rattle.parser.proofs.Frames.{frame_on}
 use Rattle.parser.proofs.look_frame.Statement.{statement}
 use Rattle.parser.proofs.look_frame.Tie as tie
@@ -16,27 +16,27 @@ returns : tie.Need-returns
 returns c =
     let k = c.before.before.before in
     let a = k.before.before.args in
-    ap frameTells (sym (frame_on side.HAProxy a.limit a.rooms a.input.now (sym k.cut.ensures ∙ ap (cutSaid a.input.now) c.before.missing.given.1)))
+    ap frame_tells (sym (frame_on side.HAProxy a.limit a.rooms a.input.now (sym k.cut.ensures ∙ ap (cut_said a.input.now) c.before.missing.given.1)))
 
 returns-2 : tie.Need-returns-2
 returns-2 c =
     let k = c.before.before.before in
     let a = k.before.before.args in
-    ap frameSaid c.oversize.ensures
-    ∙ ap frameTells (sym (frame_on side.HAProxy a.limit a.rooms a.input.now (sym k.cut.ensures ∙ ap (cutSaid a.input.now) c.before.enum_told.given.1)))
+    ap frame_said c.oversize.ensures
+    ∙ ap frame_tells (sym (frame_on side.HAProxy a.limit a.rooms a.input.now (sym k.cut.ensures ∙ ap (cut_said a.input.now) c.before.enum_told.given.1)))
 
 slice-aggregate-look-whole : tie.Need-slice-aggregate-look-whole
 slice-aggregate-look-whole c =
     let k = c.before.before.before.before in
     let a = k.before.before.args in
-    sym (length-take-le _ _ (cut_out a.limit a.input.now (sym k.cut.ensures ∙ ap (cutSaid a.input.now) c.before.before.end.given.1)).all)
+    sym (length-take-le _ _ (cut_out a.limit a.input.now (sym k.cut.ensures ∙ ap (cut_said a.input.now) c.before.before.end.given.1)).all)
 
 returns-3 : tie.Need-returns-3
 returns-3 c =
     let k = c.before.before.before.before.before in
     let a = k.before.before.args in
     c.look-whole.ensures
-    ∙ ap frameTells (sym (frame_on side.HAProxy a.limit a.rooms a.input.now (sym k.cut.ensures ∙ ap (cutSaid a.input.now) c.before.before.before.end.given.1)))
+    ∙ ap frame_tells (sym (frame_on side.HAProxy a.limit a.rooms a.input.now (sym k.cut.ensures ∙ ap (cut_said a.input.now) c.before.before.before.end.given.1)))
 
 pub look-frame-spec : {M : Type 1} → statement M
 look-frame-spec =

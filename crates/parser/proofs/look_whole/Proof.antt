@@ -3,8 +3,8 @@
 use borrow.Author.Rules.{rules}
 use mathlib.Core.Path.{sym, ap, ◌∙◌}
 use Rattle.frame.specs.Read.{sender}
-use Rattle.frame.specs.Promise.{headSaid}
-use Rattle.parser.proofs.Frames.{framed-refused}
+use Rattle.frame.specs.Promise.{head_said}
+use Rattle.parser.proofs.Frames.{framed_refused}
 use Rattle.parser.proofs.Calls.{whole_says}
 use Rattle.parser.proofs.look_whole.Statement.{statement}
 use Rattle.parser.proofs.look_whole.Tie as tie
@@ -13,7 +13,7 @@ returns : tie.Need-returns
 returns c =
     let k = c.before.before.before in
     let a = k.before.before.args in
-    rw (framed-refused (sender a.side) a.rooms a.f.now _ _ (sym k.read_head.ensures ∙ ap headSaid c.before.r.given.1))
+    rw (framed_refused (sender a.side) a.rooms a.f.now _ _ (sym k.read_head.ensures ∙ ap head_said c.before.r.given.1))
 
 returns-2 : tie.Need-returns-2
 returns-2 c =
@@ -21,7 +21,7 @@ returns-2 c =
     let h = p.before.before in
     let k = h.before.before in
     let a = k.before.before.args in
-    whole_says (sender a.side) a.rooms a.f.now _ _ (sym k.read_head.ensures ∙ ap headSaid h.head.given.1) _ p.payload-of.ensures
+    whole_says (sender a.side) a.rooms a.f.now _ _ (sym k.read_head.ensures ∙ ap head_said h.head.given.1) _ p.payload-of.ensures
     c.with-head.result c.before.look_payload.result c.with-head.ensures c.before.look_payload.ensures
 
 pub look-whole-spec : {M : Type 1} → statement M

@@ -3,7 +3,7 @@
 use borrow.Author.Rules.{rules}
 use mathlib.Core.List.{[]}
 use Rattle.payload.specs.Promise.{rooms_of}
-use Rattle.parser.proofs.Calls.{no-messages}
+use Rattle.parser.proofs.Calls.{no_messages}
 use Rattle.parser.proofs.read_agent_frame.Statement.{statement}
 use Rattle.parser.proofs.read_agent_frame.Tie as tie
 
@@ -14,7 +14,7 @@ returns c =
     let f = w.read-side.ensures in
     record {
       says = f.says;
-      fills = record { messages = no-messages a.limit (rooms_of [] a.pairs.now a.actions.now) a.input.now; pairs = f.fills.pairs; actions = f.fills.actions };
+      fills = record { messages = no_messages a.limit (rooms_of [] a.pairs.now a.actions.now) a.input.now; pairs = f.fills.pairs; actions = f.fills.actions };
     }
 
 pub read-agent-frame-spec : {M : Type 1} → statement M

@@ -3,7 +3,7 @@
 use borrow.Author.Rules.{rules}
 use mathlib.Core.List.{[]}
 use Rattle.payload.specs.Promise.{rooms_of}
-use Rattle.parser.proofs.Calls.{no-actions}
+use Rattle.parser.proofs.Calls.{no_actions}
 use Rattle.parser.proofs.read_frame.Statement.{statement}
 use Rattle.parser.proofs.read_frame.Tie as tie
 
@@ -14,7 +14,7 @@ returns c =
     let f = w.read-side.ensures in
     record {
       says = f.says;
-      fills = record { messages = f.fills.messages; pairs = f.fills.pairs; actions = no-actions a.limit (rooms_of a.messages.now a.pairs.now []) a.input.now };
+      fills = record { messages = f.fills.messages; pairs = f.fills.pairs; actions = no_actions a.limit (rooms_of a.messages.now a.pairs.now []) a.input.now };
     }
 
 pub read-frame-spec : {M : Type 1} → statement M

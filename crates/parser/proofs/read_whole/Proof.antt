@@ -3,10 +3,10 @@
 use borrow.Author.Rules.{rules}
 use mathlib.Core.Path.{refl, sym, ap, ◌∙◌}
 use Rattle.frame.specs.Read.{answered, sender}
-use Rattle.frame.specs.Promise.{headSaid}
+use Rattle.frame.specs.Promise.{head_said}
 use Rattle.payload.specs.Promise.{rooms_of}
-use Rattle.parser.proofs.Frames.{framed-refused}
-use Rattle.parser.proofs.Calls.{unread, whole-fills}
+use Rattle.parser.proofs.Frames.{framed_refused}
+use Rattle.parser.proofs.Calls.{unread, whole_fills}
 use Rattle.parser.proofs.read_whole.Statement.{statement}
 use Rattle.parser.proofs.read_whole.Tie as tie
 
@@ -15,7 +15,7 @@ returns c =
     let k = c.before.before.before in
     let a = k.before.before.before.before.before.args in
     let rooms = rooms_of a.messages.now a.pairs.now a.actions.now in
-    unread _ _ _ _ _ _ (ap answered (framed-refused (sender a.side) rooms a.f.now _ _ (sym k.read_head.ensures ∙ ap headSaid c.before.r.given.1))) (_, _, refl) refl
+    unread _ _ _ _ _ _ (ap answered (framed_refused (sender a.side) rooms a.f.now _ _ (sym k.read_head.ensures ∙ ap head_said c.before.r.given.1))) (_, _, refl) refl
 
 returns-2 : tie.Need-returns-2
 returns-2 c =
@@ -25,7 +25,7 @@ returns-2 c =
     let k = h.before.before in
     let a = k.before.before.before.before.before.args in
     let rooms = rooms_of a.messages.now a.pairs.now a.actions.now in
-    whole-fills (sender a.side) rooms a.f.now _ _ (sym k.read_head.ensures ∙ ap headSaid h.head.given.1) _ p.payload-of.ensures
+    whole_fills (sender a.side) rooms a.f.now _ _ (sym k.read_head.ensures ∙ ap head_said h.head.given.1) _ p.payload-of.ensures
     c.with-head.result q.read-payload.result c.with-head.ensures _ _ _ _ _ _ refl q.read-payload.ensures
 
 pub read-whole-spec : {M : Type 1} → statement M

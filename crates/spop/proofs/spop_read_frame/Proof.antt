@@ -4,7 +4,7 @@ use borrow.Author.Rules.{rules}
 use mathlib.Core.List.{[]}
 use Rattle.frame.specs.declared.Side.TheVariants as side
 use Rattle.payload.specs.Promise.{rooms_of}
-use Rattle.parser.specs.Frame.{frameRead}
+use Rattle.parser.specs.Frame.{frame_read}
 use Rattle.spop.proofs.spop_read_frame.Statement.{statement}
 use Rattle.spop.proofs.spop_read_frame.Tie as tie
 
@@ -13,7 +13,7 @@ returns c =
     let t = c.before.before.before.before.before.before.before in
     let a = t.before.before.before.before.before.before.args in
     let e = t.read-frame.ensures in
-    record { told = c.tell-frame.ensures (frameRead side.HAProxy a.limit (rooms_of a.messages.now a.pairs.now []) a.input.now) e.says; fills = e.fills }
+    record { told = c.tell-frame.ensures (frame_read side.HAProxy a.limit (rooms_of a.messages.now a.pairs.now []) a.input.now) e.says; fills = e.fills }
 
 pub spop-read-frame-spec : {M : Type 1} → statement M
 spop-read-frame-spec = tie.close (tie.spec (λ c κs. search rules) (λ c κs. search rules) (λ c. search rules) (λ c. search rules) returns)

@@ -47,8 +47,8 @@ use Rattle.parser.specs.declared.FrameRead.{FrameRead}
 use Rattle.payload.specs.Payload.{Contents}
 use Rattle.frame.specs.declared.Side.TheVariants as side
 use Rattle.frame.specs.Read.{Reading}
-use Rattle.parser.specs.Frame.{frameRead}
-use Rattle.parser.specs.Promise.{frameSaid, frameTells}
+use Rattle.parser.specs.Frame.{frame_read}
+use Rattle.parser.specs.Promise.{frame_said, frame_tells}
 use Rattle.parser.specs.contracts.FrameRead as F
 use Rattle.parser.proofs.FrameRead.TheLaws as F'
 use Rattle.records.specs.Promise.{rooms_for, ReadFrameRecords}
@@ -191,10 +191,10 @@ module _ {M : Type 1} {𝓤 : Ura M} (𝓛 : Logic 𝓤) (mem : Memory → SProp
   Reads f ms ws = ReadFrameRecords s.now n f m.now ms r.now ws
 
   abbrev Tells : FrameRead → ℕ → List ℕ → ℕ → Type 0
-  Tells f k hs at = (x : Reading (Head × Contents)) → frameSaid f ≡ frameTells x → HeadTold side.HAProxy x k at h.now hs
+  Tells f k hs at = (x : Reading (Head × Contents)) → frame_said f ≡ frame_tells x → HeadTold side.HAProxy x k at h.now hs
 
   kept : (f : FrameRead) (ms : List ℕ) (ws : List Pair) (k : ℕ) (hs : List ℕ) (at : ℕ) → Reads f ms ws → Tells f k hs at → SpopReadFrameRecords s.now n k at h.now hs m.now ms r.now ws
-  kept f ms ws k hs at e e' = record { told = e' (frameRead side.HAProxy n (rooms_for m.now r.now) s.now) e.says; fills = e.fills }
+  kept f ms ws k hs at e e' = record { told = e' (frame_read side.HAProxy n (rooms_for m.now r.now) s.now) e.says; fills = e.fills }
 
   exits : (f : FrameRead) (ms : List ℕ) (ws : List Pair) (k : ℕ) (hs : List ℕ) (at : ℕ) → Reads f ms ws → Tells f k hs at → length ms ≡ length m.now → length ws ≡ length r.now → k < 2 ^ 64
       → ent 𝓤 (⋆ 𝓛 (Tok₂ ∷ ‵ (fres t.name (u64.coded.code at)) ∷ ‵ (fres h.name ((Array u64 6).coded.code hs)) ∷ Tok₁ ∷ ‵ (finally Q.the_row r.name ws) ∷ ‵ (finally u64 m.name ms) ∷ ‵ Own₀ ∷ [])) (Post (vint w64 k))
@@ -286,8 +286,8 @@ module _ {M : Type 1} {𝓤 : Ura M} (𝓛 : Logic 𝓤) (mem : Memory → SProp
 module _ {M : Type 1} {𝓤 : Ura M} (𝓛 : Logic 𝓤) (mem : Memory → SProp 𝓤) (run : Routine → Fun 𝓤) (𝓣 : Tables 𝓤 𝓛.H) (known₁ : Triple 𝓤 (𝓣.C #read) (Read 𝓛 mem run)) (known₂ : Triple 𝓤 (𝓣.C #tell) (Tell 𝓛 mem run)) where
   open 𝓛 use {H}
 
-  c-walks : Walks 𝓛 named-c.ended stayed (WpFn 𝓤 H 𝓣.C 𝓣.Λ function) (named-c.clauses 𝓛 mem run)
-  c-walks = walked 𝓛 named-c.ended stayed (named-c.clauses 𝓛 mem run) (WpFn 𝓤 H 𝓣.C 𝓣.Λ function)
+  c_walks : Walks 𝓛 named-c.ended stayed (WpFn 𝓤 H 𝓣.C 𝓣.Λ function) (named-c.clauses 𝓛 mem run)
+  c_walks = walked 𝓛 named-c.ended stayed (named-c.clauses 𝓛 mem run) (WpFn 𝓤 H 𝓣.C 𝓣.Λ function)
       (λ κs. (shr_slice_vals, (uint_vals w32, (shr_slice_vals, (shr_slice_vals, (shr_vals, (shr_vals, tt)))))))
       (λ κs. (shr_slice_Tells (named 0) κs.0 u8, (uint_Tells w32, (mut_slice_Tells (named 1) κs.1.0 u64, (mut_slice_Tells (named 2) κs.1.1.0 Q.the_row, (mut_Tells (named 3) κs.1.1.1.0 (Array u64 6), (mut_Tells (named 4) κs.1.1.1.1.0 u64, tt)))))))
       (λ κs qs bounds a g are. via 𝓤 _ (fst∗ 𝓤 _ (emp 𝓤))
@@ -295,8 +295,8 @@ module _ {M : Type 1} {𝓤 : Ura M} (𝓛 : Logic 𝓤) (mem : Memory → SProp
       a.0 a.1.0 a.1.1.0 a.1.1.1.0 a.1.1.1.1.0 a.1.1.1.1.1.0 are.1.0.1 are.1.1.1.0.0.1 are.1.1.0.0.1
       𝓣.C 𝓣.Λ (fm_of 𝓤 H 𝓛.laws 𝓣) known₁ known₂ are.0))
 
-  c-meets : Meets 𝓛 named-c.signature (WpFn 𝓤 H 𝓣.C 𝓣.Λ code.function) (named-c.spec 𝓛 mem run)
-  c-meets =
+  c_meets : Meets 𝓛 named-c.signature (WpFn 𝓤 H 𝓣.C 𝓣.Λ code.function) (named-c.spec 𝓛 mem run)
+  c_meets =
       subst (λ (f : Fn). Meets 𝓛 named-c.signature (WpFn 𝓤 H 𝓣.C 𝓣.Λ f) (named-c.spec 𝓛 mem run)) compiled
       (walk_Meets 𝓛 named-c.ended stayed (
         Goes-none_slice 𝓛 5 (0 ∷ []) tt (plain (λ _. u8)) yes,
@@ -311,13 +311,13 @@ module _ {M : Type 1} {𝓤 : Ura M} (𝓛 : Logic 𝓤) (mem : Memory → SProp
           ),
         ),
       )
-      (named-c.clauses 𝓛 mem run) (WpFn 𝓤 H 𝓣.C 𝓣.Λ function) (WpFn-mono 𝓤 H 𝓛.laws 𝓣 function) c-walks)
+      (named-c.clauses 𝓛 mem run) (WpFn 𝓤 H 𝓣.C 𝓣.Λ function) (WpFn-mono 𝓤 H 𝓛.laws 𝓣 function) c_walks)
 
 pub spop-read-frame-records-spec : {M : Type 1} → stated.statement M
 unfolding code.routine tables_of
 spop-read-frame-records-spec 𝓤 𝓛 𝓜 𝓡 =
     entered 𝓤 𝓛.H (triple_of 𝓛 named-c.signature (named-c.spec 𝓛 𝓜.mem 𝓡.run))
     (tables 𝓤 𝓛.H 𝓜 𝓡 code.env).C (tables 𝓤 𝓛.H 𝓜 𝓡 code.env).Λ #c code.function (code.unfolded 𝓤 𝓛.H 𝓜 𝓡)
-    (c-meets 𝓛 𝓜.mem 𝓡.run (tables_of 𝓤 𝓛.H 𝓜 (tables 𝓤 𝓛.H 𝓜 𝓡 code.env))
+    (c_meets 𝓛 𝓜.mem 𝓡.run (tables_of 𝓤 𝓛.H 𝓜 (tables 𝓤 𝓛.H 𝓜 𝓡 code.env))
     (cited 𝓤 𝓛.H (Read 𝓛 𝓜.mem 𝓡.run) 𝓜 𝓡 code.env #read read-def.routine code.calls-records::read-frame-records (read-thm.met 𝓤 𝓛 𝓜 𝓡))
     (cited 𝓤 𝓛.H (Tell 𝓛 𝓜.mem 𝓡.run) 𝓜 𝓡 code.env #tell tell-def.routine code.calls-spop::tell-frame (tell-thm.met 𝓤 𝓛 𝓜 𝓡)))

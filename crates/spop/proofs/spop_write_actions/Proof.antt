@@ -1,12 +1,12 @@
 -- `spop::spop_write_actions` meets its contract: what the writer answers is told, and what it leaves is left.
 -- Assumes nothing.
 use borrow.Author.Rules.{rules}
-use Rattle.spop.proofs.Telling.{left-writes}
+use Rattle.spop.proofs.Telling.{left_writes}
 use Rattle.spop.proofs.spop_write_actions.Statement.{statement}
 use Rattle.spop.proofs.spop_write_actions.Tie as tie
 
 returns : tie.Need-returns
-returns c = left-writes c.before.before.before.before.write-actions.ensures c.tell.ensures
+returns c = left_writes c.before.before.before.before.write-actions.ensures c.tell.ensures
 
 pub spop-write-actions-spec : {M : Type 1} → statement M
 spop-write-actions-spec = tie.close (tie.spec (λ c κs. search rules) (λ c κs. search rules) (λ c. search rules) returns)

@@ -8,8 +8,8 @@ use lib.ListN.{length}
 use borrow.Author.Rules.{rules}
 use Rattle.answer.specs.Answer.{Answer, within}
 use Rattle.answer.specs.Writes.{Writes}
-use Rattle.types.specs.Form.{valueAnswer}
-use Rattle.spop.proofs.Telling.{left-writes}
+use Rattle.types.specs.Form.{value_answer}
+use Rattle.spop.proofs.Telling.{left_writes}
 use Rattle.spop.proofs.spop_write_value.Statement.{statement}
 use Rattle.spop.proofs.spop_write_value.Tie as tie
 
@@ -20,8 +20,8 @@ returns c =
     let w =
     subst
     (λ (x : Answer (List ℕ)). Writes x k.write-value.result a.out.now k.write-value.new.1.1.0)
-    (ap (valueAnswer a.buffer.now) k.before.before.value_of_lem.ensures) k.write-value.ensures in
-    left-writes w c.tell.ensures
+    (ap (value_answer a.buffer.now) k.before.before.value_of_lem.ensures) k.write-value.ensures in
+    left_writes w c.tell.ensures
 
 pub spop-write-value-spec : {M : Type 1} → statement M
 spop-write-value-spec = tie.close (tie.spec (λ c κs. search rules) (λ c κs. search rules) (λ c κs. search rules) (λ c. search rules) returns)

@@ -5,11 +5,11 @@ use mathlib.Core.Path.{◌≡◌, sym, ap, ◌∙◌}
 use Prim.Native.Nat.{◌+◌, ◌-◌, ◌*◌, ◌≤◌}
 use native.Mathlib.Omega.{arith}
 use lib.ListN.{length, take}
-use Rattle.parser.specs.Promise.{frameSaid}
-use Rattle.listing.proofs.Fitting.{frame-fits}
-use Rattle.spoplist.proofs.Standing.{fits-lies, Stood, read-stood}
-use Rattle.spoplist.proofs.Stopping.{said-taken, said-wait, said-refused}
-use Rattle.spoplist.specs.Inner.{readIn, side_in, Accepts}
+use Rattle.parser.specs.Promise.{frame_said}
+use Rattle.listing.proofs.Fitting.{frame_fits}
+use Rattle.spoplist.proofs.Standing.{fits_lies, Stood, read_stood}
+use Rattle.spoplist.proofs.Stopping.{said_taken, said_wait, said_refused}
+use Rattle.spoplist.specs.Inner.{read_in, side_in, Accepts}
 use borrow.Author.Rules.{rules}
 use Rattle.spoplist.proofs.list_one.Statement.{statement}
 use Rattle.spoplist.proofs.list_one.Tie as tie
@@ -20,8 +20,8 @@ taken : (c : tie.After-head)
 taken c =
     let a = c.before.before.before.before.before.before.before.before.before.before.before.before.before.before.before.before.before.args in
     let g = c.head.given in
-    said-taken a.agents a.messages.now a.pairs.now a.actions.now a.rest.now g.0.0 g.0.1.0 g.0.1.1.0
-    (sym (ap frameSaid g.1) ∙ c.before.before.before.before.before.before.before.before.read_one.ensures.says)
+    said_taken a.agents a.messages.now a.pairs.now a.actions.now a.rest.now g.0.0 g.0.1.0 g.0.1.1.0
+    (sym (ap frame_said g.1) ∙ c.before.before.before.before.before.before.before.before.read_one.ensures.says)
 
 -- the records stand in the tables
 stood : (c : tie.After-head)
@@ -32,7 +32,7 @@ stood c =
     let g = c.head.given in
     let all : g.0.1.1.0 - 0 ≡ g.0.1.1.0 = omega arith in
     rw all
-    (read-stood a.agents a.rest.now a.messages.now _ a.pairs.now _ a.actions.now _ g.0.0 g.0.1.0 g.0.1.1.0 g.1
+    (read_stood a.agents a.rest.now a.messages.now _ a.pairs.now _ a.actions.now _ g.0.0 g.0.1.0 g.0.1.1.0 g.1
     c.before.before.before.before.before.before.before.before.read_one.ensures)
 
 print-requires : tie.Need-print-requires
@@ -40,7 +40,7 @@ print-requires c κs =
     let z = c.before.before.before.before.before.before.before.before.before.before.before.before.before.before.before.before.before.before.before.before.before.before.before in
     let k = c.before.before.before.before.before.known-told.given in
     let w = c.before.before.before.write-frame-line in
-    fits-lies (frame-fits _ _ _ _ z.ranges.index.fits (omega (arith, k)) (omega (arith, k)) (omega (arith, k)) (omega (arith, k)) (omega (arith, z.requires))) w.ensures w.auto.1.1.1.0
+    fits_lies (frame_fits _ _ _ _ z.ranges.index.fits (omega (arith, k)) (omega (arith, k)) (omega (arith, k)) (omega (arith, k)) (omega (arith, z.requires))) w.ensures w.auto.1.1.1.0
 
 -- and what is lent has room for their lines
 long : (c : tie.After-list-records-arg3)
@@ -71,14 +71,14 @@ returns-5 : tie.Need-returns-5
 returns-5 c =
     let a = c.before.before.before.before.before.before.before.before.before.before.before.before.before.before.before.before.before.before.args in
     let g = c.before.missing.given in
-    said-wait (readIn a.agents a.messages.now a.pairs.now a.actions.now a.rest.now) g.0.0 (sym (ap frameSaid g.1) ∙ c.before.before.before.before.before.before.before.before.before.read_one.ensures.says)
+    said_wait (read_in a.agents a.messages.now a.pairs.now a.actions.now a.rest.now) g.0.0 (sym (ap frame_said g.1) ∙ c.before.before.before.before.before.before.before.before.before.read_one.ensures.says)
 
 returns-6 : tie.Need-returns-6
 returns-6 c =
     let a = c.before.before.before.before.before.before.before.before.before.before.before.before.before.before.before.before.before.before.args in
     let g = c.before.r.given in
-    said-refused (readIn a.agents a.messages.now a.pairs.now a.actions.now a.rest.now) g.0.0.number g.0.0.place
-    (sym (ap frameSaid g.1) ∙ c.before.before.before.before.before.before.before.before.before.read_one.ensures.says)
+    said_refused (read_in a.agents a.messages.now a.pairs.now a.actions.now a.rest.now) g.0.0.number g.0.0.place
+    (sym (ap frame_said g.1) ∙ c.before.before.before.before.before.before.before.before.before.read_one.ensures.says)
 
 pub list-one-spec : {M : Type 1} → statement M
 list-one-spec =

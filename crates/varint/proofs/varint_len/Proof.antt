@@ -11,8 +11,8 @@ use lib.Dec.{lit<}
 use lib.ListN.{length}
 use lib.Pow.{pow_mono, shl_exact}
 use borrow.Author.Rules.{rules}
-use Rattle.answer.proofs.Cases.{lt-or-le}
-use Rattle.varint.specs.Number.{numberBytes}
+use Rattle.answer.proofs.Cases.{lt_or_le}
+use Rattle.varint.specs.Number.{number_bytes}
 use Rattle.varint.proofs.Writing.{bytes_one, reach, reached, length_before, length_from}
 use Rattle.varint.proofs.varint_len.Statement.{statement}
 use Rattle.varint.proofs.varint_len.Tie as tie
@@ -31,7 +31,7 @@ bits_of i h =
     (record {
       below = o.2;
       above = o.3;
-      few = ⊎_elim (λ l. omega arith) (λ l. absurd (omega (arith, o.3, pow_mono {i = 63} {j = o.0} l))) (lt-or-le o.0 63);
+      few = ⊎_elim (λ l. omega arith) (λ l. absurd (omega (arith, o.3, pow_mono {i = 63} {j = o.0} l))) (lt_or_le o.0 63);
     })
 
 -- `1 << 7k` keeps its one bit
@@ -46,27 +46,27 @@ module _ (i : ℕ) where
   row = (64 - count_leading_zeros 64 steps) * 37 / 256
 
   -- which is a seventh of the bits
-  a-seventh : row ≡ (64 - count_leading_zeros 64 steps) / 7
-  a-seventh = omega arith
+  a_seventh : row ≡ (64 - count_leading_zeros 64 steps) / 7
+  a_seventh = omega arith
 
   abbrev threshold : ℕ
   threshold = (1 * 2 ^ (7 * row)) % 2 ^ 64
 
   module _ (some : 240 ≤ i) (fits : i < 2 ^ 64) where
-    few-rows : row < 9
-    few-rows = omega (arith, (bits_of i fits).few, a-seventh)
+    few_rows : row < 9
+    few_rows = omega (arith, (bits_of i fits).few, a_seventh)
 
-    shorter : steps - (steps + 127) / 128 + 1 < threshold → row + 1 ≡ length (numberBytes i)
+    shorter : steps - (steps + 127) / 128 + 1 < threshold → row + 1 ≡ length (number_bytes i)
     shorter t =
         let b = bits_of i fits in
-        let less : steps < reach ((64 - count_leading_zeros 64 steps) / 7) = subst (λ (k : ℕ). steps < reach k) a-seventh ((reached row steps).1 (omega (arith, t, one_bit row few-rows))) in
-        omega (arith, a-seventh, length_before i _ some fits b.below b.above less)
+        let less : steps < reach ((64 - count_leading_zeros 64 steps) / 7) = subst (λ (k : ℕ). steps < reach k) a_seventh ((reached row steps).1 (omega (arith, t, one_bit row few_rows))) in
+        omega (arith, a_seventh, length_before i _ some fits b.below b.above less)
 
-    longer : threshold ≤ steps - (steps + 127) / 128 + 1 → row + 2 ≡ length (numberBytes i)
+    longer : threshold ≤ steps - (steps + 127) / 128 + 1 → row + 2 ≡ length (number_bytes i)
     longer t =
         let b = bits_of i fits in
-        let more : reach row ≤ steps = ⊎_elim (λ l. absurd (omega (arith, t, one_bit row few-rows, (reached row steps).0 l))) (λ l. l) (lt-or-le steps (reach row)) in
-        omega (arith, a-seventh, length_from i _ some fits b.below b.above (subst (λ (k : ℕ). reach k ≤ steps) a-seventh more))
+        let more : reach row ≤ steps = ⊎_elim (λ l. absurd (omega (arith, t, one_bit row few_rows, (reached row steps).0 l))) (λ l. l) (lt_or_le steps (reach row)) in
+        omega (arith, a_seventh, length_from i _ some fits b.below b.above (subst (λ (k : ℕ). reach k ≤ steps) a_seventh more))
 
 returns : tie.Need-returns
 returns c = rw (bytes_one _ c.if1.true)

@@ -6,15 +6,15 @@ use native.Mathlib.Omega.{arith}
 use Rattle.walk.proofs.walk.Statement.{statement}
 use Rattle.walk.proofs.walk.Tie as tie
 
-abbrev invariant-loop : tie.invariant-loop
-invariant-loop bytes place₀ i₀ t8 t9 t10 t11 place i = i ≤ 16
+abbrev invariant_loop : tie.invariant-loop
+invariant_loop bytes place₀ i₀ t8 t9 t10 t11 place i = i ≤ 16
 
-abbrev decreases-loop : tie.decreases-loop
-decreases-loop bytes place₀ i₀ t8 t9 t10 t11 place i = 16 - i
+abbrev decreases_loop : tie.decreases-loop
+decreases_loop bytes place₀ i₀ t8 t9 t10 t11 place i = 16 - i
 
 pub walk-spec : {M : Type 1} → statement M
 walk-spec =
-    tie.close (tie.spec invariant-loop decreases-loop (λ c. search rules) (λ c κs. search rules) (λ c. search rules) (λ c κs. search rules) (λ c. search rules)
+    tie.close (tie.spec invariant_loop decreases_loop (λ c. search rules) (λ c κs. search rules) (λ c. search rules) (λ c κs. search rules) (λ c. search rules)
     (λ c. search rules) (λ c κs. search rules) (λ c. search rules) (λ c. search rules) (λ c. search rules) (λ c κs. search rules)
     (λ c κs. search rules) (λ c. search rules) (λ c κs. search rules) (λ c κs. search rules) (λ c. search rules) (λ c κs. search rules)
     (λ c. search rules) (λ c. search rules) (λ c. search rules) (λ c. search rules) (λ c. search rules))

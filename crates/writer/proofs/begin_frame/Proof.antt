@@ -7,16 +7,16 @@ use native.Mathlib.Omega.{arith}
 use lib.ListN.{length}
 use borrow.Author.Tests.{le-leb}
 use Rattle.varint.proofs.Writing.{length_most}
-use Rattle.frame.specs.Head.{fourBytes, headBytes}
-use Rattle.frame.proofs.Laws.{head-length}
-use Rattle.writer.proofs.Begun.{begun-over, begun-short, begun-in, front_length, begins-refused}
+use Rattle.frame.specs.Head.{four_bytes, head_bytes}
+use Rattle.frame.proofs.Laws.{head_length}
+use Rattle.writer.proofs.Begun.{begun_over, begun_short, begun_in, front_length, begins_refused}
 use Rattle.writer.proofs.begin_frame.Statement.{statement}
 use Rattle.writer.proofs.begin_frame.Tie as tie
 
 returns : tie.Need-returns
 returns c =
     let a = c.before.before.args in
-    begins-refused 12 a.out.now (begun-over (length a.out.now) a.limit a.head a.len (omega (arith, c.if1.true)))
+    begins_refused 12 a.out.now (begun_over (length a.out.now) a.limit a.head a.len (omega (arith, c.if1.true)))
 
 head-len-requires : tie.Need-head-len-requires
 head-len-requires c κs = search rules
@@ -26,7 +26,7 @@ small : (c : tie.After-head-len) → c.head-len.result + c.before.before.before.
 small c =
     let s = c.before.before.before in
     let h = s.args.head in
-    omega (arith, c.head-len.ensures, head-length h, length_most h.stream, length_most h.frame, c.before.if1.false, s.ranges)
+    omega (arith, c.head-len.ensures, head_length h, length_most h.stream, length_most h.frame, c.before.if1.false, s.ranges)
 
 add-behind : tie.Need-overflow-add-behind
 add-behind c = omega (arith, small c)
@@ -37,13 +37,13 @@ add-whole c = omega (arith, small c)
 returns-2 : tie.Need-returns-2
 returns-2 c =
     let a = c.before.before.before.before.args in
-    begins-refused 12 a.out.now (begun-over (length a.out.now) a.limit a.head a.len (omega (arith, c.if2.true, c.before.head-len.ensures)))
+    begins_refused 12 a.out.now (begun_over (length a.out.now) a.limit a.head a.len (omega (arith, c.if2.true, c.before.head-len.ensures)))
 
 returns-3 : tie.Need-returns-3
 returns-3 c =
     let a = c.before.before.before.before.before.args in
     let n = c.before.before.head-len.ensures in
-    begins-refused 11 a.out.now (begun-short (length a.out.now) a.limit a.head a.len (omega (arith, c.before.if2.false, n)) (omega (arith, c.if3.true, n)))
+    begins_refused 11 a.out.now (begun_short (length a.out.now) a.limit a.head a.len (omega (arith, c.before.if2.false, n)) (omega (arith, c.if3.true, n)))
 
 cast-write-head : tie.Need-overflow-cast-write-head
 cast-write-head c = search rules
@@ -59,10 +59,10 @@ returns-4 c =
     let e = c.before.before.before.before in
     let a = e.before.before.before.before.before.args in
     let n = e.before.before.head-len.ensures in
-    let behind = length (headBytes a.head) + a.len in
+    let behind = length (head_bytes a.head) + a.len in
     let fits : 4 + behind ≤ length a.out.now = omega (arith, e.if3.false, n) in
-    rw (begun-in (length a.out.now) a.limit a.head a.len (omega (arith, e.before.if2.false, n)) fits)
-    (let room = le-leb (length (fourBytes behind ++ headBytes a.head)) (length a.out.now) (omega (arith, front_length a.head a.len)) in
+    rw (begun_in (length a.out.now) a.limit a.head a.len (omega (arith, e.before.if2.false, n)) fits)
+    (let room = le-leb (length (four_bytes behind ++ head_bytes a.head)) (length a.out.now) (omega (arith, front_length a.head a.len)) in
     let w = rw n at c.before.before.write-head.ensures in
     record { says = simp room at w.says; holds = simp room at w.holds })
 

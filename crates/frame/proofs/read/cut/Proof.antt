@@ -6,7 +6,7 @@ use Prim.Native.Nat.{ℕ, ◌+◌, ◌-◌}
 use lib.ListN.{length, take}
 use Rattle.answer.specs.Answer.{done}
 use Rattle.frame.specs.Read.{wait, answered}
-use Rattle.frame.proofs.Cutting.{cut-start, cut-over, cut-wait, cut-whole}
+use Rattle.frame.proofs.Cutting.{cut_start, cut_over, cut_wait, cut_whole}
 use Rattle.frame.proofs.read.cut.Statement.{statement}
 use Rattle.frame.proofs.read.cut.Tie as tie
 
@@ -14,7 +14,7 @@ sub-t7 : tie.Need-overflow-sub-t7
 sub-t7 c = search rules
 
 returns : tie.Need-returns
-returns c = let a = c.before.before.args in sym (cut-start a.limit a.input.now c.if1.true)
+returns c = let a = c.before.before.args in sym (cut_start a.limit a.input.now c.if1.true)
 
 four-requires : tie.Need-four-requires
 four-requires c κs = search rules
@@ -23,7 +23,7 @@ returns-2 : tie.Need-returns-2
 returns-2 c =
     let k = c.before in
     let a = k.before.before.before.args in
-    sym (cut-over a.limit a.input.now k.before.if1.false (rw (sym k.four.ensures) c.if2.true))
+    sym (cut_over a.limit a.input.now k.before.if1.false (rw (sym k.four.ensures) c.if2.true))
 
 cast-end : tie.Need-overflow-cast-end
 cast-end c = search rules
@@ -39,14 +39,14 @@ returns-3 c =
     let k = c.before.before in
     let a = k.before.before.before.args in
     ap (λ (n : ℕ). wait (4 + n - length a.input.now)) k.four.ensures
-    ∙ sym (cut-wait a.limit a.input.now k.before.if1.false (rw (sym k.four.ensures) c.before.if2.false) (rw (sym k.four.ensures) c.if3.true))
+    ∙ sym (cut_wait a.limit a.input.now k.before.if1.false (rw (sym k.four.ensures) c.before.if2.false) (rw (sym k.four.ensures) c.if3.true))
 
 returns-4 : tie.Need-returns-4
 returns-4 c =
     let k = c.before.before in
     let a = k.before.before.before.args in
     ap (λ (n : ℕ). answered (done (take (4 + n) a.input.now) (4 + n))) k.four.ensures
-    ∙ sym (cut-whole a.limit a.input.now k.before.if1.false (rw (sym k.four.ensures) c.before.if2.false) (rw (sym k.four.ensures) c.if3.false))
+    ∙ sym (cut_whole a.limit a.input.now k.before.if1.false (rw (sym k.four.ensures) c.before.if2.false) (rw (sym k.four.ensures) c.if3.false))
 
 pub cut_spec : {M : Type 1} → statement M
 cut_spec = tie.close (tie.spec sub-t7 returns four-requires returns-2 cast-end add-end sub-t9 returns-3 returns-4)

@@ -3,7 +3,7 @@
 use borrow.Author.Rules.{rules}
 use mathlib.Core.Path.{refl}
 use native.Mathlib.Omega.{arith}
-use Rattle.frame.specs.Head.{fourNumber}
+use Rattle.frame.specs.Head.{four_number}
 use Rattle.frame.proofs.read.four.Statement.{statement}
 use Rattle.frame.proofs.read.four.Tie as tie
 
@@ -50,7 +50,7 @@ add-result-3 : tie.Need-overflow-add-result-3
 add-result-3 c = omega (arith, c.shared-slice-known4.given 0, c.shared-slice-known4.given 1, c.shared-slice-known4.given 2, c.shared-slice-known4.given 3)
 
 returns : tie.Need-returns
-unfolding fourNumber
+unfolding four_number
 returns c = refl
 
 pub four-spec : {M : Type 1} → statement M

@@ -6,22 +6,22 @@ use native.Mathlib.Nat.{add-zero}
 use native.Mathlib.Omega.{arith}
 use lib.ListN.{length}
 use borrow.Author.Tests.{le-leb, lt-leb}
-use Rattle.frame.specs.Records.{actionWidth, actionAt}
+use Rattle.frame.specs.Records.{action_width, action_at}
 use Rattle.frame.proofs.table.action_at.Statement.{statement}
 use Rattle.frame.proofs.table.action_at.Tie as tie
 
 returns : tie.Need-returns
-unfolding actionAt
+unfolding action_at
 returns c =
     let a = c.before.args in
-    simp (lt-leb ((a.i + 1) * actionWidth) (length a.actions.now) (omega (arith, c.if1.true)))
+    simp (lt-leb ((a.i + 1) * action_width) (length a.actions.now) (omega (arith, c.if1.true)))
 
 returns-2 : tie.Need-returns-2
-unfolding actionAt
+unfolding action_at
 returns-2 c =
     let e = c.before.before.before.before.before.before.before.before in
     let a = e.before.args in
-    simp (add-zero, le-leb ((a.i + 1) * actionWidth) (length a.actions.now) (omega (arith, e.if1.false)))
+    simp (add-zero, le-leb ((a.i + 1) * action_width) (length a.actions.now) (omega (arith, e.if1.false)))
 
 pub action-at-spec : {M : Type 1} → statement M
 action-at-spec =

@@ -3,7 +3,7 @@
 use borrow.Author.Rules.{rules}
 use native.Mathlib.Omega.{arith}
 use Rattle.varint.proofs.Writing.{length_most}
-use Rattle.frame.proofs.Laws.{head-length}
+use Rattle.frame.proofs.Laws.{head_length}
 use Rattle.frame.proofs.write.head_len.Statement.{statement}
 use Rattle.frame.proofs.write.head_len.Tie as tie
 
@@ -22,7 +22,7 @@ add-result-2 c =
     omega (arith, c.before.varint-len.ensures, c.varint-len2.ensures, length_most h.stream, length_most h.frame)
 
 returns : tie.Need-returns
-returns c = omega (arith, c.before.varint-len.ensures, c.varint-len2.ensures, head-length c.before.before.args.head)
+returns c = omega (arith, c.before.varint-len.ensures, c.varint-len2.ensures, head_length c.before.before.args.head)
 
 pub head-len-spec : {M : Type 1} → statement M
 head-len-spec =

@@ -5,7 +5,7 @@ use borrow.Author.Rules.{rules}
 use native.Mathlib.Omega.{arith}
 use lib.ListN.{length-set}
 use lib.Seq.{sets-eq}
-use Rattle.frame.specs.Head.{fourBytes}
+use Rattle.frame.specs.Head.{four_bytes}
 use Rattle.frame.proofs.write.put_start.Statement.{statement}
 use Rattle.frame.proofs.write.put_start.Tie as tie
 
@@ -64,9 +64,9 @@ same_length : tie.Need-same-length
 same_length c = search rules depth 12
 
 returns : tie.Need-returns
-unfolding fourBytes
+unfolding four_bytes
 returns c =
-    let a = c.args in sets-eq (fourBytes a.behind ++ (a.frame-type ∷ fourBytes a.flags)) a.out.now 0 c.requires
+    let a = c.args in sets-eq (four_bytes a.behind ++ (a.frame-type ∷ four_bytes a.flags)) a.out.now 0 c.requires
 
 pub put-start-spec : {M : Type 1} → statement M
 put-start-spec =

@@ -9,31 +9,31 @@ use native.Mathlib.Omega.{arith}
 use lib.ListN.{length, length-append}
 use borrow.Rule.Slice.PartMut.{put_mid}
 use Rattle.answer.specs.Answer.{written, leaves}
-use Rattle.varint.specs.Number.{numberBytes}
+use Rattle.varint.specs.Number.{number_bytes}
 use Rattle.varint.proofs.Writing.{length_most}
-use Rattle.answer.proofs.Output.{leaves-length, leaves-writes, writes-none, writes-all}
-use Rattle.frame.specs.Head.{fourBytes, headBytes}
-use Rattle.frame.proofs.Laws.{four-long, startBytes, start-long, head-length, head-parts}
+use Rattle.answer.proofs.Output.{leaves_length, leaves_writes, writes_none, writes_all}
+use Rattle.frame.specs.Head.{four_bytes, head_bytes}
+use Rattle.frame.proofs.Laws.{four_long, start_bytes, start_long, head_length, head_parts}
 use Rattle.frame.proofs.write.write_head.Statement.{statement}
 use Rattle.frame.proofs.write.write_head.Tie as tie
 
 -- There is room for all of it past the first test.
 room : (c : tie.Else1)
     → let a = c.before.before.before.args in
-    length (fourBytes a.behind ++ headBytes a.head) ≤ length a.out.now
+    length (four_bytes a.behind ++ head_bytes a.head) ≤ length a.out.now
 room c =
     let a = c.before.before.before.args in
-    simp length-append (omega (arith, c.if1.false, c.before.head-len.ensures, four-long a.behind))
+    simp length-append (omega (arith, c.if1.false, c.before.head-len.ensures, four_long a.behind))
 
-parts-room : (c : tie.Else1)
+parts_room : (c : tie.Else1)
     → let a = c.before.before.before.args in
-    9 + length (numberBytes a.head.stream) + length (numberBytes a.head.frame) ≤ length a.out.now
-parts-room c = let a = c.before.before.before.args in omega (arith, c.if1.false, c.before.head-len.ensures, head-length a.head)
+    9 + length (number_bytes a.head.stream) + length (number_bytes a.head.frame) ≤ length a.out.now
+parts_room c = let a = c.before.before.before.args in omega (arith, c.if1.false, c.before.head-len.ensures, head_length a.head)
 
 -- What the output holds once the nine bytes of fixed places are written, and the first and the second number behind them.
 start : (c : tie.After-put-start)
     → let a = c.before.before.before.before.before.before.args in
-    c.put-start.new.1.1.1.0 ≡ leaves (written (startBytes a.behind a.head)) a.out.now
+    c.put-start.new.1.1.1.0 ≡ leaves (written (start_bytes a.behind a.head)) a.out.now
 start c =
     let a = c.before.before.before.before.before.before.args in
     c.put-start.ensures
@@ -42,24 +42,24 @@ one : (c : tie.After-encode-varint)
     → let p = c.before.before.before.before in
     let a = p.before.before.before.before.before.before.args in
     let out = p.put-start.new.1.1.1.0 in
-    put_mid 9 (length out - 9) out c.encode-varint.new.1.0 ≡ leaves (written (startBytes a.behind a.head ++ numberBytes a.head.stream)) a.out.now
+    put_mid 9 (length out - 9) out c.encode-varint.new.1.0 ≡ leaves (written (start_bytes a.behind a.head ++ number_bytes a.head.stream)) a.out.now
 one c =
     let p = c.before.before.before.before in
     let e = p.before.before.before in
     let a = e.before.before.before.args in
-    leaves-writes (startBytes a.behind a.head) (numberBytes a.head.stream) a.out.now p.put-start.new.1.1.1.0 c.encode-varint.new.1.0 9
-    (start-long a.behind a.head) (start p)
-    (omega (arith, start-long a.behind a.head, parts-room e))
+    leaves_writes (start_bytes a.behind a.head) (number_bytes a.head.stream) a.out.now p.put-start.new.1.1.1.0 c.encode-varint.new.1.0 9
+    (start_long a.behind a.head) (start p)
+    (omega (arith, start_long a.behind a.head, parts_room e))
     c.encode-varint.ensures
 
-one-front : (c : tie.After-encode-varint)
+one_front : (c : tie.After-encode-varint)
     → let p = c.before.before.before.before in
     let a = p.before.before.before.before.before.before.args in
-    length (startBytes a.behind a.head ++ numberBytes a.head.stream) ≡ 9 + p.before.before.varint-len.result
-one-front c =
+    length (start_bytes a.behind a.head ++ number_bytes a.head.stream) ≡ 9 + p.before.before.varint-len.result
+one_front c =
     let v = c.before.before.before.before.before.before in
     let a = v.before.before.before.before.args in
-    omega (arith, length-append (startBytes a.behind a.head) (numberBytes a.head.stream), start-long a.behind a.head, v.varint-len.ensures)
+    omega (arith, length-append (start_bytes a.behind a.head) (number_bytes a.head.stream), start_long a.behind a.head, v.varint-len.ensures)
 
 two : (c : tie.After-encode-varint2)
     → let k = c.before.before.before.before in
@@ -68,28 +68,28 @@ two : (c : tie.After-encode-varint2)
     let a = v.before.before.before.before.args in
     let out = p.put-start.new.1.1.1.0 in
     let then = put_mid 9 (length out - 9) out k.encode-varint.new.1.0 in
-    put_mid (9 + v.varint-len.result) (length then - (9 + v.varint-len.result)) then c.encode-varint2.new.1.0 ≡ leaves (written (fourBytes a.behind ++ headBytes a.head)) a.out.now
+    put_mid (9 + v.varint-len.result) (length then - (9 + v.varint-len.result)) then c.encode-varint2.new.1.0 ≡ leaves (written (four_bytes a.behind ++ head_bytes a.head)) a.out.now
 two c =
     let k = c.before.before.before.before in
     let p = k.before.before.before.before in
     let v = p.before.before in
     let a = v.before.before.before.before.args in
-    leaves-writes (startBytes a.behind a.head ++ numberBytes a.head.stream) (numberBytes a.head.frame) a.out.now _ c.encode-varint2.new.1.0 (9 + v.varint-len.result)
-    (one-front k) (one k)
-    (omega (arith, one-front k, v.varint-len.ensures, parts-room v.before))
+    leaves_writes (start_bytes a.behind a.head ++ number_bytes a.head.stream) (number_bytes a.head.frame) a.out.now _ c.encode-varint2.new.1.0 (9 + v.varint-len.result)
+    (one_front k) (one k)
+    (omega (arith, one_front k, v.varint-len.ensures, parts_room v.before))
     c.encode-varint2.ensures
-    ∙ ap (λ (l : List ℕ). leaves (written l) a.out.now) (head-parts a.behind a.head)
+    ∙ ap (λ (l : List ℕ). leaves (written l) a.out.now) (head_parts a.behind a.head)
 
 head-len-requires : tie.Need-head-len-requires
 head-len-requires c κs = search rules
 
 add-if1 : tie.Need-overflow-add-if1
-add-if1 c = let h = c.before.before.args.head in omega (arith, c.head-len.ensures, head-length h, length_most h.stream, length_most h.frame)
+add-if1 c = let h = c.before.before.args.head in omega (arith, c.head-len.ensures, head_length h, length_most h.stream, length_most h.frame)
 
 returns : tie.Need-returns
 returns c =
     let a = c.before.before.before.args in
-    writes-none (fourBytes a.behind ++ headBytes a.head) _ (simp length-append (omega (arith, c.if1.true, c.before.head-len.ensures, four-long a.behind)))
+    writes_none (four_bytes a.behind ++ head_bytes a.head) _ (simp length-append (omega (arith, c.if1.true, c.before.head-len.ensures, four_long a.behind)))
 
 varint-len-requires : tie.Need-varint-len-requires
 varint-len-requires c κs = search rules
@@ -98,14 +98,14 @@ add-n : tie.Need-overflow-add-n
 add-n c = omega (arith, c.varint-len.ensures, length_most c.before.before.before.before.args.head.stream)
 
 put-start-requires : tie.Need-put-start-requires
-put-start-requires c κs = omega (arith, parts-room c.before.before)
+put-start-requires c κs = omega (arith, parts_room c.before.before)
 
 sub-encode-varint : tie.Need-overflow-sub-encode-varint
 sub-encode-varint c =
     let p = c.before.before in
     let e = p.before.before.before in
     let a = e.before.before.before.args in
-    omega (arith, parts-room e, ap length (start p), leaves-length (startBytes a.behind a.head) a.out.now (omega (arith, start-long a.behind a.head, parts-room e)))
+    omega (arith, parts_room e, ap length (start p), leaves_length (start_bytes a.behind a.head) a.out.now (omega (arith, start_long a.behind a.head, parts_room e)))
 
 part-encode-varint-start : tie.Need-slice-bounds-encode-varint-start
 part-encode-varint-start c = sub-encode-varint c
@@ -121,7 +121,7 @@ sub-encode-varint-2 c =
     let k = c.before.before in
     let v = k.before.before.before.before.before.before in
     let a = v.before.before.before.before.args in
-    omega (arith, parts-room v.before, v.varint-len.ensures, ap length (one k), leaves-length (startBytes a.behind a.head ++ numberBytes a.head.stream) a.out.now (omega (arith, one-front k, v.varint-len.ensures, parts-room v.before)))
+    omega (arith, parts_room v.before, v.varint-len.ensures, ap length (one k), leaves_length (start_bytes a.behind a.head ++ number_bytes a.head.stream) a.out.now (omega (arith, one_front k, v.varint-len.ensures, parts_room v.before)))
 
 part-encode-varint-start-2 : tie.Need-slice-bounds-encode-varint-start-2
 part-encode-varint-start-2 c = sub-encode-varint-2 c
@@ -149,8 +149,8 @@ returns-2 c =
     let k = c.before.before.before in
     let v = c.before.before.before.before.before.before.before.before.before.before.before.before.before in
     let a = v.before.before.before.before.args in
-    writes-all (fourBytes a.behind ++ headBytes a.head) _ _ _ (room v.before)
-    (omega (arith, length-append (fourBytes a.behind) (headBytes a.head), four-long a.behind, head-length a.head, v.varint-len.ensures, c.varint-len2.ensures))
+    writes_all (four_bytes a.behind ++ head_bytes a.head) _ _ _ (room v.before)
+    (omega (arith, length-append (four_bytes a.behind) (head_bytes a.head), four_long a.behind, head_length a.head, v.varint-len.ensures, c.varint-len2.ensures))
     (two k)
 
 pub write-head-spec : {M : Type 1} → statement M

@@ -1,25 +1,25 @@
 -- `listing::line::write_end_line` meets its contract: there is no room, or `put_filled` writes all.
 -- Assumes nothing.
 use native.Mathlib.Omega.{arith}
-use Rattle.answer.proofs.Output.{writes-none, writes-all}
-use Rattle.listing.specs.Lines.{endLine}
+use Rattle.answer.proofs.Output.{writes_none, writes_all}
+use Rattle.listing.specs.Lines.{end_line}
 use borrow.Author.Rules.{rules}
 use Rattle.listing.proofs.line.write_end_line.Statement.{statement}
 use Rattle.listing.proofs.line.write_end_line.Tie as tie
 
 returns : tie.Need-returns
-unfolding endLine
+unfolding end_line
 returns c = let a = c.before.before.before.before.before.before.before in
-    rw c.refused.ensures (writes-none (endLine a.args.used a.args.number a.args.at) a.args.out.now (omega (arith, c.before.before.filled-len.ensures.0, c.before.if1.true)))
+    rw c.refused.ensures (writes_none (end_line a.args.used a.args.number a.args.at) a.args.out.now (omega (arith, c.before.before.filled-len.ensures.0, c.before.if1.true)))
 
 put-filled-requires : tie.Need-put-filled-requires
 put-filled-requires c κs = omega (arith, c.before.before.before.before.filled-len.ensures.0, c.before.before.before.if1.false)
 
 returns-2 : tie.Need-returns-2
-unfolding endLine
+unfolding end_line
 returns-2 c = let a = c.before.before.before.before.before.before.before.before.before.before.before.before in
     let p = c.before.before.put-filled.ensures in
-    writes-all (endLine a.args.used a.args.number a.args.at) a.args.out.now _ _ (omega (arith, c.before.before.before.before.before.before.before.filled-len.ensures.0, c.before.before.before.before.before.before.if1.false)) p.counts p.holds
+    writes_all (end_line a.args.used a.args.number a.args.at) a.args.out.now _ _ (omega (arith, c.before.before.before.before.before.before.before.filled-len.ensures.0, c.before.before.before.before.before.before.if1.false)) p.counts p.holds
 
 pub write-end-line-spec : {M : Type 1} → statement M
 write-end-line-spec =

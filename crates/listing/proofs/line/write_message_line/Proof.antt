@@ -8,12 +8,12 @@ use native.Mathlib.Omega.{arith}
 use lib.ListN.{length}
 use borrow.Author.Tests.{not-true, not-false, leb-true}
 use Rattle.answer.specs.Answer.{refused, written}
-use Rattle.answer.proofs.Order.{order-none, order-fails, order-holds}
-use Rattle.answer.proofs.Output.{writes-refusal}
+use Rattle.answer.proofs.Order.{order_none, order_fails, order_holds}
+use Rattle.answer.proofs.Output.{writes_refusal}
 use Rattle.types.specs.Form.{inside}
-use Rattle.types.proofs.Writing.{part-lent}
-use Rattle.listing.specs.Lines.{messageLine}
-use Rattle.listing.proofs.Pieces.{message-parts}
+use Rattle.types.proofs.Writing.{part_lent}
+use Rattle.listing.specs.Lines.{message_line}
+use Rattle.listing.proofs.Pieces.{message_parts}
 use borrow.Author.Rules.{rules}
 use Rattle.listing.proofs.line.write_message_line.Statement.{statement}
 use Rattle.listing.proofs.line.write_message_line.Tie as tie
@@ -28,8 +28,8 @@ returns : tie.Need-returns
 returns c = let a = c.before.before.before.before.before.args in
     let f = a.frame.now in
     rw c.refused.ensures
-    (writes-refusal 16 0 a.out.now
-    (order-fails (refused 16 0) _ [] (written (messageLine a.index f a.message)) (sym c.before.before.is-inside.ensures ∙ not-true _ c.before.if1.true)))
+    (writes_refusal 16 0 a.out.now
+    (order_fails (refused 16 0) _ [] (written (message_line a.index f a.message)) (sym c.before.before.is-inside.ensures ∙ not-true _ c.before.if1.true)))
 
 add-to : tie.Need-overflow-add-to
 add-to c = omega (arith, ends c, c.before.before.before.before.well-formed)
@@ -41,8 +41,8 @@ returns-2 : tie.Need-returns-2
 returns-2 c = let a = c.before.before.before.before.before.before.before.before.before.before.before.before.before.args in
     let f = a.frame.now in
     let m = a.message in
-    rw (order-holds (refused 16 0) _ [] (written (messageLine a.index f m)) (named c.before.before.before.before.before.before.before.before.before), order-none (written (messageLine a.index f m)), message-parts a.index f m)
-    (rw part-lent at c.before.before.write-named.ensures)
+    rw (order_holds (refused 16 0) _ [] (written (message_line a.index f m)) (named c.before.before.before.before.before.before.before.before.before), order_none (written (message_line a.index f m)), message_parts a.index f m)
+    (rw part_lent at c.before.before.write-named.ensures)
 
 pub write-message-line-spec : {M : Type 1} → statement M
 write-message-line-spec =

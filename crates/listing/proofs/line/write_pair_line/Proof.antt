@@ -7,18 +7,18 @@ use lib.ListN.{length}
 use borrow.Author.Tests.{leb-true}
 use Rattle.answer.specs.Answer.{written}
 use Rattle.answer.specs.Inner.{Passes}
-use Rattle.answer.proofs.Order.{passes-zero, lines-refuse, lines-pass}
-use Rattle.answer.proofs.Output.{writes-refusal}
-use Rattle.types.proofs.Writing.{part-lent}
-use Rattle.listing.specs.Lines.{pairLine}
-use Rattle.listing.specs.Check.{pairLineChecks}
+use Rattle.answer.proofs.Order.{passes_zero, lines_refuse, lines_pass}
+use Rattle.answer.proofs.Output.{writes_refusal}
+use Rattle.types.proofs.Writing.{part_lent}
+use Rattle.listing.specs.Lines.{pair_line}
+use Rattle.listing.specs.Check.{pair_line_checks}
 use Rattle.listing.proofs.Pieces.{pair_parts}
 use borrow.Author.Rules.{rules}
 use Rattle.listing.proofs.line.write_pair_line.Statement.{statement}
 use Rattle.listing.proofs.line.write_pair_line.Tie as tie
 
-none : (c : tie.Else1) → let a = c.before.before.before.before.args in Passes (pairLineChecks a.frame.now a.pair)
-none c = passes-zero _ tt (sym c.before.check-pair.ensures ∙ c.if1.false)
+none : (c : tie.Else1) → let a = c.before.before.before.before.args in Passes (pair_line_checks a.frame.now a.pair)
+none c = passes_zero _ tt (sym c.before.check-pair.ensures ∙ c.if1.false)
 
 ends : (c : tie.Else1) → let a = c.before.before.before.before.args in a.pair.start + a.pair.len ≤ length a.frame.now
 ends c = let a = c.before.before.before.before.args in leb-true (a.pair.start + a.pair.len) (length a.frame.now) (none c).1.0
@@ -27,8 +27,8 @@ returns : tie.Need-returns
 returns c = let a = c.before.before.before.before.before.args in
     let f = a.frame.now in
     rw c.refused.ensures
-    (writes-refusal c.before.before.check-pair.result 0 a.out.now
-    (lines-refuse (pairLineChecks f a.pair) _ c.before.before.check-pair.ensures c.before.if1.true 0 (written (pairLine a.index f a.pair))))
+    (writes_refusal c.before.before.check-pair.result 0 a.out.now
+    (lines_refuse (pair_line_checks f a.pair) _ c.before.before.check-pair.ensures c.before.if1.true 0 (written (pair_line a.index f a.pair))))
 
 add-to : tie.Need-overflow-add-to
 add-to c = omega (arith, ends c, c.before.before.before.before.well-formed)
@@ -43,8 +43,8 @@ returns-2 : tie.Need-returns-2
 returns-2 c = let a = c.before.before.before.before.before.before.before.before.before.before.before.args in
     let f = a.frame.now in
     let x = a.pair in
-    rw (lines-pass (pairLineChecks f x) (none c.before.before.before.before.before.before.before) 0 (written (pairLine a.index f x)), pair_parts a.index f x)
-    (rw part-lent at c.before.before.write-valued.ensures)
+    rw (lines_pass (pair_line_checks f x) (none c.before.before.before.before.before.before.before) 0 (written (pair_line a.index f x)), pair_parts a.index f x)
+    (rw part_lent at c.before.before.write-valued.ensures)
 
 pub write-pair-line-spec : {M : Type 1} → statement M
 write-pair-line-spec =

@@ -4,19 +4,19 @@ use Prim.Native.Nat.{◌+◌, ◌*◌}
 use native.Mathlib.Omega.{arith}
 use lib.ListN.{length}
 use borrow.Author.Tests.{le-leb, lt-leb}
-use Rattle.answer.proofs.Output.{writes-refusal}
-use Rattle.frame.specs.Records.{actionWidth}
+use Rattle.answer.proofs.Output.{writes_refusal}
+use Rattle.frame.specs.Records.{action_width}
 use borrow.Author.Rules.{rules}
 use Rattle.listing.proofs.order.write_action_at.Statement.{statement}
 use Rattle.listing.proofs.order.write_action_at.Tie as tie
 
 returns : tie.Need-returns
 returns c = let a = c.before.before.before.before.args in
-    writes-refusal 16 0 a.out.now (rw (lt-leb ((a.k + 1) * actionWidth) (length a.actions.now) (omega (arith, c.if1.true))))
+    writes_refusal 16 0 a.out.now (rw (lt-leb ((a.k + 1) * action_width) (length a.actions.now) (omega (arith, c.if1.true))))
 
 returns-2 : tie.Need-returns-2
 returns-2 c = let a = c.before.before.before.before.before.before.before.before.before.args in
-    rw (le-leb ((a.k + 1) * actionWidth) (length a.actions.now) (omega (arith, c.before.before.before.before.before.if1.false)))
+    rw (le-leb ((a.k + 1) * action_width) (length a.actions.now) (omega (arith, c.before.before.before.before.before.if1.false)))
     (rw c.before.before.before.before.action-at.ensures at c.before.before.write-action-line.ensures)
 
 pub write-action-at-spec : {M : Type 1} → statement M

@@ -5,21 +5,21 @@ use Prim.Native.Nat.{◌+◌, ◌*◌}
 use native.Mathlib.Omega.{arith}
 use lib.ListN.{length}
 use borrow.Author.Tests.{le-leb, lt-leb}
-use Rattle.answer.proofs.Output.{writes-refusal}
-use Rattle.frame.specs.Records.{messageWidth}
+use Rattle.answer.proofs.Output.{writes_refusal}
+use Rattle.frame.specs.Records.{message_width}
 use borrow.Author.Rules.{rules}
 use Rattle.listing.proofs.order.write_message_at.Statement.{statement}
 use Rattle.listing.proofs.order.write_message_at.Tie as tie
 
 returns : tie.Need-returns
 returns c = let a = c.before.before.before.before.args in
-    (_, refl, writes-refusal 16 0 a.out.now (rw (lt-leb ((a.place.messages + 1) * messageWidth) (length a.messages.now) (omega (arith, c.if1.true)))))
+    (_, refl, writes_refusal 16 0 a.out.now (rw (lt-leb ((a.place.messages + 1) * message_width) (length a.messages.now) (omega (arith, c.if1.true)))))
 
 returns-2 : tie.Need-returns-2
 returns-2 c = let a = c.before.before.before.before.before.before.before.before.before.before.args in (
   c.before.before.before.write-message-line.result,
   rw c.before.before.before.before.before.message-at.ensures at c.step.ensures,
-  rw (le-leb ((a.place.messages + 1) * messageWidth) (length a.messages.now) (omega (arith, c.before.before.before.before.before.before.if1.false)))
+  rw (le-leb ((a.place.messages + 1) * message_width) (length a.messages.now) (omega (arith, c.before.before.before.before.before.before.if1.false)))
       (rw c.before.before.before.before.before.message-at.ensures at c.before.before.before.write-message-line.ensures),
 )
 

@@ -6,15 +6,15 @@ use Prim.Native.Nat.{◌+◌, ◌-◌, ◌*◌}
 use native.Mathlib.Omega.{arith}
 use lib.ListN.{length}
 use borrow.Author.Tests.{le-leb, lt-leb}
-use Rattle.answer.proofs.Output.{writes-refusal}
-use Rattle.frame.specs.Records.{pairWidth}
+use Rattle.answer.proofs.Output.{writes_refusal}
+use Rattle.frame.specs.Records.{pair_width}
 use borrow.Author.Rules.{rules}
 use Rattle.listing.proofs.order.write_pair_at.Statement.{statement}
 use Rattle.listing.proofs.order.write_pair_at.Tie as tie
 
 returns : tie.Need-returns
 returns c = let a = c.before.before.before.before.args in
-    (_, refl, writes-refusal 16 0 a.out.now (rw (lt-leb ((a.place.pairs + 1) * pairWidth) (length a.pairs.now) (omega (arith, c.if1.true)))))
+    (_, refl, writes_refusal 16 0 a.out.now (rw (lt-leb ((a.place.pairs + 1) * pair_width) (length a.pairs.now) (omega (arith, c.if1.true)))))
 
 -- an argument less is to come
 less : (c : tie.Joined2) → c.if2.left ≡ c.before.before.before.before.before.before.before.before.before.before.before.args.place.left - 1
@@ -24,7 +24,7 @@ returns-2 : tie.Need-returns-2
 returns-2 c = let a = c.before.before.before.before.before.before.before.before.before.before.before.before.args in (
   c.before.before.before.before.before.write-pair-line.result,
   rw (less c.before) at c.step.ensures,
-  rw (le-leb ((a.place.pairs + 1) * pairWidth) (length a.pairs.now) (omega (arith, c.before.before.before.before.before.before.before.before.if1.false)))
+  rw (le-leb ((a.place.pairs + 1) * pair_width) (length a.pairs.now) (omega (arith, c.before.before.before.before.before.before.before.before.if1.false)))
       (rw c.before.before.before.before.before.before.before.pair-at.ensures at c.before.before.before.before.before.write-pair-line.ensures),
 )
 

@@ -6,13 +6,13 @@ use Prim.Native.Nat.{◌+◌, ◌-◌}
 use native.Mathlib.Omega.{arith}
 use lib.ListN.{length, drop}
 use Rattle.answer.specs.Answer.{Answer, done}
-use Rattle.types.proofs.Shapes.{points-yes}
+use Rattle.types.proofs.Shapes.{points_yes}
 use Rattle.frame.specs.declared.Action.{Action}
-use Rattle.payload.specs.Action.{action, movedAction, actionFrom}
-use Rattle.payload.specs.Inner.{variableMoved, actionBehind, actionSaid}
+use Rattle.payload.specs.Action.{action, moved_action, action_from}
+use Rattle.payload.specs.Inner.{variable_moved, action_behind, action_said}
 use Rattle.payload.proofs.Pairs.{moved_twice}
 use Rattle.answer.proofs.Answers.{lent}
-use Rattle.payload.proofs.Actions.{Inside, action-none-at, action-some-at}
+use Rattle.payload.proofs.Actions.{Inside, action_none_at, action_some_at}
 use Rattle.payload.proofs.action.action_at.Statement.{statement}
 use Rattle.payload.proofs.action.action_at.Tie as tie
 
@@ -20,29 +20,29 @@ use Rattle.payload.proofs.action.action_at.Tie as tie
 abbrev start : tie.After-read-action → tie.Start
 start t = t.before.before.before
 
-read : (t : tie.After-read-action) (a : Answer Action) → actionBehind t.read-action.result ≡ a → let g = (start t).args in action (drop g.at g.input.now) ≡ a
+read : (t : tie.After-read-action) (a : Answer Action) → action_behind t.read-action.result ≡ a → let g = (start t).args in action (drop g.at g.input.now) ≡ a
 read t a e = lent action (start t).args.input.now (start t).args.at t.read-action.ensures e
 
 add-refused-at : tie.Need-overflow-add-refused-at
 add-refused-at c =
     let t = c.before.before.before.before in
-    omega (arith, (action-none-at _ _ (start t).requires _ _ (read t _ (ap actionBehind c.before.before.r.given.1))).1, (start t).well-formed)
+    omega (arith, (action_none_at _ _ (start t).requires _ _ (read t _ (ap action_behind c.before.before.r.given.1))).1, (start t).well-formed)
 
 returns : tie.Need-returns
 returns c =
     let k = c.before in
     let t = k.before.before.before.before in
-    ap actionSaid c.refused-at.ensures ∙ sym (action-none-at _ _ (start t).requires _ _ (read t _ (ap actionBehind k.before.before.r.given.1))).0
+    ap action_said c.refused-at.ensures ∙ sym (action_none_at _ _ (start t).requires _ _ (read t _ (ap action_behind k.before.before.r.given.1))).0
 
 -- the action, and that it lies in the bytes
 abbrev one : tie.After-known-told2 → Action
-one k = variableMoved k.before.action.given.0.0
+one k = variable_moved k.before.action.given.0.0
 
 found : (k : tie.After-known-told2)
     → let a = (start k.before.before.before).args in
     let used = k.before.action.given.0.1.0 in
-    (actionFrom a.at a.input.now ≡ done (movedAction a.at (one k)) (a.at + used)) × Inside (length a.input.now - a.at) (one k).pair used
-found k = let t = k.before.before.before in action-some-at _ _ (start t).requires (one k) _ (read t _ (ap actionBehind k.before.action.given.1))
+    (action_from a.at a.input.now ≡ done (moved_action a.at (one k)) (a.at + used)) × Inside (length a.input.now - a.at) (one k).pair used
+found k = let t = k.before.before.before in action_some_at _ _ (start t).requires (one k) _ (read t _ (ap action_behind k.before.action.given.1))
 
 add-moved-pair : tie.Need-overflow-add-moved-pair
 add-moved-pair c = let s = start c.before.before.before in omega (arith, (found c).1.name, (found c).1.most, s.pre, s.good)
@@ -52,7 +52,7 @@ moved-pair-requires c κs =
     let s = start c.before.before.before in
     let i = (found c).1 in (
       omega (arith, i.name, i.most, s.pre, s.good),
-      λ h l. omega (arith, rw (points-yes _ h l) at (i.value h l), i.most, s.pre, s.good),
+      λ h l. omega (arith, rw (points_yes _ h l) at (i.value h l), i.most, s.pre, s.good),
     )
 
 add-t16 : tie.Need-overflow-add-t16

@@ -9,14 +9,14 @@ use native.Mathlib.Omega.{arith}
 use lib.Dec.{eqb}
 use lib.ListN.{length, get_or}
 use borrow.Author.Tests.{ne_eqb, eqb-true, not-true, not-false}
-use Rattle.payload.specs.Action.{argumentCount}
-use Rattle.payload.specs.Inner.{actionBehind, Headed}
-use Rattle.payload.proofs.Actions.{action-none, action-verb, action-short, action-count, action-shorter, action-scope, action-headed}
+use Rattle.payload.specs.Action.{argument_count}
+use Rattle.payload.specs.Inner.{action_behind, Headed}
+use Rattle.payload.proofs.Actions.{action_none, action_verb, action_short, action_count, action_shorter, action_scope, action_headed}
 use Rattle.payload.proofs.action.read_action.Statement.{statement}
 use Rattle.payload.proofs.action.read_action.Tie as tie
 
 returns : tie.Need-returns
-returns c = ap actionBehind c.refused-at.ensures ∙ sym (action-none _ c.before.if1.true)
+returns c = ap action_behind c.refused-at.ensures ∙ sym (action_none _ c.before.if1.true)
 
 cast-verb : tie.Need-overflow-cast-verb
 cast-verb c = omega (arith, c.shared-slice-known2.given 0)
@@ -31,7 +31,7 @@ one e = e.before.before.before.if1.false
 known : (e : tie.Else2) → eqb (get_or (bytes e) 0 0) 1 || eqb (get_or (bytes e) 0 0) 2 ≡ true
 known e = not-false _ (sym e.before.unknown.ensures ∙ e.if2.false)
 
-counted : (f : tie.Else4) → let s = bytes f.before.before.before.before in get_or s 1 0 ≡ argumentCount (get_or s 0 0)
+counted : (f : tie.Else4) → let s = bytes f.before.before.before.before in get_or s 1 0 ≡ argument_count (get_or s 0 0)
 counted f = f.if4.false ∙ f.before.arguments.ensures
 
 headed : (f : tie.Else6) → let s = bytes f.before.before.before.before.before.before.before in Headed s (get_or s 0 0) (get_or s 2 0)
@@ -39,7 +39,7 @@ headed f =
     let h = f.before.before in
     let g = h.before in
     let e = g.before.before.before in
-    action-headed _ (one e.before) (known e.before) e.if3.false (counted g) h.if5.false f.if6.false
+    action_headed _ (one e.before) (known e.before) e.if3.false (counted g) h.if5.false f.if6.false
 
 -- a known verb that is not 1 is 2
 second : {n : ℕ} → eqb n 1 || eqb n 2 ≡ true → (n ≡ 1 → ⊥) → n ≡ 2
@@ -48,12 +48,12 @@ second {n} t ne = eqb-true n 2 (rw (ne_eqb n 1 ne) at t)
 returns-2 : tie.Need-returns-2
 returns-2 c =
     let u = c.before.before in
-    ap actionBehind c.refused-at2.ensures ∙ sym (action-verb _ u.before.before.if1.false (not-true _ (sym u.unknown.ensures ∙ c.before.if2.true)))
+    ap action_behind c.refused-at2.ensures ∙ sym (action_verb _ u.before.before.if1.false (not-true _ (sym u.unknown.ensures ∙ c.before.if2.true)))
 
 returns-3 : tie.Need-returns-3
 returns-3 c =
     let e = c.before.before in
-    ap actionBehind c.refused-at3.ensures ∙ sym (action-short _ (one e) (known e) c.before.if3.true)
+    ap action_behind c.refused-at3.ensures ∙ sym (action_short _ (one e) (known e) c.before.if3.true)
 
 cast-if4 : tie.Need-overflow-cast-if4
 cast-if4 c = omega (arith, c.shared-slice-known3.given 1)
@@ -62,14 +62,14 @@ returns-4 : tie.Need-returns-4
 returns-4 c =
     let g = c.before.before in
     let e = g.before.before in
-    ap actionBehind c.refused-at4.ensures
-    ∙ sym (action-count _ (one e.before) (known e.before) e.if3.false (λ z. c.before.if4.true (z ∙ sym g.arguments.ensures)))
+    ap action_behind c.refused-at4.ensures
+    ∙ sym (action_count _ (one e.before) (known e.before) e.if3.false (λ z. c.before.if4.true (z ∙ sym g.arguments.ensures)))
 
 returns-5 : tie.Need-returns-5
 returns-5 c =
     let f = c.before.before in
     let e = f.before.before.before in
-    ap actionBehind c.refused-at5.ensures ∙ sym (action-shorter _ (one e.before) (known e.before) e.if3.false (counted f) c.before.if5.true)
+    ap action_behind c.refused-at5.ensures ∙ sym (action_shorter _ (one e.before) (known e.before) e.if3.false (counted f) c.before.if5.true)
 
 cast-scope : tie.Need-overflow-cast-scope
 cast-scope c = omega (arith, c.shared-slice-known4.given 2)
@@ -79,7 +79,7 @@ returns-6 c =
     let h = c.before.before.before in
     let f = h.before in
     let e = f.before.before.before in
-    ap actionBehind c.refused-at6.ensures ∙ sym (action-scope _ (one e.before) (known e.before) e.if3.false (counted f) h.if5.false c.before.if6.true)
+    ap action_behind c.refused-at6.ensures ∙ sym (action_scope _ (one e.before) (known e.before) e.if3.false (counted f) h.if5.false c.before.if6.true)
 
 read-set-requires : tie.Need-read-set-requires
 read-set-requires c κs = rw (sym c.if7.true) (headed c.before)

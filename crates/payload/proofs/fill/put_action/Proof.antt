@@ -4,12 +4,12 @@ use borrow.Author.Rules.{rules}
 use native.Mathlib.Omega.{arith}
 use lib.ListN.{length-set}
 use lib.Seq.{sets-eq}
-use Rattle.frame.specs.Records.{actionNumbers}
+use Rattle.frame.specs.Records.{action_numbers}
 use Rattle.payload.proofs.fill.put_action.Statement.{statement}
 use Rattle.payload.proofs.fill.put_action.Tie as tie
 
 returns : tie.Need-returns
-returns c = sets-eq (actionNumbers c.args.action) c.args.table.now 0 c.requires
+returns c = sets-eq (action_numbers c.args.action) c.args.table.now 0 c.requires
 
 pub put-action-spec : {M : Type 1} → statement M
 put-action-spec =

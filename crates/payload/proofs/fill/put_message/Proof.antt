@@ -4,12 +4,12 @@ use borrow.Author.Rules.{rules}
 use native.Mathlib.Omega.{arith}
 use lib.ListN.{length-set}
 use lib.Seq.{sets-eq}
-use Rattle.frame.specs.Records.{messageNumbers}
+use Rattle.frame.specs.Records.{message_numbers}
 use Rattle.payload.proofs.fill.put_message.Statement.{statement}
 use Rattle.payload.proofs.fill.put_message.Tie as tie
 
 returns : tie.Need-returns
-returns c = sets-eq (messageNumbers c.args.message) c.args.table.now 0 c.requires
+returns c = sets-eq (message_numbers c.args.message) c.args.table.now 0 c.requires
 
 pub put-message-spec : {M : Type 1} → statement M
 put-message-spec =

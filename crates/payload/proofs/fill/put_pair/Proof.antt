@@ -4,12 +4,12 @@ use borrow.Author.Rules.{rules}
 use native.Mathlib.Omega.{arith}
 use lib.ListN.{length-set}
 use lib.Seq.{sets-eq}
-use Rattle.frame.specs.Records.{pairNumbers}
+use Rattle.frame.specs.Records.{pair_numbers}
 use Rattle.payload.proofs.fill.put_pair.Statement.{statement}
 use Rattle.payload.proofs.fill.put_pair.Tie as tie
 
 returns : tie.Need-returns
-returns c = sets-eq (pairNumbers c.args.pair) c.args.table.now 0 c.requires
+returns c = sets-eq (pair_numbers c.args.pair) c.args.table.now 0 c.requires
 
 pub put-pair-spec : {M : Type 1} → statement M
 put-pair-spec =

@@ -9,13 +9,13 @@ use mathlib.Core.List.{List}
 use Prim.Native.Nat.{ℕ}
 use lib.Dec.{eqb}
 use Rattle.answer.specs.Table.{some}
-use Rattle.utf8.specs.Text.{sameText}
-use Rattle.types.proofs.Writing.{part-lent}
+use Rattle.utf8.specs.Text.{same_text}
+use Rattle.types.proofs.Writing.{part_lent}
 use Rattle.frame.specs.declared.Pair.{Pair}
 use Rattle.frame.specs.Records.{key_of}
 use Rattle.payload.specs.Payload.{Contents, met}
 use Rattle.payload.specs.Inner.{Run}
-use Rattle.payload.proofs.Tests.{pair-met, pair-full, pair-taken}
+use Rattle.payload.proofs.Tests.{pair_met, pair_full, pair_taken}
 use Rattle.payload.proofs.look.pair_tested.Statement.{statement}
 use Rattle.payload.proofs.look.pair_tested.Tie as tie
 
@@ -30,7 +30,7 @@ asked : (k : tie.After-key-met) (d : Contents)
 asked k d r =
     let a = k.before.before.before.before.before.args in
     k.key-met.ensures d.pairs (r k.before.before.if1.true)
-    ∙ ap (λ (key : List ℕ). some (λ (q : Pair). sameText (key_of a.input.now q) key) d.pairs) (part-lent a.input.now a.pair.start a.pair.len)
+    ∙ ap (λ (key : List ℕ). some (λ (q : Pair). same_text (key_of a.input.now q) key) d.pairs) (part_lent a.input.now a.pair.start a.pair.len)
 
 -- the key is new, where it is to be
 new : (j : tie.Joined1) (d : Contents)
@@ -47,13 +47,13 @@ new j d r =
 returns : tie.Need-returns
 returns c d r =
     let k = c.before.before in
-    c.refused-at.ensures ∙ sym (pair-met _ _ _ d _ _ k.before.before.if1.true (sym (asked k d r) ∙ c.before.if2.true))
+    c.refused-at.ensures ∙ sym (pair_met _ _ _ d _ _ k.before.before.if1.true (sym (asked k d r) ∙ c.before.if2.true))
 
 returns-2 : tie.Need-returns-2
-returns-2 c d r = c.refused-at2.ensures ∙ sym (pair-full _ _ _ d _ _ (new c.before.before.before.before d r) c.before.if3.true)
+returns-2 c d r = c.refused-at2.ensures ∙ sym (pair_full _ _ _ d _ _ (new c.before.before.before.before d r) c.before.if3.true)
 
 returns-3 : tie.Need-returns-3
-returns-3 c d r = rw c.after.ensures (sym (pair-taken _ _ _ d _ _ (new c.before.before.before.before d r) c.before.if3.false))
+returns-3 c d r = rw c.after.ensures (sym (pair_taken _ _ _ d _ _ (new c.before.before.before.before d r) c.before.if3.false))
 
 pub pair-tested-spec : {M : Type 1} → statement M
 pair-tested-spec =

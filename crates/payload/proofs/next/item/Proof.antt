@@ -5,21 +5,21 @@ use mathlib.Core.Path.{◌≡◌, sym, ◌∙◌}
 use Prim.Native.Nat.{◌-◌}
 use native.Mathlib.Omega.{arith}
 use Rattle.payload.specs.Item.{listed, item_at}
-use Rattle.payload.proofs.Passing.{item-due, item-listed, item-end}
+use Rattle.payload.proofs.Passing.{item_due, item_listed, item_end}
 use Rattle.payload.proofs.next.item.Statement.{statement}
 use Rattle.payload.proofs.next.item.Tie as tie
 
 returns : tie.Need-returns
 returns c =
     let x = c.before.before.before.before.args.x in
-    c.pair-item.ensures ∙ sym (item-due _ _ x (x.left - 1) (omega (arith, c.before.if1.true)))
+    c.pair-item.ensures ∙ sym (item_due _ _ x (x.left - 1) (omega (arith, c.before.if1.true)))
 
 returns-2 : tie.Need-returns-2
-returns-2 c = let e = c.before.before in sym (item-end _ _ _ (omega (arith, e.if1.false)) c.if2.true)
+returns-2 c = let e = c.before.before in sym (item_end _ _ _ (omega (arith, e.if1.false)) c.if2.true)
 
 -- where no argument is due, before the end
 on : (c : tie.Else2) → let a = c.before.before.before.before.before.args in item_at a.kind a.input.now a.x ≡ listed a.kind a.input.now a.x
-on c = let e = c.before.before in item-listed _ _ _ (omega (arith, e.if1.false)) c.if2.false
+on c = let e = c.before.before in item_listed _ _ _ (omega (arith, e.if1.false)) c.if2.false
 
 returns-3 : tie.Need-returns-3
 returns-3 c = rw (on c.before.before.before, c.before.enum_told.given.1) c.pair-item2.ensures

@@ -7,9 +7,9 @@ use native.Mathlib.Omega.{arith}
 use lib.ListN.{length, drop}
 use Rattle.answer.specs.Answer.{Answer, done}
 use Rattle.frame.specs.declared.Pair.{Pair}
-use Rattle.payload.specs.Pair.{movedPair, pair, pairFrom}
-use Rattle.payload.specs.Promise.{pairSaid}
-use Rattle.payload.proofs.Pairs.{Inside, from-none, from_some}
+use Rattle.payload.specs.Pair.{moved_pair, pair, pair_from}
+use Rattle.payload.specs.Promise.{pair_said}
+use Rattle.payload.proofs.Pairs.{Inside, from_none, from_some}
 use Rattle.answer.proofs.Answers.{lent}
 use Rattle.payload.proofs.pair.pair_at.Statement.{statement}
 use Rattle.payload.proofs.pair.pair_at.Tie as tie
@@ -18,25 +18,25 @@ use Rattle.payload.proofs.pair.pair_at.Tie as tie
 abbrev start : tie.After-read-pair → tie.Start
 start t = t.before.before.before
 
-read : (t : tie.After-read-pair) (a : Answer Pair) → pairSaid t.read-pair.result ≡ a → let g = (start t).args in pair (drop g.at g.input.now) ≡ a
+read : (t : tie.After-read-pair) (a : Answer Pair) → pair_said t.read-pair.result ≡ a → let g = (start t).args in pair (drop g.at g.input.now) ≡ a
 read t a e = lent pair (start t).args.input.now (start t).args.at t.read-pair.ensures e
 
 add-t11 : tie.Need-overflow-add-t11
 add-t11 c =
     let t = c.before.before.before.before in
-    omega (arith, (from-none _ _ (start t).requires _ _ (read t _ (ap pairSaid c.before.before.r.given.1))).1, (start t).well-formed)
+    omega (arith, (from_none _ _ (start t).requires _ _ (read t _ (ap pair_said c.before.before.r.given.1))).1, (start t).well-formed)
 
 returns : tie.Need-returns
 returns c =
     let t = c.before.before.before.before in
-    sym (from-none _ _ (start t).requires _ _ (read t _ (ap pairSaid c.before.before.r.given.1))).0
+    sym (from_none _ _ (start t).requires _ _ (read t _ (ap pair_said c.before.before.r.given.1))).0
 
 -- the pair, and that it lies in the bytes
 found : (k : tie.After-known-told2)
     → let a = (start k.before.before.before).args in
     let g = k.before.pair.given.0 in
-    (pairFrom a.at a.input.now ≡ done (movedPair a.at g.0) (a.at + g.1.0)) × Inside (length a.input.now - a.at) g.0 g.1.0
-found k = let t = k.before.before.before in from_some _ _ (start t).requires _ _ (read t _ (ap pairSaid k.before.pair.given.1))
+    (pair_from a.at a.input.now ≡ done (moved_pair a.at g.0) (a.at + g.1.0)) × Inside (length a.input.now - a.at) g.0 g.1.0
+found k = let t = k.before.before.before in from_some _ _ (start t).requires _ _ (read t _ (ap pair_said k.before.pair.given.1))
 
 moved-pair-requires : tie.Need-moved-pair-requires
 moved-pair-requires c κs =

@@ -8,33 +8,33 @@ use native.Mathlib.Omega.{arith}
 use lib.ListN.{length, drop, length-drop}
 use Rattle.answer.specs.Answer.{Answer, done}
 use Rattle.types.specs.Value.{span, string, Record, typed}
-use Rattle.types.specs.Promise.{stringSaid, valueSaid}
-use Rattle.types.proofs.Shapes.{points-yes}
-use Rattle.types.proofs.Reading.{string-accepted, typed-accepted, typed-place}
+use Rattle.types.specs.Promise.{string_said, value_said}
+use Rattle.types.proofs.Shapes.{points_yes}
+use Rattle.types.proofs.Reading.{string_accepted, typed_accepted, typed_place}
 use Rattle.payload.specs.Pair.{pair_of}
-use Rattle.payload.proofs.Pairs.{pair-key, pair-value, pair-whole}
+use Rattle.payload.proofs.Pairs.{pair_key, pair_value, pair_whole}
 use Rattle.answer.proofs.Answers.{lent}
 use Rattle.payload.proofs.pair.read_pair.Statement.{statement}
 use Rattle.payload.proofs.pair.read_pair.Tie as tie
 
 returns : tie.Need-returns
 returns c =
-    let e = ap stringSaid c.before.enum_told.given.1 in
-    c.key-refused.ensures _ _ e ∙ sym (pair-key _ _ _ (sym c.before.before.before.read-string.ensures ∙ e))
+    let e = ap string_said c.before.enum_told.given.1 in
+    c.key-refused.ensures _ _ e ∙ sym (pair_key _ _ _ (sym c.before.before.before.read-string.ensures ∙ e))
 
 -- the key that was read, and the bytes behind it
 key : (c : tie.After-known-told)
     → let k = c.before.key.given.0 in string c.before.before.before.before.before.args.input.now ≡ done (span k.0 k.1.0) k.1.1.0
-key c = sym c.before.before.before.read-string.ensures ∙ ap stringSaid c.before.key.given.1
+key c = sym c.before.before.before.read-string.ensures ∙ ap string_said c.before.key.given.1
 
-behind-key : (c : tie.After-known-told) → c.before.key.given.0.1.1.0 ≤ length c.before.before.before.before.before.args.input.now
-behind-key c = (string-accepted _ _ _ _ (key c)).1
+behind_key : (c : tie.After-known-told) → c.before.key.given.0.1.1.0 ≤ length c.before.before.before.before.before.args.input.now
+behind_key c = (string_accepted _ _ _ _ (key c)).1
 
 sub-typed-data : tie.Need-overflow-sub-typed-data
-sub-typed-data c = behind-key c
+sub-typed-data c = behind_key c
 
 part-typed-data-start : tie.Need-slice-bounds-typed-data-start
-part-typed-data-start c = behind-key c
+part-typed-data-start c = behind_key c
 
 -- what the value reader answered of them
 abbrev bytes : tie.After-typed-data → List ℕ
@@ -43,36 +43,36 @@ bytes t = t.before.before.before.before.before.before.before.args.input.now
 abbrev used : tie.After-typed-data → ℕ
 used t = t.before.before.before.key.given.0.1.1.0
 
-value_read : (t : tie.After-typed-data) (a : Answer Record) → valueSaid t.typed-data.result ≡ a → typed (drop (used t) (bytes t)) ≡ a
+value_read : (t : tie.After-typed-data) (a : Answer Record) → value_said t.typed-data.result ≡ a → typed (drop (used t) (bytes t)) ≡ a
 value_read t a e = lent typed (bytes t) (used t) t.typed-data.ensures e
 
 add-t14 : tie.Need-overflow-add-t14
 add-t14 c =
     let t = c.before.before.before.before in
-    omega (arith, typed-place _ _ _ (value_read t _ (ap valueSaid c.before.before.r.given.1)), behind-key t.before.before, length-drop (used t) (bytes t), t.before.before.before.before.before.before.before.well-formed)
+    omega (arith, typed_place _ _ _ (value_read t _ (ap value_said c.before.before.r.given.1)), behind_key t.before.before, length-drop (used t) (bytes t), t.before.before.before.before.before.before.before.well-formed)
 
 returns-2 : tie.Need-returns-2
 returns-2 c =
     let t = c.before.before.before.before in
-    sym (pair-value (bytes t) _ _ (used t) (key t.before.before) _ _ (value_read t _ (ap valueSaid c.before.before.r.given.1)))
+    sym (pair_value (bytes t) _ _ (used t) (key t.before.before) _ _ (value_read t _ (ap value_said c.before.before.r.given.1)))
 
 moved-value-requires : tie.Need-moved-value-requires
 moved-value-requires c κs h l =
     let t = c.before.before.before in
-    let v = typed-accepted _ _ _ _ _ _ (value_read t _ (ap valueSaid c.before.value.given.1)) in
-    omega (arith, v.4 (points-yes _ h l), v.1, behind-key t.before.before, length-drop (used t) (bytes t), t.before.before.before.before.before.before.before.well-formed)
+    let v = typed_accepted _ _ _ _ _ _ (value_read t _ (ap value_said c.before.value.given.1)) in
+    omega (arith, v.4 (points_yes _ h l), v.1, behind_key t.before.before, length-drop (used t) (bytes t), t.before.before.before.before.before.before.before.well-formed)
 
 add-t21 : tie.Need-overflow-add-t21
 add-t21 c =
     let t = c.before.before.before.before in
-    omega (arith, (typed-accepted _ _ _ _ _ _ (value_read t _ (ap valueSaid c.before.before.value.given.1))).1, behind-key t.before.before, length-drop (used t) (bytes t), t.before.before.before.before.before.before.before.well-formed)
+    omega (arith, (typed_accepted _ _ _ _ _ _ (value_read t _ (ap value_said c.before.before.value.given.1))).1, behind_key t.before.before, length-drop (used t) (bytes t), t.before.before.before.before.before.before.before.well-formed)
 
 returns-3 : tie.Need-returns-3
 returns-3 c =
     let t = c.before.before.before.before in
     let k = t.before.before.before.key.given.0 in
     ap (λ (v : Record). done (pair_of (span k.0 k.1.0) v) (k.1.1.0 + c.before.before.value.given.0.1.0)) c.Moved-value.ensures
-    ∙ sym (pair-whole (bytes t) _ _ (used t) (key t.before.before) _ _ (value_read t _ (ap valueSaid c.before.before.value.given.1)))
+    ∙ sym (pair_whole (bytes t) _ _ (used t) (key t.before.before) _ _ (value_read t _ (ap value_said c.before.before.value.given.1)))
 
 pub read-pair-spec : {M : Type 1} → statement M
 read-pair-spec =

@@ -2,20 +2,20 @@
 -- Assumes nothing.
 use borrow.Author.Rules.{rules}
 use mathlib.Core.Path.{◌∙◌}
-use Rattle.payload.proofs.Fitting.{passed-accepted, passed-nothing}
+use Rattle.payload.proofs.Fitting.{passed_accepted, passed_nothing}
 use Rattle.payload.proofs.read.look_and_fill.Statement.{statement}
 use Rattle.payload.proofs.read.look_and_fill.Tie as tie
 
 returns : tie.Need-returns
 returns c =
     let l = c.before.before.before in
-    record { says = c.answered.ensures ∙ l.look.ensures.says; fills = passed-nothing l.look.ensures c.before.enum_told.given.1 _ _ _ }
+    record { says = c.answered.ensures ∙ l.look.ensures.says; fills = passed_nothing l.look.ensures c.before.enum_told.given.1 _ _ _ }
 
 fill-requires : tie.Need-fill-requires
 fill-requires c κs =
     let e = c.before.before.before in
     let l = e.before.before in
-    (l.before.before.before.before.before.requires, passed-accepted l.look.ensures e.enum-told2.given.1)
+    (l.before.before.before.before.before.requires, passed_accepted l.look.ensures e.enum-told2.given.1)
 
 returns-2 : tie.Need-returns-2
 returns-2 c =

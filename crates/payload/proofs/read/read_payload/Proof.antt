@@ -2,15 +2,15 @@
 -- Assumes nothing.
 use borrow.Author.Rules.{rules}
 use mathlib.Core.Path.{ap, ◌∙◌}
-use Rattle.payload.specs.Promise.{payloadSaid}
-use Rattle.payload.proofs.Fitting.{behind-tells, behind-fills}
+use Rattle.payload.specs.Promise.{payload_said}
+use Rattle.payload.proofs.Fitting.{behind_tells, behind_fills}
 use Rattle.payload.proofs.read.read_payload.Statement.{statement}
 use Rattle.payload.proofs.read.read_payload.Tie as tie
 
 returns : tie.Need-returns
 returns c =
     let h = c.before.if1.true in
-    record { says = ap payloadSaid c.behind-end.ensures ∙ behind-tells _ _ _ _ h; fills = behind-fills _ _ _ _ h _ _ _ }
+    record { says = ap payload_said c.behind-end.ensures ∙ behind_tells _ _ _ _ h; fills = behind_fills _ _ _ _ h _ _ _ }
 
 returns-2 : tie.Need-returns-2
 returns-2 c = let w = c.before.before.before.before.before.before in rw w.before.before.before.before.enum_told.given.1 w.read-within.ensures

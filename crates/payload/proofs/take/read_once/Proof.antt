@@ -7,13 +7,13 @@ use native.Mathlib.Omega.{arith}
 use lib.ListN.{length, take}
 use lib.Seq.{length-take-le}
 use Rattle.answer.specs.Answer.{done}
-use Rattle.answer.proofs.Output.{writes-room}
-use Rattle.frame.specs.Records.{messageWidth, pairWidth, actionWidth}
+use Rattle.answer.proofs.Output.{writes_room}
+use Rattle.frame.specs.Records.{message_width, pair_width, action_width}
 use Rattle.payload.specs.declared.Counts.{Counts}
 use Rattle.payload.specs.Payload.{payload}
-use Rattle.payload.specs.Promise.{payloadTells, rooms_of}
-use Rattle.payload.specs.Inner.{passedSaid}
-use Rattle.payload.proofs.Fitting.{own-messages, own-pairs, own-actions, copied-says, copied-fills}
+use Rattle.payload.specs.Promise.{payload_tells, rooms_of}
+use Rattle.payload.specs.Inner.{passed_said}
+use Rattle.payload.proofs.Fitting.{own_messages_lem, own_pairs_lem, own_actions_lem, copied_says, copied_fills}
 use Rattle.payload.proofs.take.read_once.Statement.{statement}
 use Rattle.payload.proofs.take.read_once.Tie as tie
 
@@ -26,17 +26,17 @@ counts k =
     let x = k.before.found.given.0.0 in
     record { messages = x.messages; pairs = x.pairs; actions = x.actions }
 
-said : (k : tie.After-known-told) → done (counts k) k.before.found.given.0.0.at ≡ passedSaid (took k).take.result
-said k = ap passedSaid (sym k.before.found.given.1)
+said : (k : tie.After-known-told) → done (counts k) k.before.found.given.0.0.at ≡ passed_said (took k).take.result
+said k = ap passed_said (sym k.before.found.given.1)
 
-messages-in : (k : tie.After-known-told) → (counts k).messages * messageWidth ≤ length (took k).take.new.1.1.1.0
-messages-in k = (own-messages _ _ _ _ _ _ _ _ _ _ _ (said k ∙ (took k).take.ensures.0.says) (took k).take.ensures.1).1
+messages_in_lem : (k : tie.After-known-told) → (counts k).messages * message_width ≤ length (took k).take.new.1.1.1.0
+messages_in_lem k = (own_messages_lem _ _ _ _ _ _ _ _ _ _ _ (said k ∙ (took k).take.ensures.0.says) (took k).take.ensures.1).1
 
-pairs-in : (k : tie.After-known-told) → (counts k).pairs * pairWidth ≤ length (took k).take.new.1.1.1.1.0
-pairs-in k = (own-pairs _ _ _ _ _ _ _ _ _ _ _ (said k ∙ (took k).take.ensures.0.says) (took k).take.ensures.1).1
+pairs_in_lem : (k : tie.After-known-told) → (counts k).pairs * pair_width ≤ length (took k).take.new.1.1.1.1.0
+pairs_in_lem k = (own_pairs_lem _ _ _ _ _ _ _ _ _ _ _ (said k ∙ (took k).take.ensures.0.says) (took k).take.ensures.1).1
 
-actions-in : (k : tie.After-known-told) → (counts k).actions * actionWidth ≤ length (took k).take.new.1.1.1.1.1.0
-actions-in k = (own-actions _ _ _ _ _ _ _ _ _ _ _ (said k ∙ (took k).take.ensures.0.says) (took k).take.ensures.1).1
+actions_in : (k : tie.After-known-told) → (counts k).actions * action_width ≤ length (took k).take.new.1.1.1.1.1.0
+actions_in k = (own_actions_lem _ _ _ _ _ _ _ _ _ _ _ (said k ∙ (took k).take.ensures.0.says) (took k).take.ensures.1).1
 
 -- each table has room
 mul-message-numbers : tie.Need-overflow-mul-message-numbers
@@ -49,22 +49,22 @@ mul-action-numbers : tie.Need-overflow-mul-action-numbers
 mul-action-numbers c = omega (arith, c.before.before.before.if3.false, c.before.before.before.before.before.before.before.before.before.before.before.before.before.before.before.before.before.before.before.before.before.before.before.well-formed)
 
 array-share-prefix-own-messages : tie.Need-array-share-prefix-own-messages
-array-share-prefix-own-messages c = messages-in c.before.before.before.before.before.before.before.before.before
+array-share-prefix-own-messages c = messages_in_lem c.before.before.before.before.before.before.before.before.before
 
 slice-aggregate-put : tie.Need-slice-aggregate-put
-slice-aggregate-put c = sym (length-take-le _ _ (messages-in c.before.before.before.before.before.before.before.before.before.before))
+slice-aggregate-put c = sym (length-take-le _ _ (messages_in_lem c.before.before.before.before.before.before.before.before.before.before))
 
 array-share-prefix-own-pairs : tie.Need-array-share-prefix-own-pairs
-array-share-prefix-own-pairs c = pairs-in c.before.before.before.before.before.before.before.before.before.before.before.before.before.before
+array-share-prefix-own-pairs c = pairs_in_lem c.before.before.before.before.before.before.before.before.before.before.before.before.before.before
 
 slice-aggregate-put-2 : tie.Need-slice-aggregate-put-2
-slice-aggregate-put-2 c = sym (length-take-le _ _ (pairs-in c.before.before.before.before.before.before.before.before.before.before.before.before.before.before.before))
+slice-aggregate-put-2 c = sym (length-take-le _ _ (pairs_in_lem c.before.before.before.before.before.before.before.before.before.before.before.before.before.before.before))
 
 array-share-prefix-own-actions : tie.Need-array-share-prefix-own-actions
-array-share-prefix-own-actions c = actions-in c.before.before.before.before.before.before.before.before.before.before.before.before.before.before.before.before.before.before.before
+array-share-prefix-own-actions c = actions_in c.before.before.before.before.before.before.before.before.before.before.before.before.before.before.before.before.before.before.before
 
 slice-aggregate-put-3 : tie.Need-slice-aggregate-put-3
-slice-aggregate-put-3 c = sym (length-take-le _ _ (actions-in c.before.before.before.before.before.before.before.before.before.before.before.before.before.before.before.before.before.before.before.before))
+slice-aggregate-put-3 c = sym (length-take-le _ _ (actions_in c.before.before.before.before.before.before.before.before.before.before.before.before.before.before.before.before.before.before.before.before))
 
 returns-5 : tie.Need-returns-5
 returns-5 c =
@@ -79,15 +79,15 @@ returns-5 c =
     let ms = t.take.last.1.1.1.0 in
     let ps = t.take.last.1.1.1.1.0 in
     let xs = t.take.last.1.1.1.1.1.0 in
-    let hm : n.messages * messageWidth ≤ length a.messages.now = omega (arith, e.before.before.before.before.if1.false) in
-    let hp : n.pairs * pairWidth ≤ length a.pairs.now = omega (arith, e.before.before.if2.false) in
-    let ha : n.actions * actionWidth ≤ length a.actions.now = omega (arith, e.if3.false) in
+    let hm : n.messages * message_width ≤ length a.messages.now = omega (arith, e.before.before.before.before.if1.false) in
+    let hp : n.pairs * pair_width ≤ length a.pairs.now = omega (arith, e.before.before.if2.false) in
+    let ha : n.actions * action_width ≤ length a.actions.now = omega (arith, e.if3.false) in
     let q = said k ∙ t.take.ensures.0.says in (
-      copied-says _ _ _ _ _ _ _ _ _ _ _ q t.take.ensures.1 a.messages.now a.pairs.now a.actions.now hm hp ha,
-      copied-fills _ _ _ _ _ _ _ _ _ _ _ q t.take.ensures.1 a.messages.now a.pairs.now a.actions.now hm hp ha _ _ _
-          (writes-room (take (n.messages * messageWidth) ms) first.put.ensures (omega (arith, hm, length-take-le (n.messages * messageWidth) ms (messages-in k))))
-          (writes-room (take (n.pairs * pairWidth) ps) second.put2.ensures (omega (arith, hp, length-take-le (n.pairs * pairWidth) ps (pairs-in k))))
-          (writes-room (take (n.actions * actionWidth) xs) third.put3.ensures (omega (arith, ha, length-take-le (n.actions * actionWidth) xs (actions-in k)))),
+      copied_says _ _ _ _ _ _ _ _ _ _ _ q t.take.ensures.1 a.messages.now a.pairs.now a.actions.now hm hp ha,
+      copied_fills _ _ _ _ _ _ _ _ _ _ _ q t.take.ensures.1 a.messages.now a.pairs.now a.actions.now hm hp ha _ _ _
+          (writes_room (take (n.messages * message_width) ms) first.put.ensures (omega (arith, hm, length-take-le (n.messages * message_width) ms (messages_in_lem k))))
+          (writes_room (take (n.pairs * pair_width) ps) second.put2.ensures (omega (arith, hp, length-take-le (n.pairs * pair_width) ps (pairs_in_lem k))))
+          (writes_room (take (n.actions * action_width) xs) third.put3.ensures (omega (arith, ha, length-take-le (n.actions * action_width) xs (actions_in k)))),
     )
 
 pub read-once-spec : {M : Type 1} → statement M

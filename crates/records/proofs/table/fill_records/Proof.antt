@@ -63,7 +63,7 @@ use Rattle.records.proofs.Area.TheLaws as S'
 use Rattle.records.specs.contracts.Given as K
 use Rattle.records.proofs.Given.TheLaws as K'
 use Rattle.records.proofs.Again.{LentAgain, lends_again, comes_back}
-use Rattle.records.proofs.Meeting.{meets-many}
+use Rattle.records.proofs.Meeting.{meets_many}
 use Rattle.records.specs.contracts.fill.next_pair as take
 use Rattle.records.proofs.fill.next_pair.Symbol as take-def
 use Rattle.records.proofs.fill.next_pair.Symbol.{name as #next-pair}
@@ -74,9 +74,9 @@ use Rattle.records.proofs.table.fill_records.Statement as stated
 use Rattle.records.proofs.table.fill_records.Code as code
 
 -- ---- lists
-append-snoc' : (xs : List Pair) (y : Pair) (l : List Pair) → (xs ++ (y ∷ [])) ++ l ≡ xs ++ y ∷ l
-append-snoc' [] y l = refl
-append-snoc' (x ∷ xs) y l = ap (λ (k : List Pair). x ∷ k) (append-snoc' xs y l)
+append_snoc' : (xs : List Pair) (y : Pair) (l : List Pair) → (xs ++ (y ∷ [])) ++ l ≡ xs ++ y ∷ l
+append_snoc' [] y l = refl
+append_snoc' (x ∷ xs) y l = ap (λ (k : List Pair). x ∷ k) (append_snoc' xs y l)
 
 -- the record at the seam of what is stored and what is not is set
 sets : (zs ys : List Pair) (i : ℕ) (p : Pair) → length zs ≡ i → i < length ys → set (zs ++ drop i ys) i p ≡ (zs ++ (p ∷ [])) ++ drop (i + 1) ys
@@ -85,14 +85,14 @@ sets zs ys i p e h =
     ∙ ap (λ (k : ℕ). set (zs ++ get_or ys i p ∷ drop (suc i) ys) k p) (sym e)
     ∙ set-append_seam zs (get_or ys i p) (drop (suc i) ys) p
     ∙ ap (λ (k : ℕ). zs ++ p ∷ drop k ys) {x = suc i} {y = i + 1} (omega arith)
-    ∙ sym (append-snoc' zs p (drop (i + 1) ys))
+    ∙ sym (append_snoc' zs p (drop (i + 1) ys))
 
 -- how long the whole list is
 long : (zs ys : List Pair) (i : ℕ) → length zs ≡ i → i ≤ length ys → length (zs ++ drop i ys) ≡ length ys
 long zs ys i e h = omega (arith, length-append zs (drop i ys), length-drop i ys, e)
 
-no-pair : Pair
-no-pair = record { start = 0; len = 0; value = record { kind = 0; a = 0; b = 0; flags = 0 } }
+no_pair_lem : Pair
+no_pair_lem = record { start = 0; len = 0; value = record { kind = 0; a = 0; b = 0; flags = 0 } }
 
 -- ---- the MIR
 abbrev byte : Ty
@@ -228,11 +228,11 @@ module _ {M : Type 1} {𝓤 : Ura M} (𝓛 : Logic 𝓤) (mem : Memory → SProp
   abbrev Args : Cursor → GName → List ℕ → MutBor (List ℕ) × (Area × (Cursor × (MutBor (List ℕ) × Unit {0})))
   Args x δ l = (s, (area, (x, (m δ l, tt))))
 
-  abbrev vals-to : Cursor → List Val × (List Val × (List Val × (List Val × Unit {0})))
-  vals-to x = (vs ∷ [], (S'.lowered area ∷ [], (F'.lowered x ∷ [], (vm ∷ [], tt))))
+  abbrev vals_to : Cursor → List Val × (List Val × (List Val × (List Val × Unit {0})))
+  vals_to x = (vs ∷ [], (S'.lowered area ∷ [], (F'.lowered x ∷ [], (vm ∷ [], tt))))
 
   abbrev to : Cursor → ℕ → GName → List ℕ → (Take 𝓛 mem run).Ghost
-  to x ν δ l = (((κ₀, (ν ∷ [], tt)), (q₀, (full_share, tt)), tt, Args x δ l, vals-to x), tt)
+  to x ν δ l = (((κ₀, (ν ∷ [], tt)), (q₀, (full_share, tt)), tt, Args x δ l, vals_to x), tt)
 
   abbrev Tok : ℕ → Item 𝓤
   Tok ν = ‵ (flft κ₀ q₀) ⊛ (‵ (flft (ν ∷ []) full_share) ⊛ ‵ ftrue)
@@ -249,8 +249,8 @@ module _ {M : Type 1} {𝓤 : Ura M} (𝓛 : Logic 𝓤) (mem : Memory → SProp
       -- [what is owned; what s owns; the tokens]
       move ! (2 ∷ 0 ∷ []) $ use2 𝓛 (raw ((Take 𝓛 mem run).pre (to x ν δ l))) asked $ frame ! $ done !
     where
-      asked : ent 𝓤 (on_entry 𝓛 take.signature (κ₀, (ν ∷ [], tt)) (q₀, (full_share, tt)) (Args x δ l) (vals-to x)) ((Take 𝓛 mem run).pre (to x ν δ l))
-      asked = qed 𝓛 (Tok ν ∷ ‵ (owns (ShrSlice (named 0) κ₀ u8 ∷ S.the_row ∷ F.the_row ∷ MutSlice (named 1) (ν ∷ []) u64 ∷ []) (Args x δ l) (vals-to x)) ∷ []) ∵ says ! ready $ frame ! $ done !
+      asked : ent 𝓤 (on_entry 𝓛 take.signature (κ₀, (ν ∷ [], tt)) (q₀, (full_share, tt)) (Args x δ l) (vals_to x)) ((Take 𝓛 mem run).pre (to x ν δ l))
+      asked = qed 𝓛 (Tok ν ∷ ‵ (owns (ShrSlice (named 0) κ₀ u8 ∷ S.the_row ∷ F.the_row ∷ MutSlice (named 1) (ν ∷ []) u64 ∷ []) (Args x δ l) (vals_to x)) ∷ []) ∵ says ! ready $ frame ! $ done !
 
   abbrev Lasts : Type 0
   Lasts = Unit {0} × (Unit {0} × (Unit {0} × (List ℕ × Unit {0})))
@@ -330,10 +330,10 @@ module _ {M : Type 1} {𝓤 : Ura M} (𝓛 : Logic 𝓤) (mem : Memory → SProp
         qed 𝓛 (Behind z k new) ∵ exec ! C Λ En tail (any_q (after_turn 𝓤 H (Below (suc t)) Left)) $
         rewrite ! 6 (λ (v : Bool). ‵ (fat full_share ty_bool l₁₁ 0 (vbool v))) there refl $
         stays ! (load ! (from ! (stop !)) (look ! 6 refl)) $
-        assigns ! (bin ! (load ! (from ! (stop !)) (look ! 2 refl)) (lit ! tt) (record { fits = place-fits })) (from ! (stop !)) (init ! 7 refl (tt, record { fits = place-fits })) $
+        assigns ! (bin ! (load ! (from ! (stop !)) (look ! 2 refl)) (lit ! tt) (record { fits = place_fits })) (from ! (stop !)) (init ! 7 refl (tt, record { fits = place_fits })) $
         assigns ! (bin ! (load ! (from ! (fld ! refl (stop !))) (look_in ! 15 (sub ! 0 refl (whole !)))) (load ! (from ! (stop !)) (look ! 7 refl)) tt) (from ! (stop !)) (init ! 8 refl (tt, tt)) $
         rewrite ! 8 (λ (p : ℕ). ‵ (fat full_share ty_ptr l₁₃ 0 (vptr b p))) (sym (place_is wide o z.i)) refl $
-        elem_out ! Q.the_row (Is Q.the_row) (shows 𝓛 Q.the_row) (LL.vals Q.the_type Q'.the_laws) (LL.tells Q.the_type Q'.the_laws) full_share (z.zs ++ drop z.i ys) z.i no-pair b o within (λ _.
+        elem_out ! Q.the_row (Is Q.the_row) (shows 𝓛 Q.the_row) (LL.vals Q.the_type Q'.the_laws) (LL.tells Q.the_type Q'.the_laws) full_share (z.zs ++ drop z.i ys) z.i no_pair_lem b o within (λ _.
         -- [the record's cell; what it owns; the others; _6; _7; _8; _9; _10; _11; _12; _13; …]
         assigns ! (of_opd ! (load ! (from ! (fld ! refl (stop !))) (look_in ! 5 (sub ! 1 refl (whole !))))) (from ! (hop ! (look ! 10 refl) (stop !))) (store_raw ! 0 refl ((LL.lawful Q.the_type Q'.the_laws 𝓛).typed k.pair _ pair_is).0) $
         move ! (1 ∷ []) $ let_go ! $ owned ! Q.the_row (Is Q.the_row) (LL.makes Q.the_type Q'.the_plain 𝓛) k.pair _ pair_is $ move ! (1 ∷ 0 ∷ []) $
@@ -353,8 +353,8 @@ module _ {M : Type 1} {𝓤 : Ura M} (𝓛 : Logic 𝓤) (mem : Memory → SProp
         within : z.i < length (z.zs ++ drop z.i ys)
         within = omega (arith, long z.zs ys z.i f.many (omega (arith, f.left)), f.left)
 
-        place-fits : z.i * wide < 2 ^ 64
-        place-fits = omega (arith, most, f.left)
+        place_fits : z.i * wide < 2 ^ 64
+        place_fits = omega (arith, most, f.left)
 
     -- the turn in which there was none, and the rest of the body: the borrow is closed at what is stored
     ends : (X : SProp 𝓤) (t : ℕ) (z : Stage) (k : Gives) (new : List ℕ) → Facts t z → length new ≡ length z.table → k.some ≡ false → NextPair s.now area z.x k z.table new
@@ -380,21 +380,21 @@ module _ {M : Type 1} {𝓤 : Ura M} (𝓛 : Logic 𝓤) (mem : Memory → SProp
     -- by whether there was one
     behind : (t : ℕ) (z : Stage) (k : Gives) (new : List ℕ) → Facts t z → Is Q.the_row k.pair (Q'.lowered k.pair ∷ []) → Is F.the_row k.next (F'.lowered k.next ∷ []) → length new ≡ length z.table
         → NextPair s.now area z.x k z.table new → ent 𝓤 (⋆ 𝓛 (Behind z k new)) (Wp 𝓤 H C Λ En tail (after_turn 𝓤 H (Below t) Left))
-    behind t z k new f pair_is next-is l e = by-some k.some refl
+    behind t z k new f pair_is next-is l e = by_some k.some refl
       where
         by_left : (t : ℕ) → Facts t z → k.some ≡ true → ent 𝓤 (⋆ 𝓛 (Behind z k new)) (Wp 𝓤 H C Λ En tail (after_turn 𝓤 H (Below t) Left))
         by_left zero f there = absurd (omega (arith, (e.gives there x₀.at table₀ (length ys) z.zs f.meets).0, f.left, f.many))
         by_left (suc t) f there = stored t z k new f pair_is next-is l there e
 
-        by-some : (v : Bool) → k.some ≡ v → ent 𝓤 (⋆ 𝓛 (Behind z k new)) (Wp 𝓤 H C Λ En tail (after_turn 𝓤 H (Below t) Left))
-        by-some true there = by_left t f there
-        by-some false none = ends (Below t) t z k new f l none e
+        by_some : (v : Bool) → k.some ≡ v → ent 𝓤 (⋆ 𝓛 (Behind z k new)) (Wp 𝓤 H C Λ En tail (after_turn 𝓤 H (Below t) Left))
+        by_some true there = by_left t f there
+        by_some false none = ends (Below t) t z k new f l none e
 
     -- what the call asks
     ready : (t : ℕ) (z : Stage) → Facts t z → Ready s.now area z.x
     ready t z f =
         let most : length ys * wide < 2 ^ 63 = g.1 in
-        record { within = begins.within; low = omega (arith, meets-many f.meets, f.many, f.left, most) }
+        record { within = begins.within; low = omega (arith, meets_many f.meets, f.many, f.left, most) }
 
     turn_at : (t : ℕ) (z : Stage) → Facts t z → ent 𝓤 (⋆ 𝓛 (At z)) (Wp 𝓤 H C Λ En turn (after_turn 𝓤 H (Below t) Left))
     unfolding after_turn

@@ -284,8 +284,8 @@ module _ {M : Type 1} {𝓤 : Ura M} (𝓛 : Logic 𝓤) (mem : Memory → SProp
 module _ {M : Type 1} {𝓤 : Ura M} (𝓛 : Logic 𝓤) (mem : Memory → SProp 𝓤) (run : Routine → Fun 𝓤) (𝓣 : Tables 𝓤 𝓛.H) (known₁ : Triple 𝓤 (𝓣.C #find) (Find 𝓛 mem run)) (known₂ : Triple 𝓤 (𝓣.C #fill) (Fill 𝓛 mem run)) where
   open 𝓛 use {H}
 
-  read-walks : Walks 𝓛 reads.ended stayed (WpFn 𝓤 H 𝓣.C 𝓣.Λ function) (reads.clauses 𝓛 mem run)
-  read-walks = walked 𝓛 reads.ended stayed (reads.clauses 𝓛 mem run) (WpFn 𝓤 H 𝓣.C 𝓣.Λ function)
+  read_walks : Walks 𝓛 reads.ended stayed (WpFn 𝓤 H 𝓣.C 𝓣.Λ function) (reads.clauses 𝓛 mem run)
+  read_walks = walked 𝓛 reads.ended stayed (reads.clauses 𝓛 mem run) (WpFn 𝓤 H 𝓣.C 𝓣.Λ function)
       (λ κs. (shr_slice_vals, (uint_vals w32, (shr_slice_vals, (shr_slice_vals, tt)))))
       (λ κs. (shr_slice_Tells (named 0) κs.0 u8, (uint_Tells w32, (mut_slice_Tells (named 1) κs.1.0 u64, (mut_slice_Tells (named 2) κs.1.1.0 Q.the_row, tt)))))
       (λ κs qs bounds a g are. via 𝓤 _ (fst∗ 𝓤 _ (emp 𝓤))
@@ -297,7 +297,7 @@ module _ {M : Type 1} {𝓤 : Ura M} (𝓛 : Logic 𝓤) (mem : Memory → SProp
       subst (λ (f : Fn). Meets 𝓛 reads.signature (WpFn 𝓤 H 𝓣.C 𝓣.Λ f) (reads.spec 𝓛 mem run)) compiled
       (walk_Meets 𝓛 reads.ended stayed
       (Goes-none_slice 𝓛 3 (0 ∷ []) tt (plain (λ _. u8)) yes, (Goes-none 𝓛 3 (λ _. u32) yes (λ κs x f. refl), (Goes-gave_slice 𝓛 3 1 tt (plain (λ _. u64)), (Goes-gave_slice 𝓛 3 2 tt (plain (λ _. Q.the_row)), tt))))
-      (reads.clauses 𝓛 mem run) (WpFn 𝓤 H 𝓣.C 𝓣.Λ function) (WpFn-mono 𝓤 H 𝓛.laws 𝓣 function) read-walks)
+      (reads.clauses 𝓛 mem run) (WpFn 𝓤 H 𝓣.C 𝓣.Λ function) (WpFn-mono 𝓤 H 𝓛.laws 𝓣 function) read_walks)
 
 pub read-frame-records-spec : {M : Type 1} → stated.statement M
 unfolding code.routine tables_of

@@ -8,17 +8,17 @@ use borrow.Author.Rules.{rules}
 use Rattle.replay.proofs.fields.fields.Statement.{statement}
 use Rattle.replay.proofs.fields.fields.Tie as tie
 
-abbrev invariant-loop : tie.invariant-loop
-invariant-loop text strings numbers₀ bytes₀ found₀ at₀ i₀ numbers bytes found at i =
+abbrev invariant_loop : tie.invariant-loop
+invariant_loop text strings numbers₀ bytes₀ found₀ at₀ i₀ numbers bytes found at i =
     (found.numbers ≤ length numbers) × (found.start ≤ found.end) × (found.end ≤ length bytes) × (i ≤ at) × (at ≤ length text + 1)
     × (length numbers ≡ length numbers₀) × (length bytes ≡ length bytes₀)
 
-abbrev decreases-loop : tie.decreases-loop
-decreases-loop text strings numbers₀ bytes₀ found₀ at₀ i₀ numbers bytes found at i = length text + 1 - at
+abbrev decreases_loop : tie.decreases-loop
+decreases_loop text strings numbers₀ bytes₀ found₀ at₀ i₀ numbers bytes found at i = length text + 1 - at
 
 pub fields-spec : {M : Type 1} → statement M
 fields-spec =
-    tie.close (tie.spec invariant-loop decreases-loop (λ c. search rules) (λ c. search rules) (λ c. search rules) (λ c. search rules) (λ c κs. search rules)
+    tie.close (tie.spec invariant_loop decreases_loop (λ c. search rules) (λ c. search rules) (λ c. search rules) (λ c. search rules) (λ c κs. search rules)
     (λ c. search rules) (λ c. search rules) (λ c. search rules) (λ c κs. search rules) (λ c. search rules) (λ c. search rules)
     (λ c. search rules) (λ c. search rules) (λ c. search rules) (λ c. search rules) (λ c. search rules) (λ c. search rules) (λ c. search rules)
     (λ c. search rules) (λ c. search rules) (λ c. search rules) (λ c. search rules) (λ c. search rules))

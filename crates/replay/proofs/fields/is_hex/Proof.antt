@@ -6,13 +6,13 @@ use borrow.Author.Rules.{rules}
 use Rattle.replay.proofs.fields.is_hex.Statement.{statement}
 use Rattle.replay.proofs.fields.is_hex.Tie as tie
 
-abbrev invariant-loop : tie.invariant-loop
-invariant-loop text i₀ i = i ≤ length text
+abbrev invariant_loop : tie.invariant-loop
+invariant_loop text i₀ i = i ≤ length text
 
-abbrev decreases-loop : tie.decreases-loop
-decreases-loop text i₀ i = length text - i
+abbrev decreases_loop : tie.decreases-loop
+decreases_loop text i₀ i = length text - i
 
 pub is-hex-spec : {M : Type 1} → statement M
 is-hex-spec =
-    tie.close (tie.spec invariant-loop decreases-loop (λ c. search rules) (λ c. search rules) (λ c κs. search rules) (λ c. search rules) (λ c. search rules)
+    tie.close (tie.spec invariant_loop decreases_loop (λ c. search rules) (λ c. search rules) (λ c κs. search rules) (λ c. search rules) (λ c. search rules)
     (λ c. search rules) (λ c. search rules) (λ c. search rules))

@@ -6,13 +6,13 @@ use borrow.Author.Rules.{rules}
 use Rattle.replay.proofs.frames.holds.Statement.{statement}
 use Rattle.replay.proofs.frames.holds.Tie as tie
 
-abbrev invariant-loop : tie.invariant-loop
-invariant-loop table numbers i₀ i = i ≤ length table
+abbrev invariant_loop : tie.invariant-loop
+invariant_loop table numbers i₀ i = i ≤ length table
 
-abbrev decreases-loop : tie.decreases-loop
-decreases-loop table numbers i₀ i = length table - i
+abbrev decreases_loop : tie.decreases-loop
+decreases_loop table numbers i₀ i = length table - i
 
 pub holds-spec : {M : Type 1} → statement M
 holds-spec =
-    tie.close (tie.spec invariant-loop decreases-loop (λ c. search rules) (λ c. search rules) (λ c. search rules) (λ c. search rules) (λ c. search rules)
+    tie.close (tie.spec invariant_loop decreases_loop (λ c. search rules) (λ c. search rules) (λ c. search rules) (λ c. search rules) (λ c. search rules)
     (λ c. search rules) (λ c. search rules) (λ c. search rules) (λ c. search rules) (λ c. search rules) (λ c. search rules))

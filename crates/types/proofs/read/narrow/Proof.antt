@@ -5,7 +5,7 @@ use Prim.Native.Nat.{ℕ, ◌≤◌, ◌<◌}
 use mathlib.Core.Path.{◌≡◌, sym, ap, ◌∙◌}
 use mathlib.Core.Logic.{⊎_elim}
 use native.Mathlib.Omega.{arith}
-use Rattle.answer.proofs.Cases.{lt-or-le}
+use Rattle.answer.proofs.Cases.{lt_or_le}
 use Rattle.types.specs.Value.{Width, signed32, unsigned32, whole64, integer, shape, narrowed}
 use Rattle.types.proofs.Shapes.{shape_is, row}
 use Rattle.types.proofs.read.narrow.Statement.{statement}
@@ -23,10 +23,10 @@ rest kind n low high no2 no3 w e =
     ⊎_elim
     (λ h. bits 4 kind whole64 n (omega (arith, four)) shape_is.4 w e)
     (λ h. bits 5 kind whole64 n (omega arith) shape_is.5 w e)
-    (lt-or-le kind 5)
+    (lt_or_le kind 5)
   where
     four : 4 ≤ kind
-    four = ⊎_elim (λ h. ⊎_elim (λ l. absurd (no2 (omega arith))) (λ l. absurd (no3 (omega arith))) (lt-or-le kind 3)) (λ h. h) (lt-or-le kind 4)
+    four = ⊎_elim (λ h. ⊎_elim (λ l. absurd (no2 (omega arith))) (λ l. absurd (no3 (omega arith))) (lt_or_le kind 3)) (λ h. h) (lt_or_le kind 4)
 
 returns : tie.Need-returns
 returns c = λ w e. c.sign-extend.ensures ∙ bits 2 _ signed32 _ c.before.if1.true shape_is.2 w e

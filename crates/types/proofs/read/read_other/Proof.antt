@@ -6,15 +6,15 @@ use Prim.Native.Nat.{◌%◌}
 use native.Mathlib.Omega.{arith}
 use lib.ListN.{drop}
 use Rattle.types.specs.Value.{nothing, flag, reserved}
-use Rattle.types.proofs.Reading.{behind-refused, behind-plain}
-use Rattle.types.proofs.Shapes.{shape_is, row, unnumbered-bool, unnumbered-left}
+use Rattle.types.proofs.Reading.{behind_refused, behind_plain}
+use Rattle.types.proofs.Shapes.{shape_is, row, unnumbered_bool, unnumbered_left}
 use Rattle.types.proofs.read.read_other.Statement.{statement}
 use Rattle.types.proofs.read.read_other.Tie as tie
 
 returns : tie.Need-returns
 returns c = let a = c.before.before in
-    sym (behind-refused a.args.kind a.args.flags (drop 1 a.args.input.now) reserved
-    (unnumbered-left a.args.kind a.requires.1 c.if1.true) 8 0 refl)
+    sym (behind_refused a.args.kind a.args.flags (drop 1 a.args.input.now) reserved
+    (unnumbered_left a.args.kind a.requires.1 c.if1.true) 8 0 refl)
 
 address-len-requires : tie.Need-address-len-requires
 address-len-requires c κs = (c.if2.true, omega (arith, c.before.if1.false))
@@ -27,12 +27,12 @@ returns-2 c = c.read-address.ensures
 
 returns-3 : tie.Need-returns-3
 returns-3 c = let a = c.before.before.before.before in
-    sym (behind-plain a.args.kind a.args.flags (drop 1 a.args.input.now) nothing (row 0 c.if3.true shape_is.0) 0 0 a.args.flags 0 refl refl)
+    sym (behind_plain a.args.kind a.args.flags (drop 1 a.args.input.now) nothing (row 0 c.if3.true shape_is.0) 0 0 a.args.flags 0 refl refl)
 
 returns-4 : tie.Need-returns-4
 returns-4 c = let a = c.before.before.before.before in
-    sym (behind-plain a.args.kind a.args.flags (drop 1 a.args.input.now) flag
-    (unnumbered-bool a.args.kind a.requires.1 c.if3.false (omega (arith, c.before.if2.false))) (a.args.flags % 2) 0 0 0 refl refl)
+    sym (behind_plain a.args.kind a.args.flags (drop 1 a.args.input.now) flag
+    (unnumbered_bool a.args.kind a.requires.1 c.if3.false (omega (arith, c.before.if2.false))) (a.args.flags % 2) 0 0 0 refl refl)
 
 pub read-other-spec : {M : Type 1} → statement M
 read-other-spec = tie.close (tie.spec returns address-len-requires read-address-requires returns-2 returns-3 returns-4)

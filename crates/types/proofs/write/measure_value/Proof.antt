@@ -6,14 +6,14 @@ use mathlib.Core.Bool.{true}
 use native.Mathlib.Omega.{arith}
 use lib.ListN.{length}
 use Rattle.answer.specs.Answer.{written}
-use Rattle.answer.specs.Order.{inOrder}
+use Rattle.answer.specs.Order.{in_order}
 use Rattle.answer.specs.Inner.{Passes}
-use Rattle.answer.proofs.Order.{passes-zero, lines-refuse, lines-pass}
-use Rattle.types.specs.Form.{part, valueBytes, writableRecord, ranged, length_of}
-use Rattle.types.specs.Check.{valueChecks}
-use Rattle.types.specs.Promise.{recordOf}
+use Rattle.answer.proofs.Order.{passes_zero, lines_refuse, lines_pass}
+use Rattle.types.specs.Form.{part, value_bytes, writable_record, ranged, length_of}
+use Rattle.types.specs.Check.{value_checks}
+use Rattle.types.specs.Promise.{record_of}
 use Rattle.types.proofs.Checking.{passed}
-use Rattle.types.proofs.Writing.{value-bytes, part-whole, part_small}
+use Rattle.types.proofs.Writing.{value_bytes_lem, part_whole, part_small}
 use Rattle.types.proofs.write.measure_value.Statement.{statement}
 use Rattle.types.proofs.write.measure_value.Tie as tie
 
@@ -21,20 +21,20 @@ returns : tie.Need-returns
 returns c =
     let a = c.before.before.before.args in
     let is = c.before.check-value.ensures in
-    (is, sym (ap length_of (lines-refuse (valueChecks a.buffer.now (recordOf a.value)) _ is c.if1.true 0 (written (valueBytes a.buffer.now (recordOf a.value))))))
+    (is, sym (ap length_of (lines_refuse (value_checks a.buffer.now (record_of a.value)) _ is c.if1.true 0 (written (value_bytes a.buffer.now (record_of a.value))))))
 
 -- what the check says
-none : (c : tie.Else1) → let a = c.before.before.before.args in inOrder (valueChecks a.buffer.now (recordOf a.value)) 0 ≡ 0
+none : (c : tie.Else1) → let a = c.before.before.before.args in in_order (value_checks a.buffer.now (record_of a.value)) 0 ≡ 0
 none c = sym c.before.check-value.ensures ∙ c.if1.false
 
-well : (c : tie.Else1) → let a = c.before.before.before.args in Passes (valueChecks a.buffer.now (recordOf a.value))
-well c = passes-zero _ tt (none c)
+well : (c : tie.Else1) → let a = c.before.before.before.args in Passes (value_checks a.buffer.now (record_of a.value))
+well c = passes_zero _ tt (none c)
 
-fields : (c : tie.Else1) → writableRecord (recordOf c.before.before.before.args.value) ≡ true
+fields : (c : tie.Else1) → writable_record (record_of c.before.before.before.args.value) ≡ true
 fields c = let a = c.before.before.before.args in
     (passed a.buffer.now a.value.kind a.value.a a.value.b a.value.flags (well c)).0
 
-range : (c : tie.Else1) → ranged c.before.before.before.args.buffer.now (recordOf c.before.before.before.args.value) ≡ true
+range : (c : tie.Else1) → ranged c.before.before.before.args.buffer.now (record_of c.before.before.before.args.value) ≡ true
 range c = let a = c.before.before.before.args in
     (passed a.buffer.now a.value.kind a.value.a a.value.b a.value.flags (well c)).1
 
@@ -50,8 +50,8 @@ returns-2 c =
     let a = e.before.before.before.args in
     let v = a.value in (
       sym (none e),
-      c.form-len.ensures (part a.buffer.now v.a v.b) (part-whole a.buffer.now v.kind v.a v.b v.flags (fields e) (range e))
-          ∙ sym (ap length_of (lines-pass (valueChecks a.buffer.now (recordOf v)) (well e) 0 (written (valueBytes a.buffer.now (recordOf v)))) ∙ ap length (value-bytes a.buffer.now v.kind v.a v.b v.flags)),
+      c.form-len.ensures (part a.buffer.now v.a v.b) (part_whole a.buffer.now v.kind v.a v.b v.flags (fields e) (range e))
+          ∙ sym (ap length_of (lines_pass (value_checks a.buffer.now (record_of v)) (well e) 0 (written (value_bytes a.buffer.now (record_of v)))) ∙ ap length (value_bytes_lem a.buffer.now v.kind v.a v.b v.flags)),
     )
 
 pub measure-value-spec : {M : Type 1} → statement M

@@ -7,13 +7,13 @@ use native.Mathlib.Omega.{arith}
 use lib.Dec.{leb}
 use lib.ListN.{length}
 use borrow.Author.Tests.{le-leb}
-use Rattle.varint.specs.Number.{numberBytes}
+use Rattle.varint.specs.Number.{number_bytes}
 use Rattle.varint.proofs.Writing.{length_most}
 use Rattle.types.proofs.write.number_fits.Statement.{statement}
 use Rattle.types.proofs.write.number_fits.Tie as tie
 
 returns : tie.Need-returns
-returns c = let a = c.before.args in sym (le-leb (1 + length (numberBytes a.n)) a.room (omega (arith, c.if1.true, length_most a.n)))
+returns c = let a = c.before.args in sym (le-leb (1 + length (number_bytes a.n)) a.room (omega (arith, c.if1.true, length_most a.n)))
 
 add-result : tie.Need-overflow-add-result
 add-result c = omega (arith, c.varint-len.ensures, length_most c.before.before.args.n)

@@ -5,8 +5,8 @@ use mathlib.Core.Path.{◌≡◌, sym, ap, ◌∙◌}
 use Prim.Native.Nat.{◌+◌, ◌-◌}
 use native.Mathlib.Omega.{arith}
 use lib.ListN.{length, take, drop, length-drop}
-use Rattle.answer.proofs.Output.{lent-tail}
-use Rattle.types.proofs.Blocks.{part-long, own-part, block-put}
+use Rattle.answer.proofs.Output.{lent_tail_lem}
+use Rattle.types.proofs.Blocks.{part_long, own_part, block_put}
 use Rattle.types.proofs.write.put_block.Statement.{statement}
 use Rattle.types.proofs.write.put_block.Tie as tie
 
@@ -14,23 +14,23 @@ use Rattle.types.proofs.write.put_block.Tie as tie
 read : (c : tie.After-put-each) → let a = c.before.before.before.before.before in
     take a.args.n c.put-each.new.1.0 ≡ take a.args.n (drop a.args.at a.args.bytes.now)
 read c = let a = c.before.before.before.before.before in
-    own-part a.args.bytes.now a.args.at a.args.n a.requires.0 _ _ (a.args.at + a.args.n - a.args.at) (omega arith) c.put-each.ensures
+    own_part a.args.bytes.now a.args.at a.args.n a.requires.0 _ _ (a.args.at + a.args.n - a.args.at) (omega arith) c.put-each.ensures
 
 long : (c : tie.After-put-each) → let a = c.before.before.before.before.before in length (take a.args.n c.put-each.new.1.0) ≡ a.args.n
 long c = let a = c.before.before.before.before.before in
-    ap length (read c) ∙ part-long a.args.bytes.now a.args.at a.args.n a.requires.0
+    ap length (read c) ∙ part_long a.args.bytes.now a.args.at a.args.n a.requires.0
 
 slice-aggregate-put-each-2 : tie.Need-slice-aggregate-put-each-2
 slice-aggregate-put-each-2 c = sym (long c.before.before)
 
 put-each-requires-2 : tie.Need-put-each-requires-2
 put-each-requires-2 c κs = let a = c.before.before.before.before.before.before.before.before in
-    rw (lent-tail a.args.at a.args.out.now) (simp length-drop (omega (arith, long c.before.before.before, a.requires)))
+    rw (lent_tail_lem a.args.at a.args.out.now) (simp length-drop (omega (arith, long c.before.before.before, a.requires)))
 
 returns : tie.Need-returns
 returns c = let k = c.before.before.before.before.before.before in
     let a = k.before.before.before.before.before in
-    block-put a.args.bytes.now a.args.at a.args.n a.requires.0 a.args.out.now _ _ (omega (arith, a.requires)) (read k) c.before.before.put-each2.ensures
+    block_put a.args.bytes.now a.args.at a.args.n a.requires.0 a.args.out.now _ _ (omega (arith, a.requires)) (read k) c.before.before.put-each2.ensures
 
 pub put-block-spec : {M : Type 1} → statement M
 put-block-spec =

@@ -7,7 +7,7 @@ use native.Mathlib.Omega.{arith}
 use lib.ListN.{length}
 use Rattle.answer.proofs.Output.{partly_none}
 use Rattle.types.specs.Inner.{block}
-use Rattle.types.proofs.Blocks.{block-next, block_last}
+use Rattle.types.proofs.Blocks.{block_next, block_last}
 use Rattle.types.proofs.write.put_ends.Statement.{statement}
 use Rattle.types.proofs.write.put_ends.Tie as tie
 
@@ -16,7 +16,7 @@ returns c = let k = c.before.before.before.before.before.before in
     let a = k.before.before.before.before in
     let s = a.args.bytes.now in
     let n = a.args.n in
-    let first = block-next s 0 n (omega (arith, a.requires)) _ _ 0 (partly_none _ _ a.requires.3) (omega arith) (omega arith) in
+    let first = block_next s 0 n (omega (arith, a.requires)) _ _ 0 (partly_none _ _ a.requires.3) (omega arith) (omega arith) in
     c.before.before.put-block2.ensures
     ∙ ap (block s (length s - n) n) k.put-block.ensures
     ∙ block_last s (length s - n) n (omega (arith, a.requires)) _ _ (0 + n) first (omega (arith, a.requires)) (omega (arith, a.requires))

@@ -8,34 +8,34 @@ use mathlib.Core.List.{[], ◌∷◌}
 use native.Mathlib.Omega.{arith}
 use lib.ListN.{length}
 use borrow.Author.Tests.{not-true, not-false}
-use Rattle.types.specs.Form.{type_of, writableRecord}
-use Rattle.types.specs.Promise.{recordOf}
-use Rattle.types.proofs.Writing.{plain-bytes, form-unwritable, form-plain}
-use Rattle.types.proofs.Output.{puts-refusal, puts-short, puts_whole, begun-byte}
+use Rattle.types.specs.Form.{type_of, writable_record}
+use Rattle.types.specs.Promise.{record_of}
+use Rattle.types.proofs.Writing.{plain_bytes, form_unwritable, form_plain}
+use Rattle.types.proofs.Output.{puts_refusal, puts_short, puts_whole, begun_byte}
 use Rattle.types.proofs.write.put_plain.Statement.{statement}
 use Rattle.types.proofs.write.put_plain.Tie as tie
 
-fields : (c : tie.Else1) → writableRecord (recordOf c.before.before.before.args.value) ≡ true
+fields : (c : tie.Else1) → writable_record (record_of c.before.before.before.args.value) ≡ true
 fields c = sym c.before.writable.ensures ∙ not-false _ c.if1.false
 
 -- a bool's number is 0 or 1, and null's is 0; its flags are four bits; and so the byte is one
 small : (c : tie.Else1) → let v = c.before.before.before.args.value in (v.a < 2) × (v.flags < 16) × (type_of v.kind v.flags + 16 * v.a < 256)
 small c = let a = c.before.before.before in
     let v = a.args.value in
-    let p = plain-bytes [] v.kind v.a v.b v.flags a.requires (fields c) in
+    let p = plain_bytes [] v.kind v.a v.b v.flags a.requires (fields c) in
     (p.0, p.1, p.2)
 
 returns : tie.Need-returns
 returns c = λ buffer. let w = c.before in
     let a = w.before.before.args in
-    puts-refusal (length a.out.now) 14 a.out.now
-    (form-unwritable buffer (recordOf a.value) (sym w.writable.ensures ∙ not-true _ c.if1.true))
+    puts_refusal (length a.out.now) 14 a.out.now
+    (form_unwritable buffer (record_of a.value) (sym w.writable.ensures ∙ not-true _ c.if1.true))
 
 returns-2 : tie.Need-returns-2
 returns-2 c = λ buffer. let e = c.before in
     let a = e.before.before.before in
     let v = a.args.value in
-    puts-short ((type_of v.kind v.flags + 16 * v.a) ∷ []) a.args.out.now (form-plain buffer v.kind v.a v.b v.flags a.requires (fields e)) (omega (arith, c.if2.true))
+    puts_short ((type_of v.kind v.flags + 16 * v.a) ∷ []) a.args.out.now (form_plain buffer v.kind v.a v.b v.flags a.requires (fields e)) (omega (arith, c.if2.true))
 
 mul-out : tie.Need-overflow-mul-out
 mul-out c = omega (arith, (small c.before.before).1)
@@ -59,8 +59,8 @@ returns-3 : tie.Need-returns-3
 returns-3 c = λ buffer. let e = c.before.before.before.before in
     let a = e.before.before.before in
     let v = a.args.value in
-    puts_whole ((type_of v.kind v.flags + 16 * v.a) ∷ []) a.args.out.now (form-plain buffer v.kind v.a v.b v.flags a.requires (fields e))
-    (omega (arith, slice-write-out c)) (begun-byte _ [] a.args.out.now (omega (arith, slice-write-out c))).first
+    puts_whole ((type_of v.kind v.flags + 16 * v.a) ∷ []) a.args.out.now (form_plain buffer v.kind v.a v.b v.flags a.requires (fields e))
+    (omega (arith, slice-write-out c)) (begun_byte _ [] a.args.out.now (omega (arith, slice-write-out c))).first
 
 pub put-plain-spec : {M : Type 1} → statement M
 put-plain-spec =

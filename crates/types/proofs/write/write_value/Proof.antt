@@ -4,8 +4,8 @@ use borrow.Author.Rules.{rules}
 use mathlib.Core.Path.{sym, ◌∙◌}
 use lib.ListN.{length}
 use Rattle.answer.specs.Answer.{within}
-use Rattle.types.specs.Form.{valueAnswer}
-use Rattle.types.specs.Promise.{recordOf}
+use Rattle.types.specs.Form.{value_answer}
+use Rattle.types.specs.Promise.{record_of}
 use Rattle.types.proofs.Output.{told}
 use Rattle.types.proofs.write.write_value.Statement.{statement}
 use Rattle.types.proofs.write.write_value.Tie as tie
@@ -18,7 +18,7 @@ returns c = let a = c.before.before.before.before.before.before.before.before.ar
 returns-2 : tie.Need-returns-2
 returns-2 c = let a = c.before.before.before.before.before.before.before.args in
     let p = c.before.before.before.put-value.ensures in
-    record { says = told (within (length a.out.now) (valueAnswer a.buffer.now (recordOf a.value))) _ p.counts c.if1.false; holds = p.holds }
+    record { says = told (within (length a.out.now) (value_answer a.buffer.now (record_of a.value))) _ p.counts c.if1.false; holds = p.holds }
 
 pub write-value-spec : {M : Type 1} → statement M
 write-value-spec = tie.close (tie.spec (λ c κs. search rules) (λ c κs. search rules) (λ c. search rules) returns (λ c. search rules) returns-2)

@@ -4,7 +4,7 @@ use Prim.Native.Nat.{◌≤◌, ◌<◌}
 use mathlib.Core.Path.{sym, ◌∙◌}
 use lib.ListN.{length}
 use borrow.Author.Tests.{leb-true, leb-false, not-true, not-false}
-use Rattle.answer.proofs.Output.{writes-none, writes-all}
+use Rattle.answer.proofs.Output.{writes_none, writes_all}
 use Rattle.utf8.specs.Text.{lossy}
 use borrow.Author.Rules.{rules}
 use Rattle.utf8.proofs.replace.lossy_steps.Statement.{statement}
@@ -17,14 +17,14 @@ room : (c : tie.Else1) → length (lossy c.before.before.before.before.args.byte
 room c = leb-true _ _ (sym c.before.has_room.ensures ∙ not-false _ c.if1.false)
 
 returns : tie.Need-returns
-returns c = writes-none (lossy c.before.before.before.before.args.bytes.now) _ (no_room c)
+returns c = writes_none (lossy c.before.before.before.before.args.bytes.now) _ (no_room c)
 
 write-lossy-requires : tie.Need-write-lossy-requires
 write-lossy-requires c κs = room c.before
 
 returns-2 : tie.Need-returns-2
 returns-2 c = let e = c.before.before.before.before in
-    writes-all (lossy e.before.before.before.before.args.bytes.now) _ _ _ (room e) c.before.before.write-lossy.ensures.0 c.before.before.write-lossy.ensures.1
+    writes_all (lossy e.before.before.before.before.args.bytes.now) _ _ _ (room e) c.before.before.write-lossy.ensures.0 c.before.before.write-lossy.ensures.1
 
 pub lossy-steps-spec : {M : Type 1} → statement M
 lossy-steps-spec = tie.close (tie.spec (λ c κs. search rules) returns write-lossy-requires (λ c. search rules) returns-2)

@@ -23,40 +23,40 @@ three (a ∷ b ∷ c ∷ out) h = refl
 char_is : (c : tie.After-x) → c.before.before.before.before.args.x ≡ v.Char c.x.given.0.0
 char_is c = c.x.given.1
 
-char-there : (c : tie.After-x) → c.x.given.0.0 ≤ length c.before.before.before.before.args.s.now
-char-there c = rw (char_is c) at c.before.before.before.before.requires.0
+char_there : (c : tie.After-x) → c.x.given.0.0 ≤ length c.before.before.before.before.args.s.now
+char_there c = rw (char_is c) at c.before.before.before.before.requires.0
 
-char-room : (c : tie.After-x) → c.x.given.0.0 ≤ length c.before.before.before.before.args.out.now
-char-room c = rw (char_is c) at c.before.before.before.before.requires.1
+char_room : (c : tie.After-x) → c.x.given.0.0 ≤ length c.before.before.before.before.args.out.now
+char_room c = rw (char_is c) at c.before.before.before.before.requires.1
 
-mark-is : (c : tie.After-enum-told2) → c.before.before.before.before.args.x ≡ v.Mark c.enum-told2.given.0.0
-mark-is c = c.enum-told2.given.1
+mark_is : (c : tie.After-enum-told2) → c.before.before.before.before.args.x ≡ v.Mark c.enum-told2.given.0.0
+mark_is c = c.enum-told2.given.1
 
-mark-room : (c : tie.After-enum-told2) → 3 ≤ length c.before.before.before.before.args.out.now
-mark-room c = rw (mark-is c) at c.before.before.before.before.requires.1
+mark_room : (c : tie.After-enum-told2) → 3 ≤ length c.before.before.before.before.args.out.now
+mark_room c = rw (mark_is c) at c.before.before.before.before.requires.1
 
 slice-aggregate-copy : tie.Need-slice-aggregate-copy
-slice-aggregate-copy c = sym (length-take-le _ _ (char-there c.before.before))
+slice-aggregate-copy c = sym (length-take-le _ _ (char_there c.before.before))
 
 copy-requires : tie.Need-copy-requires
-copy-requires c κs = let h = char-room c.before.before.before in
-    omega (arith, length-take-le c.before.before.before.x.given.0.0 c.before.before.before.before.before.before.before.args.s.now (char-there c.before.before.before))
+copy-requires c κs = let h = char_room c.before.before.before in
+    omega (arith, length-take-le c.before.before.before.x.given.0.0 c.before.before.before.before.before.before.before.args.s.now (char_there c.before.before.before))
 
 slice-write-out : tie.Need-slice-write-out
-slice-write-out c = omega (arith, mark-room c)
+slice-write-out c = omega (arith, mark_room c)
 
 slice-write-out-2 : tie.Need-slice-write-out-2
-slice-write-out-2 c = simp length-set (omega (arith, mark-room c))
+slice-write-out-2 c = simp length-set (omega (arith, mark_room c))
 
 slice-write-out-3 : tie.Need-slice-write-out-3
-slice-write-out-3 c = simp (length-set, length-set) (omega (arith, mark-room c))
+slice-write-out-3 c = simp (length-set, length-set) (omega (arith, mark_room c))
 
 returns-2 : tie.Need-returns-2
 returns-2 c = let e = c.before.before.before.before.before.before in
     rw (char_is e) c.before.before.copy.ensures
 
 returns-3 : tie.Need-returns-3
-returns-3 c = rw (mark-is c) (three c.before.before.before.before.args.out.now (mark-room c))
+returns-3 c = rw (mark_is c) (three c.before.before.before.before.args.out.now (mark_room c))
 
 pub put_spec : {M : Type 1} → statement M
 put_spec =

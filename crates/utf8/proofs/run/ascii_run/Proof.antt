@@ -4,29 +4,29 @@ use Prim.Native.Nat.{◌-◌}
 use native.Mathlib.Omega.{arith}
 use lib.ListN.{length}
 use Rattle.utf8.specs.Inner.{AsciiTo}
-use Rattle.utf8.proofs.Ascii.{ascii-to-one}
+use Rattle.utf8.proofs.Ascii.{ascii_to_one}
 use Rattle.utf8.proofs.run.ascii_run.Statement.{statement}
 use Rattle.utf8.proofs.run.ascii_run.Tie as tie
 
-abbrev invariant-loop : tie.invariant-loop
-invariant-loop s n at₀ at = AsciiTo s at
+abbrev invariant_loop : tie.invariant-loop
+invariant_loop s n at₀ at = AsciiTo s at
 
-abbrev decreases-loop : tie.decreases-loop
-decreases-loop s n at₀ at = length s - at
+abbrev decreases_loop : tie.decreases-loop
+decreases_loop s n at₀ at = length s - at
 
-loop-holds : tie.Need-loop-init invariant-loop decreases-loop
+loop-holds : tie.Need-loop-init invariant_loop decreases_loop
 loop-holds c = c.requires
 
-returns : tie.Need-returns invariant-loop decreases-loop
+returns : tie.Need-returns invariant_loop decreases_loop
 returns c = c.before.before.before.loop.invariant
 
-loop-again : tie.Need-loop-preserved invariant-loop decreases-loop
+loop-again : tie.Need-loop-preserved invariant_loop decreases_loop
 loop-again c = let k = c.before.before.before in
-    ascii-to-one k.before.args.s.now k.loop.at k.loop.invariant c.before.before.loop-test.true c.if1.false
+    ascii_to_one k.before.args.s.now k.loop.at k.loop.invariant c.before.before.loop-test.true c.if1.false
 
-returns-2 : tie.Need-returns-2 invariant-loop decreases-loop
+returns-2 : tie.Need-returns-2 invariant_loop decreases_loop
 returns-2 c = c.before.loop.invariant
 
 pub ascii-run-spec : {M : Type 1} → statement M
 ascii-run-spec =
-    tie.close (tie.spec invariant-loop decreases-loop loop-holds (λ c. omega arith) returns (λ c. omega arith) (λ c. omega arith) loop-again returns-2)
+    tie.close (tie.spec invariant_loop decreases_loop loop-holds (λ c. omega arith) returns (λ c. omega arith) (λ c. omega arith) loop-again returns-2)

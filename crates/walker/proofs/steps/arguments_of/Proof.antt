@@ -4,16 +4,16 @@ use borrow.Author.Rules.{rules}
 use borrow.Author.Tests.{lt-ltb, le-ltb}
 use Prim.Native.Nat.{◌+◌, ◌^◌}
 use native.Mathlib.Omega.{arith}
-use Rattle.walker.specs.Walk.{argumentsPlace}
+use Rattle.walker.specs.Walk.{arguments_place}
 use Rattle.walker.proofs.steps.arguments_of.Statement.{statement}
 use Rattle.walker.proofs.steps.arguments_of.Tie as tie
 
 returns : tie.Need-returns
-unfolding argumentsPlace
+unfolding arguments_place
 returns c = let m = c.before.args.message in rw (le-ltb (m.start + m.len + 1) (2 ^ 64) (omega (arith, c.if1.true)))
 
 returns-2 : tie.Need-returns-2
-unfolding argumentsPlace
+unfolding arguments_place
 returns-2 c = let m = c.before.args.message in rw (lt-ltb (m.start + m.len + 1) (2 ^ 64) (omega (arith, c.if1.false)))
 
 pub arguments-of-spec : {M : Type 1} → statement M

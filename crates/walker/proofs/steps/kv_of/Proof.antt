@@ -5,7 +5,7 @@ use mathlib.Core.Path.{ap, ◌∙◌}
 use mathlib.Core.Bool.{true}
 use Prim.Native.Nat.{ℕ}
 use Rattle.walker.specs.declared.Place.{Place}
-use Rattle.walker.specs.Walk.{kvOf, behindNumber}
+use Rattle.walker.specs.Walk.{kv_of, behind_number}
 use Rattle.walker.proofs.steps.kv_of.Statement.{statement}
 use Rattle.walker.proofs.steps.kv_of.Tie as tie
 
@@ -13,8 +13,8 @@ abbrev kv : ℕ → Place
 kv at = record { at = at; left = 0; kv = true }
 
 returns : tie.Need-returns
-unfolding kvOf
-returns c = let s = c.before.before.before.args.frame.now in ap kv (c.behind-number2.ensures ∙ ap (behindNumber s) c.before.behind-number.ensures)
+unfolding kv_of
+returns c = let s = c.before.before.before.args.frame.now in ap kv (c.behind-number2.ensures ∙ ap (behind_number s) c.before.behind-number.ensures)
 
 pub kv-of-spec : {M : Type 1} → statement M
 kv-of-spec = tie.close (tie.spec (λ c κs. search rules) (λ c κs. search rules) returns)

@@ -4,13 +4,13 @@ use borrow.Author.Rules.{rules}
 use mathlib.Core.List.{List}
 use Prim.Native.Nat.{ℕ}
 use native.Mathlib.Omega.{arith}
-use Rattle.writer.specs.Frame.{actionsBytes}
-use Rattle.writer.proofs.Begun.{Begun, begun-refused, begun-done, begun-start, begun-room, begun-most, begun-whole}
+use Rattle.writer.specs.Frame.{actions_bytes}
+use Rattle.writer.proofs.Begun.{Begun, begun_refused, begun_done, begun_start, begun_room, begun_most, begun_whole}
 use Rattle.writer.proofs.action.action_frame.Statement.{statement}
 use Rattle.writer.proofs.action.action_frame.Tie as tie
 
 abbrev payload : tie.Start → List ℕ
-payload s = actionsBytes s.args.buffer.now s.args.actions.now s.args.count
+payload s = actions_bytes s.args.buffer.now s.args.actions.now s.args.count
 
 begin-frame-requires : tie.Need-begin-frame-requires
 begin-frame-requires c κs = search rules
@@ -22,28 +22,28 @@ begun : (c : tie.After-begun) → let s = c.before.before.before.before.before.b
 begun c =
     let s = c.before.before.before.before.before.before.before.before.before in
     let a = s.args in
-    begun-done a.limit a.head (payload s) a.len s.requires.1.1 c.before.before.before.before.begin-frame.ensures _ c.begun.given.1
+    begun_done a.limit a.head (payload s) a.len s.requires.1.1 c.before.before.before.before.begin-frame.ensures _ c.begun.given.1
 
 sub-put-actions : tie.Need-overflow-sub-put-actions
-sub-put-actions c = begun-start (begun c.before)
+sub-put-actions c = begun_start (begun c.before)
 
 part-put-actions-start : tie.Need-slice-bounds-put-actions-start
-part-put-actions-start c = begun-start (begun c.before)
+part-put-actions-start c = begun_start (begun c.before)
 
 part-put-actions-end : tie.Need-slice-bounds-put-actions-end
 part-put-actions-end c = search rules
 
 put-actions-requires : tie.Need-put-actions-requires
-put-actions-requires c κs = let s = c.before.before.before.before.before.before.before.before.before.before.before in (s.requires.0, (s.requires.1.0, begun-room (begun c.before.before)))
+put-actions-requires c κs = let s = c.before.before.before.before.before.before.before.before.before.before.before in (s.requires.0, (s.requires.1.0, begun_room (begun c.before.before)))
 
 add-t15 : tie.Need-overflow-add-t15
-add-t15 c = omega (arith, begun-most (begun c.before.before.before.before.before), c.before.before.before.before.before.before.before.before.before.before.before.before.before.before.well-formed)
+add-t15 c = omega (arith, begun_most (begun c.before.before.before.before.before), c.before.before.before.before.before.before.before.before.before.before.before.before.before.before.well-formed)
 
 same_length : tie.Need-same-length
 same_length c = search rules
 
 returns : tie.Need-returns
-returns c = begun-whole (begun c.before.before.before.before.before) _ c.before.before.put-actions.ensures.1
+returns c = begun_whole (begun c.before.before.before.before.before) _ c.before.before.put-actions.ensures.1
 
 enum-known-begun-2 : tie.Need-enum-known-begun-2
 enum-known-begun-2 c = search rules
@@ -55,7 +55,7 @@ returns-2 : tie.Need-returns-2
 returns-2 c =
     let s = c.before.before.before.before.before.before.before.before.before.before in
     let a = s.args in
-    begun-refused a.limit a.head (payload s) a.len s.requires.1.1 c.before.before.before.before.before.begin-frame.ensures _ c.before.begun2.given.1
+    begun_refused a.limit a.head (payload s) a.len s.requires.1.1 c.before.before.before.before.before.begin-frame.ensures _ c.before.begun2.given.1
 
 pub action-frame-spec : {M : Type 1} → statement M
 action-frame-spec =

@@ -9,15 +9,15 @@ use native.Mathlib.Omega.{arith}
 use lib.ListN.{length}
 use borrow.Author.Tests.{not-true, not-false}
 use Rattle.answer.specs.Answer.{Answer}
-use Rattle.answer.proofs.Output.{writes-refusal}
-use Rattle.answer.proofs.Order.{each-pass}
+use Rattle.answer.proofs.Output.{writes_refusal}
+use Rattle.answer.proofs.Order.{each_pass}
 use Rattle.frame.specs.declared.Head.{Head}
-use Rattle.frame.specs.Records.{actionWidth}
-use Rattle.writer.specs.Inner.{actionOrder}
-use Rattle.writer.specs.Frame.{headOf, finAlone, limited, actionsBytes, actionsAnswer}
-use Rattle.answer.specs.Order.{Check, eachInOrder}
+use Rattle.frame.specs.Records.{action_width}
+use Rattle.writer.specs.Inner.{action_order}
+use Rattle.writer.specs.Frame.{head_of, fin_alone, limited, actions_bytes, actions_answer}
+use Rattle.answer.specs.Order.{Check, each_in_order}
 use Rattle.answer.specs.Inner.{Sound}
-use Rattle.writer.proofs.Answers.{listAnswer, actions-list, list-metadata, list_count, list_held}
+use Rattle.writer.proofs.Answers.{list_answer, actions_list, list_metadata, list_count, list_held}
 use Rattle.writer.proofs.action.write_actions.Statement.{statement}
 use Rattle.writer.proofs.action.write_actions.Tie as tie
 
@@ -25,19 +25,19 @@ abbrev start : tie.After-fin-alone → tie.Start
 start c = c.before.before.before.before
 
 abbrev head : tie.Start → Head
-head s = let a = s.args in headOf 103 a.fin a.abort a.stream-id a.frame-id
+head s = let a = s.args in head_of 103 a.fin a.abort a.stream-id a.frame-id
 
 abbrev checks : tie.Start → ℕ → List Check
-checks s = actionOrder s.args.buffer.now s.args.actions.now
+checks s = action_order s.args.buffer.now s.args.actions.now
 
 abbrev frame : tie.Start → Answer (List ℕ)
-frame s = let a = s.args in limited a.limit (head s) (actionsBytes a.buffer.now a.actions.now a.action-count)
+frame s = let a = s.args in limited a.limit (head s) (actions_bytes a.buffer.now a.actions.now a.action-count)
 
 -- the whole answer is that of a list
-is-list : (s : tie.Start)
+is_list : (s : tie.Start)
     → let a = s.args in
-    actionsAnswer (head s) a.limit a.buffer.now a.actions.now a.action-count ≡ listAnswer (finAlone (head s)) actionWidth a.actions.now a.action-count (checks s) (frame s)
-is-list s = let a = s.args in actions-list (head s) a.limit a.buffer.now a.actions.now a.action-count
+    actions_answer (head s) a.limit a.buffer.now a.actions.now a.action-count ≡ list_answer (fin_alone (head s)) action_width a.actions.now a.action-count (checks s) (frame s)
+is_list s = let a = s.args in actions_list (head s) a.limit a.buffer.now a.actions.now a.action-count
 
 fin-alone-requires : tie.Need-fin-alone-requires
 fin-alone-requires c κs = search rules
@@ -46,31 +46,31 @@ returns : tie.Need-returns
 returns c =
     let s = start c.before in
     let a = s.args in
-    writes-refusal 14 0 a.out.now
-    (is-list s
-    ∙ list-metadata (finAlone (head s)) actionWidth a.actions.now a.action-count (checks s) (frame s) (sym c.before.fin-alone.ensures ∙ not-true c.before.fin-alone.result c.if1.true))
+    writes_refusal 14 0 a.out.now
+    (is_list s
+    ∙ list_metadata (fin_alone (head s)) action_width a.actions.now a.action-count (checks s) (frame s) (sym c.before.fin-alone.ensures ∙ not-true c.before.fin-alone.result c.if1.true))
 
-allowed : (c : tie.Else1) → finAlone (head (start c.before)) ≡ true
+allowed : (c : tie.Else1) → fin_alone (head (start c.before)) ≡ true
 allowed c = sym c.before.fin-alone.ensures ∙ not-false c.before.fin-alone.result c.if1.false
 
 returns-2 : tie.Need-returns-2
 returns-2 c =
     let s = start c.before.before in
     let a = s.args in
-    writes-refusal 16 0 a.out.now
-    (is-list s ∙ list_count (finAlone (head s)) actionWidth a.actions.now a.action-count (checks s) (frame s) (allowed c.before) (omega (arith, c.if2.true)))
+    writes_refusal 16 0 a.out.now
+    (is_list s ∙ list_count (fin_alone (head s)) action_width a.actions.now a.action-count (checks s) (frame s) (allowed c.before) (omega (arith, c.if2.true)))
 
 -- past the second test the records lie in the table
-held : (c : tie.Else2) → let a = (start c.before.before).args in a.action-count * actionWidth ≤ length a.actions.now
+held : (c : tie.Else2) → let a = (start c.before.before).args in a.action-count * action_width ≤ length a.actions.now
 held c = omega (arith, c.if2.false)
 
 is_held : (c : tie.Else2)
     → let s = start c.before.before in
     let a = s.args in
-    actionsAnswer (head s) a.limit a.buffer.now a.actions.now a.action-count ≡ eachInOrder (checks s) 0 a.action-count (frame s)
+    actions_answer (head s) a.limit a.buffer.now a.actions.now a.action-count ≡ each_in_order (checks s) 0 a.action-count (frame s)
 is_held c =
     let s = start c.before.before in
-    is-list s ∙ list_held (finAlone (head s)) actionWidth s.args.actions.now s.args.action-count (checks s) (frame s) (allowed c.before) (held c)
+    is_list s ∙ list_held (fin_alone (head s)) action_width s.args.actions.now s.args.action-count (checks s) (frame s) (allowed c.before) (held c)
 
 check-actions-requires : tie.Need-check-actions-requires
 check-actions-requires c κs = held c
@@ -82,7 +82,7 @@ returns-3 c =
     let s = start e.before.before in
     let a = s.args in
     let r = k.check-actions.result.refusal in
-    writes-refusal r.number r.place a.out.now
+    writes_refusal r.number r.place a.out.now
     (is_held e ∙ k.check-actions.ensures.refuses c.if3.true (frame s))
 
 -- none is refused
@@ -109,7 +109,7 @@ returns-4 c =
     let f = h.before in
     let e = f.before.before.before.before in
     let s = start e.before.before in
-    rw (is_held e ∙ each-pass (checks s) (frame s) s.args.action-count (none f)) (rw h.head_of.ensures at w.action-frame.ensures)
+    rw (is_held e ∙ each_pass (checks s) (frame s) s.args.action-count (none f)) (rw h.head_of.ensures at w.action-frame.ensures)
 
 pub write-actions-spec : {M : Type 1} → statement M
 write-actions-spec =

@@ -4,13 +4,13 @@ use borrow.Author.Rules.{rules}
 use mathlib.Core.List.{List}
 use Prim.Native.Nat.{ℕ}
 use native.Mathlib.Omega.{arith}
-use Rattle.writer.specs.Frame.{pairsBytes}
-use Rattle.writer.proofs.Begun.{Begun, begun-refused, begun-done, begun-start, begun-room, begun-most, begun-whole}
+use Rattle.writer.specs.Frame.{pairs_bytes}
+use Rattle.writer.proofs.Begun.{Begun, begun_refused, begun_done, begun_start, begun_room, begun_most, begun_whole}
 use Rattle.writer.proofs.kv.kv_frame.Statement.{statement}
 use Rattle.writer.proofs.kv.kv_frame.Tie as tie
 
 abbrev payload : tie.Start → List ℕ
-payload s = pairsBytes s.args.buffer.now s.args.pairs.now s.args.count
+payload s = pairs_bytes s.args.buffer.now s.args.pairs.now s.args.count
 
 begin-frame-requires : tie.Need-begin-frame-requires
 begin-frame-requires c κs = search rules
@@ -22,28 +22,28 @@ begun : (c : tie.After-begun) → let s = c.before.before.before.before.before.b
 begun c =
     let s = c.before.before.before.before.before.before.before.before.before in
     let a = s.args in
-    begun-done a.limit a.head (payload s) a.len s.requires.1 c.before.before.before.before.begin-frame.ensures _ c.begun.given.1
+    begun_done a.limit a.head (payload s) a.len s.requires.1 c.before.before.before.before.begin-frame.ensures _ c.begun.given.1
 
 sub-put-pairs : tie.Need-overflow-sub-put-pairs
-sub-put-pairs c = begun-start (begun c.before)
+sub-put-pairs c = begun_start (begun c.before)
 
 part-put-pairs-start : tie.Need-slice-bounds-put-pairs-start
-part-put-pairs-start c = begun-start (begun c.before)
+part-put-pairs-start c = begun_start (begun c.before)
 
 part-put-pairs-end : tie.Need-slice-bounds-put-pairs-end
 part-put-pairs-end c = search rules
 
 put-pairs-requires : tie.Need-put-pairs-requires
-put-pairs-requires c κs = let s = c.before.before.before.before.before.before.before.before.before.before.before in (s.requires.0, begun-room (begun c.before.before))
+put-pairs-requires c κs = let s = c.before.before.before.before.before.before.before.before.before.before.before in (s.requires.0, begun_room (begun c.before.before))
 
 add-t15 : tie.Need-overflow-add-t15
-add-t15 c = omega (arith, begun-most (begun c.before.before.before.before.before), c.before.before.before.before.before.before.before.before.before.before.before.before.before.before.well-formed)
+add-t15 c = omega (arith, begun_most (begun c.before.before.before.before.before), c.before.before.before.before.before.before.before.before.before.before.before.before.before.before.well-formed)
 
 same_length : tie.Need-same-length
 same_length c = search rules
 
 returns : tie.Need-returns
-returns c = begun-whole (begun c.before.before.before.before.before) _ c.before.before.put-pairs.ensures.1
+returns c = begun_whole (begun c.before.before.before.before.before) _ c.before.before.put-pairs.ensures.1
 
 enum-known-begun-2 : tie.Need-enum-known-begun-2
 enum-known-begun-2 c = search rules
@@ -55,7 +55,7 @@ returns-2 : tie.Need-returns-2
 returns-2 c =
     let s = c.before.before.before.before.before.before.before.before.before.before in
     let a = s.args in
-    begun-refused a.limit a.head (payload s) a.len s.requires.1 c.before.before.before.before.before.begin-frame.ensures _ c.before.begun2.given.1
+    begun_refused a.limit a.head (payload s) a.len s.requires.1 c.before.before.before.before.before.begin-frame.ensures _ c.before.begun2.given.1
 
 pub kv-frame-spec : {M : Type 1} → statement M
 kv-frame-spec =

@@ -3,8 +3,8 @@
 use borrow.Author.Rules.{rules}
 use mathlib.Core.Path.{ap₂, ◌∙◌}
 use native.Mathlib.Omega.{arith}
-use Rattle.utf8.specs.Text.{sameText}
-use Rattle.types.proofs.Writing.{part-lent}
+use Rattle.utf8.specs.Text.{same_text}
+use Rattle.types.proofs.Writing.{part_lent}
 use Rattle.writer.proofs.kv.same_key.Statement.{statement}
 use Rattle.writer.proofs.kv.same_key.Tie as tie
 
@@ -38,7 +38,7 @@ same-text-requires c κs = search rules
 returns : tie.Need-returns
 returns c = let a = c.before.before.before.before.args in
     c.same_text.ensures
-    ∙ ap₂ sameText (part-lent a.buffer.now a.p.start a.p.len) (part-lent a.buffer.now a.q.start a.q.len)
+    ∙ ap₂ same_text (part_lent a.buffer.now a.p.start a.p.len) (part_lent a.buffer.now a.q.start a.q.len)
 
 pub same-key-spec : {M : Type 1} → statement M
 same-key-spec =

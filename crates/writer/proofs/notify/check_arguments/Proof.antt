@@ -5,89 +5,89 @@ use mathlib.Core.Path.{◌≡◌, sym, ◌∙◌}
 use Prim.Native.Nat.{◌-◌, ◌≤◌}
 use native.Mathlib.Omega.{arith}
 use lib.ListN.{length}
-use Rattle.answer.proofs.Order.{passes-zero, lines-refuse}
+use Rattle.answer.proofs.Order.{passes_zero, lines_refuse}
 use Rattle.frame.specs.Records.{pair_at}
-use Rattle.writer.specs.Pair.{pairBytes}
-use Rattle.writer.specs.Inner.{capped, pairOrder, Measures}
-use Rattle.writer.proofs.Capped.{capped-most}
-use Rattle.writer.proofs.Checking.{Checking, checking-none, checking-small, checking-on, checking-here, checking-all}
+use Rattle.writer.specs.Pair.{pair_bytes}
+use Rattle.writer.specs.Inner.{capped, pair_order, Measures}
+use Rattle.writer.proofs.Capped.{capped_most}
+use Rattle.writer.proofs.Checking.{Checking, checking_none, checking_small, checking_on, checking_here, checking_all}
 use Rattle.writer.proofs.notify.check_arguments.Statement.{statement}
 use Rattle.writer.proofs.notify.check_arguments.Tie as tie
 
-abbrev invariant-loop : tie.invariant-loop
-invariant-loop pairs count buffer most len₀ i₀ len i =
-    (i ≤ count) × Checking (pairOrder buffer pairs) (pairBytes buffer) (pair_at pairs) most len i
+abbrev invariant_loop : tie.invariant-loop
+invariant_loop pairs count buffer most len₀ i₀ len i =
+    (i ≤ count) × Checking (pair_order buffer pairs) (pair_bytes buffer) (pair_at pairs) most len i
 
-abbrev decreases-loop : tie.decreases-loop
-decreases-loop pairs count buffer most len₀ i₀ len i = count - i
+abbrev decreases_loop : tie.decreases-loop
+decreases_loop pairs count buffer most len₀ i₀ len i = count - i
 
-abbrev start : tie.In-loop invariant-loop decreases-loop → tie.Start invariant-loop decreases-loop
+abbrev start : tie.In-loop invariant_loop decreases_loop → tie.Start invariant_loop decreases_loop
 start t = t.before.before.before.before
 
-loop-holds : tie.Need-loop-init invariant-loop decreases-loop
-loop-holds c = (omega arith, checking-none _ _ _ _)
+loop-holds : tie.Need-loop-init invariant_loop decreases_loop
+loop-holds c = (omega arith, checking_none _ _ _ _)
 
-pair-at-requires : tie.Need-pair-at-requires invariant-loop decreases-loop
+pair-at-requires : tie.Need-pair-at-requires invariant_loop decreases_loop
 pair-at-requires c κs = search rules
 
-measure-pair-requires : tie.Need-measure-pair-requires invariant-loop decreases-loop
+measure-pair-requires : tie.Need-measure-pair-requires invariant_loop decreases_loop
 measure-pair-requires c κs = search rules
 
 -- what measuring pair i found
-own : (c : tie.After-measure-pair invariant-loop decreases-loop)
+own : (c : tie.After-measure-pair invariant_loop decreases_loop)
     → let t = c.before.before in
     let a = (start t).args in
     let i = t.before.loop.i in
-    Measures (pairOrder a.buffer.now a.pairs.now i) a.most (pairBytes a.buffer.now (pair_at a.pairs.now i)) c.measure-pair.result
+    Measures (pair_order a.buffer.now a.pairs.now i) a.most (pair_bytes a.buffer.now (pair_at a.pairs.now i)) c.measure-pair.result
 own c = rw c.before.pair-at.ensures at c.measure-pair.ensures
 
-returns : tie.Need-returns invariant-loop decreases-loop
+returns : tie.Need-returns invariant_loop decreases_loop
 returns c =
     let k = c.before in
     let t = k.before.before in
-    checking-here t.before.loop.invariant.1 _ _ t.loop-test.true (lines-refuse _ _ (own k).number c.if1.true) c.if1.true _
+    checking_here t.before.loop.invariant.1 _ _ t.loop-test.true (lines_refuse _ _ (own k).number c.if1.true) c.if1.true _
 
 -- and how long it is
-length-is : (c : tie.After-struct-known invariant-loop decreases-loop)
+length_is : (c : tie.After-struct-known invariant_loop decreases_loop)
     → let m = c.before.before in
     let t = m.before.before in
     let a = (start t).args in
-    m.measure-pair.result.len ≡ capped a.most (length (pairBytes a.buffer.now (pair_at a.pairs.now t.before.loop.i)))
-length-is c = let e = c.before in (own e.before).len e.if1.false
+    m.measure-pair.result.len ≡ capped a.most (length (pair_bytes a.buffer.now (pair_at a.pairs.now t.before.loop.i)))
+length_is c = let e = c.before in (own e.before).len e.if1.false
 
-add-cap : tie.Need-overflow-add-cap invariant-loop decreases-loop
+add-cap : tie.Need-overflow-add-cap invariant_loop decreases_loop
 add-cap c =
     let t = c.before.before.before.before in
     let a = (start t).args in
-    omega (arith, checking-small t.before.loop.invariant.1, length-is c, capped-most a.most (length (pairBytes a.buffer.now (pair_at a.pairs.now t.before.loop.i))), (start t).ranges)
+    omega (arith, checking_small t.before.loop.invariant.1, length_is c, capped_most a.most (length (pair_bytes a.buffer.now (pair_at a.pairs.now t.before.loop.i))), (start t).ranges)
 
-cap-requires : tie.Need-cap-requires invariant-loop decreases-loop
+cap-requires : tie.Need-cap-requires invariant_loop decreases_loop
 cap-requires c κs = search rules
 
-add-i : tie.Need-overflow-add-i invariant-loop decreases-loop
+add-i : tie.Need-overflow-add-i invariant_loop decreases_loop
 add-i c = let t = c.before.before.before.before.before in omega (arith, t.loop-test.true, (start t).ranges)
 
-loop-less : tie.Need-loop-smaller invariant-loop decreases-loop
+loop-less : tie.Need-loop-smaller invariant_loop decreases_loop
 loop-less c = omega (arith, c.before.before.before.before.before.loop-test.true)
 
-loop-again : tie.Need-loop-preserved invariant-loop decreases-loop
+loop-again : tie.Need-loop-preserved invariant_loop decreases_loop
 loop-again c =
     let l = c.before in
     let e = l.before in
     let t = e.before.before.before in (
       omega (arith, t.loop-test.true),
-      checking-on t.before.loop.invariant.1 (passes-zero _ tt (sym (own e.before).number ∙ e.if1.false)) e.before.measure-pair.result.len c.cap.result (length-is l) c.cap.ensures,
+      checking_on t.before.loop.invariant.1 (passes_zero _ tt (sym (own e.before).number ∙ e.if1.false)) e.before.measure-pair.result.len c.cap.result (length_is l) c.cap.ensures,
     )
 
-returns-2 : tie.Need-returns-2 invariant-loop decreases-loop
-returns-2 c = let l = c.before.loop in checking-all l.invariant.1 _ (omega (arith, l.invariant.0, c.loop-test.false))
+returns-2 : tie.Need-returns-2 invariant_loop decreases_loop
+returns-2 c = let l = c.before.loop in checking_all l.invariant.1 _ (omega (arith, l.invariant.0, c.loop-test.false))
 
 pub check-arguments-spec : {M : Type 1} → statement M
 check-arguments-spec =
     tie.close
     (tie.spec
-    invariant-loop
-    decreases-loop
+    invariant_loop
+    decreases_loop
     loop-holds
     pair-at-requires
     measure-pair-requires

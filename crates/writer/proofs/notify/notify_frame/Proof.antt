@@ -4,13 +4,13 @@ use borrow.Author.Rules.{rules}
 use mathlib.Core.List.{List}
 use Prim.Native.Nat.{ℕ}
 use native.Mathlib.Omega.{arith}
-use Rattle.writer.specs.Frame.{messagesBytes}
-use Rattle.writer.proofs.Begun.{Begun, begun-refused, begun-done, begun-start, begun-room, begun-most, begun-whole}
+use Rattle.writer.specs.Frame.{messages_bytes}
+use Rattle.writer.proofs.Begun.{Begun, begun_refused, begun_done, begun_start, begun_room, begun_most, begun_whole}
 use Rattle.writer.proofs.notify.notify_frame.Statement.{statement}
 use Rattle.writer.proofs.notify.notify_frame.Tie as tie
 
 abbrev payload : tie.Start → List ℕ
-payload s = messagesBytes s.args.buffer.now s.args.messages.now s.args.count s.args.pairs.now
+payload s = messages_bytes s.args.buffer.now s.args.messages.now s.args.count s.args.pairs.now
 
 begin-frame-requires : tie.Need-begin-frame-requires
 begin-frame-requires c κs = search rules
@@ -22,28 +22,28 @@ begun : (c : tie.After-begun) → let s = c.before.before.before.before.before.b
 begun c =
     let s = c.before.before.before.before.before.before.before.before.before.before in
     let a = s.args in
-    begun-done a.limit a.head (payload s) a.len s.requires.1.1 c.before.before.before.before.begin-frame.ensures _ c.begun.given.1
+    begun_done a.limit a.head (payload s) a.len s.requires.1.1 c.before.before.before.before.begin-frame.ensures _ c.begun.given.1
 
 sub-put-messages : tie.Need-overflow-sub-put-messages
-sub-put-messages c = begun-start (begun c.before)
+sub-put-messages c = begun_start (begun c.before)
 
 part-put-messages-start : tie.Need-slice-bounds-put-messages-start
-part-put-messages-start c = begun-start (begun c.before)
+part-put-messages-start c = begun_start (begun c.before)
 
 part-put-messages-end : tie.Need-slice-bounds-put-messages-end
 part-put-messages-end c = search rules
 
 put-messages-requires : tie.Need-put-messages-requires
-put-messages-requires c κs = let s = c.before.before.before.before.before.before.before.before.before.before.before.before in (s.requires.0, (s.requires.1.0, begun-room (begun c.before.before)))
+put-messages-requires c κs = let s = c.before.before.before.before.before.before.before.before.before.before.before.before in (s.requires.0, (s.requires.1.0, begun_room (begun c.before.before)))
 
 add-t16 : tie.Need-overflow-add-t16
-add-t16 c = omega (arith, begun-most (begun c.before.before.before.before.before), c.before.before.before.before.before.before.before.before.before.before.before.before.before.before.before.well-formed)
+add-t16 c = omega (arith, begun_most (begun c.before.before.before.before.before), c.before.before.before.before.before.before.before.before.before.before.before.before.before.before.before.well-formed)
 
 same_length : tie.Need-same-length
 same_length c = search rules
 
 returns : tie.Need-returns
-returns c = begun-whole (begun c.before.before.before.before.before) _ c.before.before.put-messages.ensures.1
+returns c = begun_whole (begun c.before.before.before.before.before) _ c.before.before.put-messages.ensures.1
 
 enum-known-begun-2 : tie.Need-enum-known-begun-2
 enum-known-begun-2 c = search rules
@@ -55,7 +55,7 @@ returns-2 : tie.Need-returns-2
 returns-2 c =
     let s = c.before.before.before.before.before.before.before.before.before.before.before in
     let a = s.args in
-    begun-refused a.limit a.head (payload s) a.len s.requires.1.1 c.before.before.before.before.before.begin-frame.ensures _ c.before.begun2.given.1
+    begun_refused a.limit a.head (payload s) a.len s.requires.1.1 c.before.before.before.before.before.begin-frame.ensures _ c.before.begun2.given.1
 
 pub notify-frame-spec : {M : Type 1} → statement M
 notify-frame-spec =

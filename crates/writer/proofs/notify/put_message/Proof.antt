@@ -5,29 +5,29 @@ use mathlib.Core.List.{List, ◌++◌}
 use Prim.Native.Nat.{ℕ, ◌+◌, ◌≤◌}
 use native.Mathlib.Omega.{arith}
 use lib.ListN.{length, length-append}
-use Rattle.answer.proofs.Parts.{both-start, both-room, both-count, both-leaves}
+use Rattle.answer.proofs.Parts.{both_start, both_room, both_count, both_leaves}
 use Rattle.answer.specs.Table.{records, joined}
-use Rattle.writer.specs.Pair.{pairBytes}
-use Rattle.writer.specs.Message.{nameBytes}
+use Rattle.writer.specs.Pair.{pair_bytes}
+use Rattle.writer.specs.Message.{name_bytes}
 use Rattle.frame.specs.Records.{pair_at}
-use Rattle.writer.proofs.Messages.{message-bytes}
+use Rattle.writer.proofs.Messages.{message_bytes_lem}
 use Rattle.writer.proofs.notify.put_message.Statement.{statement}
 use Rattle.writer.proofs.notify.put_message.Tie as tie
 
 abbrev name : tie.Start → List ℕ
-name s = nameBytes s.args.buffer.now s.args.message
+name s = name_bytes s.args.buffer.now s.args.message
 
 abbrev run : tie.Start → List ℕ
-run s = let a = s.args in joined (pairBytes a.buffer.now) (records (pair_at a.pairs.now) a.message.first a.message.count)
+run s = let a = s.args in joined (pair_bytes a.buffer.now) (records (pair_at a.pairs.now) a.message.first a.message.count)
 
 room : (s : tie.Start) → length (name s ++ run s) ≤ length s.args.out.now
-room s = rw (message-bytes s.args.buffer.now s.args.pairs.now s.args.message) at s.requires.1
+room s = rw (message_bytes_lem s.args.buffer.now s.args.pairs.now s.args.message) at s.requires.1
 
 put-name-requires : tie.Need-put-name-requires
 put-name-requires c κs = let s = c.before.before.before.before in (s.requires.0.name, (s.requires.0.few, omega (arith, room s, length-append (name s) (run s))))
 
 sub-put-pairs : tie.Need-overflow-sub-put-pairs
-sub-put-pairs c = let s = c.before.before.before.before.before.before.before in both-start (name s) (run s) s.args.out.now _ _ c.before.before.put-name.ensures.0 c.before.before.put-name.ensures.1 (room s)
+sub-put-pairs c = let s = c.before.before.before.before.before.before.before in both_start (name s) (run s) s.args.out.now _ _ c.before.before.put-name.ensures.0 c.before.before.put-name.ensures.1 (room s)
 
 part-put-pairs-start : tie.Need-slice-bounds-put-pairs-start
 part-put-pairs-start c = sub-put-pairs c
@@ -39,13 +39,13 @@ put-pairs-requires : tie.Need-put-pairs-requires
 put-pairs-requires c κs =
     let s = c.before.before.before.before.before.before.before.before in
     let n = c.before.before.before.put-name.ensures in
-    (s.requires.0.run, both-room (name s) (run s) s.args.out.now _ _ n.0 n.1 (room s))
+    (s.requires.0.run, both_room (name s) (run s) s.args.out.now _ _ n.0 n.1 (room s))
 
 add-result : tie.Need-overflow-add-result
 add-result c =
     let s = c.before.before.before.before.before.before.before.before.before.before.before in
     let n = c.before.before.before.before.before.before.put-name.ensures in
-    omega (arith, both-count (name s) (run s) s.args.out.now _ _ n.0 n.1 (room s) _ c.before.before.put-pairs.ensures.0, room s, s.well-formed)
+    omega (arith, both_count (name s) (run s) s.args.out.now _ _ n.0 n.1 (room s) _ c.before.before.put-pairs.ensures.0, room s, s.well-formed)
 
 same_length : tie.Need-same-length
 same_length c = search rules
@@ -55,8 +55,8 @@ returns c =
     let s = c.before.before.before.before.before.before.before.before.before.before.before in
     let n = c.before.before.before.before.before.before.put-name.ensures in
     let r = c.before.before.put-pairs.ensures in
-    rw (message-bytes s.args.buffer.now s.args.pairs.now s.args.message)
-    (both-count (name s) (run s) s.args.out.now _ _ n.0 n.1 (room s) _ r.0, both-leaves (name s) (run s) s.args.out.now _ _ n.0 n.1 (room s) _ r.1)
+    rw (message_bytes_lem s.args.buffer.now s.args.pairs.now s.args.message)
+    (both_count (name s) (run s) s.args.out.now _ _ n.0 n.1 (room s) _ r.0, both_leaves (name s) (run s) s.args.out.now _ _ n.0 n.1 (room s) _ r.1)
 
 pub put-message-spec : {M : Type 1} → statement M
 put-message-spec =

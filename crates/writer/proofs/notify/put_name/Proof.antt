@@ -5,22 +5,22 @@ use mathlib.Core.List.{List, [], ◌∷◌, ◌++◌}
 use Prim.Native.Nat.{ℕ, ◌+◌, ◌≤◌}
 use native.Mathlib.Omega.{arith}
 use lib.ListN.{length, length-append}
-use Rattle.answer.proofs.Output.{Partly, partly-next, partly-place, partly-count, partly-all}
+use Rattle.answer.proofs.Output.{Partly, partly_next, partly_place, partly_count, partly_all}
 use Rattle.answer.proofs.Parts.{one_left}
-use Rattle.types.specs.Form.{part, stringBytes}
-use Rattle.writer.proofs.Pairs.{string-count, string-leaves}
-use Rattle.writer.proofs.Messages.{name-bytes}
+use Rattle.types.specs.Form.{part, string_bytes}
+use Rattle.writer.proofs.Pairs.{string_count, string_leaves}
+use Rattle.writer.proofs.Messages.{name_bytes_lem}
 use Rattle.writer.proofs.notify.put_name.Statement.{statement}
 use Rattle.writer.proofs.notify.put_name.Tie as tie
 
 abbrev name : tie.Start → List ℕ
-name s = let a = s.args in stringBytes (part a.buffer.now a.message.start a.message.len)
+name s = let a = s.args in string_bytes (part a.buffer.now a.message.start a.message.len)
 
 room : (s : tie.Start) → length (name s ++ (s.args.message.count ∷ [])) ≤ length s.args.out.now
-room s = rw (name-bytes s.args.buffer.now s.args.message) at s.requires.1.1
+room s = rw (name_bytes_lem s.args.buffer.now s.args.message) at s.requires.1.1
 
-name-room : (s : tie.Start) → length (name s) ≤ length s.args.out.now
-name-room s = omega (arith, room s, length-append (name s) (s.args.message.count ∷ []))
+name_room : (s : tie.Start) → length (name s) ≤ length s.args.out.now
+name_room s = omega (arith, room s, length-append (name s) (s.args.message.count ∷ []))
 
 -- what the string writer did
 named : (c : tie.After-wrote)
@@ -31,8 +31,8 @@ named c =
     let s = w.before.before.before.before.before in
     let m = s.args.message in
     one_left (name s) m.count s.args.out.now _ _
-    (string-count s.args.buffer.now m.start m.len w.write-string.ensures c.wrote.ensures (name-room s))
-    (string-leaves s.args.buffer.now m.start m.len w.write-string.ensures c.wrote.ensures (name-room s)) (room s)
+    (string_count s.args.buffer.now m.start m.len w.write-string.ensures c.wrote.ensures (name_room s))
+    (string_leaves s.args.buffer.now m.start m.len w.write-string.ensures c.wrote.ensures (name_room s)) (room s)
 
 add-to : tie.Need-overflow-add-to
 add-to c = let s = c.before.before in omega (arith, s.requires.0, s.well-formed)
@@ -56,10 +56,10 @@ cast-out : tie.Need-overflow-cast-out
 cast-out c = omega (arith, c.before.before.before.before.before.before.before.before.before.requires.1.0)
 
 slice-write-out : tie.Need-slice-write-out
-slice-write-out c = partly-place (named c.before)
+slice-write-out c = partly_place (named c.before)
 
 add-result : tie.Need-overflow-add-result
-add-result c = let s = c.before.before.before.before.before.before.before.before.before in omega (arith, partly-place (named c.before), room s, s.well-formed, partly-count (partly-next (named c.before)))
+add-result c = let s = c.before.before.before.before.before.before.before.before.before in omega (arith, partly_place (named c.before), room s, s.well-formed, partly_count (partly_next (named c.before)))
 
 same_length : tie.Need-same-length
 same_length c = search rules
@@ -67,8 +67,8 @@ same_length c = search rules
 returns : tie.Need-returns
 returns c =
     let s = c.before.before.before.before.before.before.before.before.before in
-    let all = partly-next (named c.before) in
-    rw (name-bytes s.args.buffer.now s.args.message) (partly-count all, partly-all all)
+    let all = partly_next (named c.before) in
+    rw (name_bytes_lem s.args.buffer.now s.args.message) (partly_count all, partly_all all)
 
 pub put-name-spec : {M : Type 1} → statement M
 put-name-spec =

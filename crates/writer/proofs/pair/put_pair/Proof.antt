@@ -8,37 +8,37 @@ use native.Mathlib.Omega.{arith}
 use lib.ListN.{length, length-append}
 use borrow.Rule.Slice.PartMut.{put_mid}
 use Rattle.answer.specs.Answer.{written, leaves}
-use Rattle.answer.proofs.Parts.{both-start, both-room, both-count, both-leaves}
-use Rattle.types.specs.Form.{stringBytes, valueBytes}
-use Rattle.types.specs.Promise.{recordOf}
+use Rattle.answer.proofs.Parts.{both_start, both_room, both_count, both_leaves}
+use Rattle.types.specs.Form.{string_bytes, value_bytes}
+use Rattle.types.specs.Promise.{record_of}
 use Rattle.frame.specs.Records.{key_of}
-use Rattle.writer.proofs.Pairs.{pair-bytes, string-count, string-leaves, value-count, value-leaves}
+use Rattle.writer.proofs.Pairs.{pair_bytes_lem, string_count, string_leaves, value_count, value_leaves}
 use Rattle.writer.proofs.pair.put_pair.Statement.{statement}
 use Rattle.writer.proofs.pair.put_pair.Tie as tie
 
 abbrev key : tie.Start → List ℕ
-key s = stringBytes (key_of s.args.buffer.now s.args.pair)
+key s = string_bytes (key_of s.args.buffer.now s.args.pair)
 
 abbrev value : tie.Start → List ℕ
-value s = valueBytes s.args.buffer.now (recordOf s.args.pair.value)
+value s = value_bytes s.args.buffer.now (record_of s.args.pair.value)
 
 room : (s : tie.Start) → length (key s ++ value s) ≤ length s.args.out.now
-room s = rw (pair-bytes s.args.buffer.now s.args.pair) at s.requires.1
+room s = rw (pair_bytes_lem s.args.buffer.now s.args.pair) at s.requires.1
 
-key-room : (s : tie.Start) → length (key s) ≤ length s.args.out.now
-key-room s = omega (arith, room s, length-append (key s) (value s))
+key_room : (s : tie.Start) → length (key s) ≤ length s.args.out.now
+key_room s = omega (arith, room s, length-append (key s) (value s))
 
 -- what the key's writer did
 abbrev start : tie.After-wrote → tie.Start
 start k = k.before.before.before.before.before.before.before.before
 
-key-count : (k : tie.After-wrote) → k.wrote.result ≡ length (key (start k))
-key-count k = let s = start k in
-    string-count s.args.buffer.now s.args.pair.start s.args.pair.len k.before.before.before.write-string.ensures k.wrote.ensures (key-room s)
+key_count : (k : tie.After-wrote) → k.wrote.result ≡ length (key (start k))
+key_count k = let s = start k in
+    string_count s.args.buffer.now s.args.pair.start s.args.pair.len k.before.before.before.write-string.ensures k.wrote.ensures (key_room s)
 
-key-leaves : (k : tie.After-wrote) → k.before.before.before.write-string.new.1.0 ≡ leaves (written (key (start k))) (start k).args.out.now
-key-leaves k = let s = start k in
-    string-leaves s.args.buffer.now s.args.pair.start s.args.pair.len k.before.before.before.write-string.ensures k.wrote.ensures (key-room s)
+key_leaves : (k : tie.After-wrote) → k.before.before.before.write-string.new.1.0 ≡ leaves (written (key (start k))) (start k).args.out.now
+key_leaves k = let s = start k in
+    string_leaves s.args.buffer.now s.args.pair.start s.args.pair.len k.before.before.before.write-string.ensures k.wrote.ensures (key_room s)
 
 -- what both parts leave
 all : (c : tie.After-wrote2)
@@ -51,11 +51,11 @@ all c =
     let v = c.before.before.before in
     let k = v.before.before in
     let s = start k in
-    let fit = both-room (key s) (value s) s.args.out.now _ _ (key-count k) (key-leaves k) (room s) in (
-      both-count (key s) (value s) s.args.out.now _ _ (key-count k) (key-leaves k) (room s) _
-          (value-count s.args.buffer.now s.args.pair.value v.write-value.ensures c.wrote2.ensures s.pre.0.fields s.pre.0.range fit),
-      both-leaves (key s) (value s) s.args.out.now _ _ (key-count k) (key-leaves k) (room s) _
-          (value-leaves s.args.buffer.now s.args.pair.value v.write-value.ensures c.wrote2.ensures s.pre.0.fields s.pre.0.range fit),
+    let fit = both_room (key s) (value s) s.args.out.now _ _ (key_count k) (key_leaves k) (room s) in (
+      both_count (key s) (value s) s.args.out.now _ _ (key_count k) (key_leaves k) (room s) _
+          (value_count s.args.buffer.now s.args.pair.value v.write-value.ensures c.wrote2.ensures s.pre.0.fields s.pre.0.range fit),
+      both_leaves (key s) (value s) s.args.out.now _ _ (key_count k) (key_leaves k) (room s) _
+          (value_leaves s.args.buffer.now s.args.pair.value v.write-value.ensures c.wrote2.ensures s.pre.0.fields s.pre.0.range fit),
     )
 
 add-to : tie.Need-overflow-add-to
@@ -77,7 +77,7 @@ wrote-requires : tie.Need-wrote-requires
 wrote-requires c κs = search rules
 
 sub-write-value : tie.Need-overflow-sub-write-value
-sub-write-value k = let s = start k in both-start (key s) (value s) s.args.out.now _ _ (key-count k) (key-leaves k) (room s)
+sub-write-value k = let s = start k in both_start (key s) (value s) s.args.out.now _ _ (key_count k) (key_leaves k) (room s)
 
 part-write-value-start : tie.Need-slice-bounds-write-value-start
 part-write-value-start k = sub-write-value k
@@ -98,7 +98,7 @@ same_length : tie.Need-same-length
 same_length c = search rules
 
 returns : tie.Need-returns
-returns c = let a = (start c.before.before.before.before.before).args in rw (pair-bytes a.buffer.now a.pair) (all c)
+returns c = let a = (start c.before.before.before.before.before).args in rw (pair_bytes_lem a.buffer.now a.pair) (all c)
 
 pub put-pair-spec : {M : Type 1} → statement M
 put-pair-spec =
