@@ -1,6 +1,9 @@
 // What every layer's answers share: a refusal's number and place, and what a writer answers.
 //
 // docs/RULES.md says of each number when it is given and what its place counts.
+
+#![tactic(auto)]
+
 ghost use Rattle.answer.specs.Writes.{counted};
 ghost use Rattle.std.specs.Prelude.{◌≡◌};
 

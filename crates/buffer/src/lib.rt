@@ -1,6 +1,9 @@
 // The frames of a whole receive buffer, read in one call: what `parser` reads of each, one behind the other, with a row for each frame.
 //
 // The public call has no `requires`: it does its own refusing.
+
+#![tactic(auto)]
+
 ghost use Rattle.std.specs.Prelude.{◌≡◌, ◌+◌, ◌-◌, ◌/◌, ◌^◌, ◌≤◌, ◌<◌, length};
 ghost use Rattle.answer.specs.Answer.{written, leaves};
 ghost use Rattle.buffer.specs.Buffer.{row_width};

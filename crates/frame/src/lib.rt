@@ -1,5 +1,8 @@
 // Frames (SPOE.txt, section 3.2): the head, written (`write`) and read (`read`), behind the cut by the length. And the records that stand for
 // what a payload holds, as tables of 64-bit numbers have them.
+
+#![tactic(auto)]
+
 mod read;
 mod table;
 mod write;

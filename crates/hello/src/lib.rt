@@ -1,4 +1,7 @@
 // The two negotiations of the HELLO handshake (SPOE.txt, sections 3.2.4 and 3.2.5).
+
+#![tactic(auto)]
+
 ghost use Rattle.std.specs.Prelude.{◌≡◌, ◌+◌, ◌*◌, ◌≤◌, length};
 ghost use Rattle.hello.specs.Hello.{version_width, version_at, covers, choice};
 ghost use Rattle.hello.specs.Promise.{NegotiateMaxFrameSize};

@@ -1,6 +1,9 @@
 // The lines of a frame that was read (docs/RULES.md, "The listing"), written into lent bytes one by one.
 //
 // No public call has a `requires`: each does its own refusing, and a refusal changes no byte.
+
+#![tactic(auto)]
+
 mod digits;
 mod line;
 mod order;

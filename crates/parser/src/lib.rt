@@ -3,6 +3,9 @@
 //
 // A frame is cut out of the bytes by its length; then comes its head (both by `frame`), and then the payload of its type (by `payload`). No public
 // call has a `requires`: each does its own refusing.
+
+#![tactic(auto)]
+
 ghost use Rattle.std.specs.Prelude.{◌≡◌};
 ghost use Rattle.frame.specs.Read.{sender, answered};
 ghost use Rattle.payload.specs.Promise.{payload_said, rooms_of};

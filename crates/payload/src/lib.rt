@@ -3,6 +3,9 @@
 // Every pass over a payload goes by one step (`next`): what comes next is a pair, a message, an action, the end or a refusal. Looking is the item
 // with its tests (`look`), and writes nothing; filling is the item with its store (`fill`), of a payload that is accepted; taking is both
 // (`take`), into tables of its own, for a payload that is small. No public call has a `requires`: each does its own refusing.
+
+#![tactic(auto)]
+
 mod action;
 mod fill;
 mod look;

@@ -2,6 +2,9 @@
 // same without the two buffers.
 //
 // The public call has no `requires`, and a refusal changes no byte.
+
+#![tactic(auto)]
+
 ghost use Rattle.plain.specs.Promise.{SameTextPlain};
 
 use answer::{NO_ROOM, Refusal, Written};

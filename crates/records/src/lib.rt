@@ -1,6 +1,9 @@
 // The frame reader with a table of pair records, where `parser` has one of numbers.
 //
 // The public call has no `requires`: it does its own refusing.
+
+#![tactic(auto)]
+
 mod fill;
 mod table;
 

@@ -3,6 +3,9 @@
 //
 // A line is a letter, a space and fields with one space or comma between: numbers as hex digits, byte strings as hex pairs, an empty one
 // as `-`. oracle/README.md says what each letter stands for. A line that starts with # is a comment.
+
+#![tactic(auto)]
+
 mod fields;
 mod frames;
 mod parts;

@@ -3,6 +3,9 @@
 //
 // A call answers a refusal's number, 0 for done, and `at` takes what goes with it: the bytes used or written, after a wait those that are
 // missing, or the place. Whatever else is lent changes only after 0.
+
+#![tactic(auto)]
+
 ghost use Rattle.std.specs.Prelude.{◌≡◌, length};
 ghost use Rattle.answer.specs.Writes.{said};
 ghost use Rattle.types.specs.Promise.{record_of};

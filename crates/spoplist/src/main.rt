@@ -2,6 +2,9 @@
 // how far it came and why it stopped there. With the word `agent` the frames are those that an agent sends, with a line for each action.
 //
 // What a line has, and which comes next, is the library's to say and proved there. Here frames are read, and their lines written out.
+
+#![tactic(auto)]
+
 ghost use Rattle.std.specs.Prelude.{◌+◌, ◌*◌, ◌≤◌, length};
 ghost use Rattle.spoplist.specs.Inner.{line_room, ReadsIn, side_in, Takes, Ends, StandMessages, StandPairs, StandActions, Lies};
 

@@ -1,6 +1,9 @@
 // Strings and typed data (SPOE.txt, section 3.1): one value on its own, read and written.
 //
 // No public call has a `requires`: each does its own refusing, and a refusal changes no byte.
+
+#![tactic(auto)]
+
 mod check;
 mod read;
 mod write;

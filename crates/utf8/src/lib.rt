@@ -2,6 +2,9 @@
 //
 // No public call has a `requires`, and a refusal changes no byte. `rows` has the rows of table 3-7 and the step that they give, `run` strides
 // over many steps at once; the calls are in `well`, `replace` and `equal`.
+
+#![tactic(auto)]
+
 mod equal;
 mod replace;
 mod rows;

@@ -1,6 +1,9 @@
 // Variable-length numbers (SPOE.txt, section 3.1): their length, writing and reading.
 //
 // No public call has a `requires`: each does its own refusing, and a refusal changes no byte.
+
+#![tactic(auto)]
+
 ghost use Rattle.std.specs.Prelude.{◌≡◌, ◌≤◌, ◌<◌, ◌^◌, length, drop};
 ghost use Rattle.answer.specs.Answer.{written, leaves};
 ghost use Rattle.varint.specs.Number.{more, groups, number_bytes};

@@ -1,5 +1,8 @@
 // Walks over the pairs of two frames, and writes a line for each key and one for where the walk ends: a HAPROXY-HELLO, and the arguments of a
 // NOTIFY's only message.
+
+#![tactic(auto)]
+
 use libc::STDOUT_FILENO;
 use walker::{Place, Step};
 

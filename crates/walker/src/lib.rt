@@ -1,6 +1,9 @@
 // A walker over the pairs of a frame, which holds the frame's bytes and a place.
 //
 // No public call has a `requires`: each does its own refusing.
+
+#![tactic(auto)]
+
 mod steps;
 
 use answer::Refusal;

@@ -2,6 +2,9 @@
 //
 // Every writer checks and measures all records before it writes the first byte. No public call has a `requires`: each does its own
 // refusing, and a refusal changes no byte. This file has what the writers share, and a module each of them and of a pair has the rest.
+
+#![tactic(auto)]
+
 mod action;
 mod kv;
 mod notify;

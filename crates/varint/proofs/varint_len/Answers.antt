@@ -1,6 +1,5 @@
 -- `varint::varint_len` meets its contract. The bits of the steps are what their leading zeros leave of 64, so the law by bits (`length_before`,
 -- `length_from`) tells the length, by what so many bytes reach, which the code asks as `reached` says.
--- Assumes nothing.
 use mathlib.Core.Path.{◌≡◌, sym, subst, ◌∙◌}
 use mathlib.Core.Logic.{⊎_elim}
 use Prim.Native.Nat.{ℕ, ◌+◌, ◌-◌, ◌*◌, ◌/◌, ◌%◌, ◌^◌, ◌≤◌, ◌<◌}
@@ -10,12 +9,10 @@ use lib.Count.{count_leading_zeros, leading_le, leading_length}
 use lib.Dec.{lit<}
 use lib.ListN.{length}
 use lib.Pow.{pow_mono, shl_exact}
-use borrow.Author.Rules.{rules}
 use Rattle.answer.proofs.Cases.{lt_or_le}
 use Rattle.varint.specs.Number.{number_bytes}
 use Rattle.varint.proofs.Writing.{bytes_one, reach, reached, length_before, length_from}
-use Rattle.varint.proofs.varint_len.Statement.{statement}
-use Rattle.varint.proofs.varint_len.Tie as tie
+use Rattle.varint.proofs.varint_len.Goals as goal
 
 -- The steps of a number of 64 bits have fewer than 63, which are what is left of their leading zeros.
 record Bits (v bits : ℕ) : Type 0 where
@@ -68,19 +65,14 @@ module _ (i : ℕ) where
         let more : reach row ≤ steps = ⊎_elim (λ l. absurd (omega (arith, t, one_bit row few_rows, (reached row steps).0 l))) (λ l. l) (lt_or_le steps (reach row)) in
         omega (arith, a_seventh, length_from i _ some fits b.below b.above (subst (λ (k : ℕ). reach k ≤ steps) a_seventh more))
 
-returns : tie.Need-returns
-returns c = rw (bytes_one _ c.if1.true)
+pub returns-then-i-lt240 : goal.returns-then-i-lt240
+returns-then-i-lt240 c = rw (bytes_one _ c.if-i-lt240.true)
 
-sub-k : tie.Need-overflow-sub-k
-sub-k c = leading_le 64 _
+pub overflow_sub-k : goal.overflow_sub-k
+overflow_sub-k c = leading_le 64 _
 
-returns-2 : tie.Need-returns-2
-returns-2 c = shorter c.before.before.args.i c.before.if1.false c.before.before.ranges.i.fits c.if2.true
+pub returns-then-steps-k : goal.returns-then-steps-k
+returns-then-steps-k c = shorter c.args.i c.if-i-lt240.false c.ranges.i.fits c.if-steps-k.true
 
-returns-3 : tie.Need-returns-3
-returns-3 c = longer c.before.before.args.i c.before.if1.false c.before.before.ranges.i.fits c.if2.false
-
-pub varint-len-spec : {M : Type 1} → statement M
-varint-len-spec =
-    tie.close (tie.spec returns sub-k (λ c. search rules) (λ c. search rules) (λ c. search rules) (λ c. search rules) (λ c. search rules)
-    (λ c. search rules) (λ c. search rules) (λ c. search rules) (λ c. search rules) (λ c. search rules) (λ c. search rules) returns-2 returns-3)
+pub returns-else-steps-k : goal.returns-else-steps-k
+returns-else-steps-k c = longer c.args.i c.if-i-lt240.false c.ranges.i.fits c.if-steps-k.false

@@ -1,5 +1,4 @@
 -- `varint::decode_tenth` meets its contract: the byte is missing, has more than four bits, makes the sum too large, or is the last.
--- Assumes nothing.
 use mathlib.Core.Path.{◌≡◌, refl, sym, ap, ◌∙◌}
 use mathlib.Core.List.{List, ◌∷◌}
 use Prim.Native.Nat.{ℕ, ◌+◌, ◌*◌, ◌%◌, ◌^◌, ◌≤◌, ◌<◌}
@@ -7,13 +6,11 @@ use native.Mathlib.Nat.{mod-eq_of_lt}
 use native.Mathlib.Omega.{arith}
 use lib.ListN.{length, drop, get_or, drop_of_length-le}
 use lib.Seq.{drop-cons}
-use borrow.Author.Rules.{rules}
 use Rattle.answer.specs.Answer.{done, refused}
 use Rattle.varint.specs.Number.{more}
 use Rattle.varint.specs.Promise.{number_said}
 use Rattle.varint.proofs.Reading.{more_none, more_tenth, more_over, more_last}
-use Rattle.varint.proofs.decode_tenth.Statement.{statement}
-use Rattle.varint.proofs.decode_tenth.Tie as tie
+use Rattle.varint.proofs.decode_tenth.Goals as goal
 
 -- the four ways, in the code's terms
 module _ (s : List ℕ) (sum : ℕ) where
@@ -43,24 +40,19 @@ module _ (s : List ℕ) (sum : ℕ) where
       last : sum + addend < 2 ^ 64 → more sum 9 (drop 9 s) ≡ done (sum + addend) 10
       last o = rw whole (ap (more sum 9) next ∙ more_last sum 9 byte (λ e. low) (rw whole at o) (omega arith) (drop 10 s))
 
-returns : tie.Need-returns
-returns c = let s = c.before.before.before.args.input.now in ap number_said c.refused.ensures ∙ sym (none s _ c.before.if1.true)
+pub returns-then-input-le9 : goal.returns-then-input-le9
+returns-then-input-le9 c = let s = c.args.input.now in ap number_said c.refused.ensures ∙ sym (none s _ c.if-input-le9.true)
 
-returns-2 : tie.Need-returns-2
-returns-2 c =
-    let s = c.before.before.before.before.before.args.input.now in
-    ap number_said c.refused2.ensures ∙ sym (high s _ c.before.before.before.if1.false c.before.if2.true)
+pub returns-then-byte-gt15 : goal.returns-then-byte-gt15
+returns-then-byte-gt15 c =
+    let s = c.args.input.now in
+    ap number_said c.refused-then-byte-gt15.ensures ∙ sym (high s _ c.if-input-le9.false c.if-byte-gt15.true)
 
-returns-3 : tie.Need-returns-3
-returns-3 c =
-    let s = c.before.before.before.before.before.before.args.input.now in
-    ap number_said c.refused3.ensures
-    ∙ sym (over s c.before.before.before.before.before.before.args.sum c.before.before.before.before.if1.false c.before.before.if2.false (omega (arith, c.before.if3.true)))
+pub returns-then-sum-addend : goal.returns-then-sum-addend
+returns-then-sum-addend c =
+    let s = c.args.input.now in
+    ap number_said c.refused-then-sum-addend.ensures
+    ∙ sym (over s c.args.sum c.if-input-le9.false c.if-byte-gt15.false (omega (arith, c.if-sum-addend.true)))
 
-returns-4 : tie.Need-returns-4
-returns-4 c = let s = c.before.before.before.before.before.args.input.now in sym (last s c.before.before.before.before.before.args.sum c.before.before.before.if1.false c.before.if2.false (omega (arith, c.if3.false)))
-
-pub decode-tenth-spec : {M : Type 1} → statement M
-decode-tenth-spec =
-    tie.close (tie.spec (λ c κs. search rules) returns (λ c. search rules) (λ c κs. search rules) returns-2 (λ c. search rules) (λ c. search rules)
-    (λ c κs. search rules) returns-3 (λ c. search rules) returns-4)
+pub returns : goal.returns
+returns c = let s = c.args.input.now in sym (last s c.args.sum c.if-input-le9.false c.if-byte-gt15.false (omega (arith, c.if-sum-addend.false)))
