@@ -47,14 +47,14 @@ pub const UNKNOWN_ACTION: u64 = 18;
 pub const NOT_FITTING: u64 = 19;
 
 // A refusal's number and its place.
-#[derive(Drop)]
+#[derive(Clone, Copy)]
 pub struct Refusal {
     pub number: u64,
     pub place: usize,
 }
 
 // What a writer answers: how many bytes it wrote, or why it wrote none.
-#[derive(Drop)]
+#[derive(Clone, Copy)]
 pub enum Written {
     Done(usize),
     Refused(Refusal),

@@ -20,7 +20,7 @@ use payload::Counts;
 pub const ROW_WIDTH: usize = 7;
 
 // How much was read: frames, their messages and pairs, and the bytes that they took together.
-#[derive(Drop)]
+#[derive(Clone, Copy)]
 pub struct Totals {
     pub frames: usize,
     pub messages: usize,
@@ -29,14 +29,14 @@ pub struct Totals {
 }
 
 // What stops the reading: so many bytes are missing, or a refusal, with its place in its own frame.
-#[derive(Drop)]
+#[derive(Clone, Copy)]
 pub enum Stop {
     Wait(usize),
     Refused(Refusal),
 }
 
 // What is told: how much was read, and what stopped it there.
-#[derive(Drop)]
+#[derive(Clone, Copy)]
 pub struct FramesRead {
     pub totals: Totals,
     pub stop: Stop,

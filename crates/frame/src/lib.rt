@@ -35,7 +35,7 @@ pub const ACTION_WIDTH: usize = 8;
 
 // A pair: where its key stands in the buffer, and its value.
 #[repr(C)]
-#[derive(Drop)]
+#[derive(Clone, Copy)]
 pub struct Pair {
     pub start: u64,
     pub len: u64,
@@ -48,7 +48,7 @@ pub const SET_VAR: u64 = 1;
 pub const UNSET_VAR: u64 = 2;
 
 // An action: what it does, the variable's scope, and the variable's name and value as a pair.
-#[derive(Drop)]
+#[derive(Clone, Copy)]
 pub struct Action {
     pub verb: u64,
     pub scope: u64,
@@ -56,7 +56,7 @@ pub struct Action {
 }
 
 // A message: where its name stands in the buffer, and which pairs are its arguments: `count` of them from pair `first` on.
-#[derive(Drop)]
+#[derive(Clone, Copy)]
 pub struct Message {
     pub start: u64,
     pub len: u64,
@@ -65,7 +65,7 @@ pub struct Message {
 }
 
 // What stands before the payload: the type, the flags, and the numbers of the stream and of the frame in it.
-#[derive(Drop)]
+#[derive(Clone, Copy)]
 pub struct Head {
     pub frame_type: u8,
     pub flags: u32,
@@ -74,7 +74,7 @@ pub struct Head {
 }
 
 // The side that sends a frame.
-#[derive(Drop)]
+#[derive(Clone, Copy)]
 pub enum Side {
     HAProxy,
     Agents,
@@ -82,7 +82,7 @@ pub enum Side {
 
 // What the cut by the length answers: how many bytes the frame has, with its length bytes; how many are missing; or that the length is over
 // the limit.
-#[derive(Drop)]
+#[derive(Clone, Copy)]
 pub enum FrameCut {
     Whole(usize),
     Wait(usize),
@@ -90,7 +90,7 @@ pub enum FrameCut {
 }
 
 // What the reader of a head answers: the head, and where the payload starts.
-#[derive(Drop)]
+#[derive(Clone, Copy)]
 pub enum HeadRead {
     Done { head: Head, start: usize },
     Refused(Refusal),

@@ -11,7 +11,7 @@ use answer::{Refusal, SIZE_TOO_SMALL};
 // The least size that a peer may announce.
 pub const MIN_FRAME_SIZE: u32 = 256;
 
-#[derive(Drop)]
+#[derive(Clone, Copy)]
 pub struct Version {
     pub major: u64,
     pub minor: u64,
@@ -28,7 +28,7 @@ pub const SUPPORTED_VERSION: Version = Version {
 pub const VERSION_WIDTH: usize = 4;
 
 // An announced version. The last number is 0 exactly where it has no pre-release part.
-#[derive(Drop)]
+#[derive(Clone, Copy)]
 pub struct Announced {
     pub major: u64,
     pub minor: u64,
@@ -37,14 +37,14 @@ pub struct Announced {
 }
 
 // What the size is settled on.
-#[derive(Drop)]
+#[derive(Clone, Copy)]
 pub enum Size {
     Agreed(u32),
     Refused(Refusal),
 }
 
 // What version is given.
-#[derive(Drop)]
+#[derive(Clone, Copy)]
 pub enum Chosen {
     Version(Version),
     None,

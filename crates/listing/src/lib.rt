@@ -15,7 +15,7 @@ pub use line::{
 pub use order::{write_action_at, write_next_line};
 
 // Behind which lines of a frame: how many of its messages and pairs have theirs, and how many arguments of the last message are to come.
-#[derive(Drop)]
+#[derive(Clone, Copy)]
 pub struct Place {
     pub messages: usize,
     pub pairs: usize,
@@ -23,7 +23,7 @@ pub struct Place {
 }
 
 // What the next line is: its bytes and the place behind it, or none, or why it is refused.
-#[derive(Drop)]
+#[derive(Clone, Copy)]
 pub enum Step {
     Line { len: usize, place: Place },
     End,

@@ -18,7 +18,7 @@ use frame::{ACK, FrameCut, Head, HeadRead, NOTIFY, Side};
 use payload::{Counts, Payload, PayloadRead};
 
 // What the frame readers answer: the head, how many records of each sort the frame has, and its bytes; or how many bytes are missing.
-#[derive(Drop)]
+#[derive(Clone, Copy)]
 pub enum FrameRead {
     Done {
         head: Head,

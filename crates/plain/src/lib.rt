@@ -10,7 +10,7 @@ ghost use Rattle.plain.specs.Promise.{SameTextPlain};
 use answer::{NO_ROOM, Refusal, Written};
 
 // Whether the texts are the same, or why they were not compared.
-#[derive(Drop)]
+#[derive(Clone, Copy)]
 pub enum Compared {
     Done(bool),
     Refused(Refusal),

@@ -13,14 +13,14 @@ use payload::{Cursor, Payload};
 pub use table::read_frame_records;
 
 // What a payload is a list of, and where it ends.
-#[derive(Drop)]
+#[derive(Clone, Copy)]
 pub(crate) struct Area {
     pub kind: Payload,
     pub end: usize,
 }
 
 // What reading a frame comes to: the answer, its payload, and where that starts. A frame that is not accepted has an empty one.
-#[derive(Drop)]
+#[derive(Clone, Copy)]
 pub(crate) struct Found {
     pub answer: FrameRead,
     pub area: Area,
@@ -28,7 +28,7 @@ pub(crate) struct Found {
 }
 
 // Whether there was a pair; the pair, and how far it is behind it.
-#[derive(Drop)]
+#[derive(Clone, Copy)]
 pub(crate) struct Given {
     pub some: bool,
     pub pair: Pair,

@@ -17,7 +17,7 @@ pub use read::{read_string, typed_data};
 pub use write::{measure_value, value_len, write_string, write_value};
 
 // What the string reader answers: where the bytes are, and how many the string took with its length number.
-#[derive(Drop)]
+#[derive(Clone, Copy)]
 pub enum StringRead {
     Done {
         start: usize,
@@ -30,7 +30,7 @@ pub enum StringRead {
 // A value as the records have it: its kind and two numbers, as docs/RULES.md sets them out for each kind, and the flags of its type byte, the
 // upper four bits, which a boolean has as its number.
 #[repr(C)]
-#[derive(Drop)]
+#[derive(Clone, Copy)]
 pub struct Value {
     pub kind: u64,
     pub a: u64,
@@ -42,7 +42,7 @@ pub struct Value {
 pub const VALUE_WIDTH: usize = 4;
 
 // What the value reader answers.
-#[derive(Drop)]
+#[derive(Clone, Copy)]
 pub enum ValueRead {
     Done { value: Value, used: usize },
     Refused(Refusal),
@@ -50,7 +50,7 @@ pub enum ValueRead {
 
 // What checking and measuring a value finds: the number it is refused with, 0 for none, and how many bytes its written form has, 0 where it
 // is refused.
-#[derive(Drop)]
+#[derive(Clone, Copy)]
 pub struct Measured {
     pub number: u64,
     pub len: u64,

@@ -22,9 +22,9 @@ either : (p q : Bool) → p || q ≡ true → p ≡ false → q ≡ true
 either true q e f = true_false e f
 either false q e f = e
 
-either·not : (p q : Bool) → not p || q ≡ true → p ≡ true → q ≡ true
-either·not true q e f = e
-either·not false q e f = true_false f refl
+either_not : (p q : Bool) → not p || q ≡ true → p ≡ true → q ≡ true
+either_not true q e f = e
+either_not false q e f = true_false f refl
 
 module _ (a b c d : ℕ) where
   abbrev leads : Bool
@@ -36,35 +36,35 @@ module _ (a b c d : ℕ) where
   abbrev follows : Bool
   follows = unwanted || (leb 0x80 d && leb d 0xBF)
 
-  abbrev narrow·E0 : Bool
-  narrow·E0 = not (eqb c 0xE0) || leb 0xA0 d
+  abbrev narrow_e0 : Bool
+  narrow_e0 = not (eqb c 0xE0) || leb 0xA0 d
 
-  abbrev narrow·ED : Bool
-  narrow·ED = not (eqb c 0xED) || leb d 0x9F
+  abbrev narrow_ed : Bool
+  narrow_ed = not (eqb c 0xED) || leb d 0x9F
 
-  abbrev narrow·F0 : Bool
-  narrow·F0 = not (eqb c 0xF0) || leb 0x90 d
+  abbrev narrow_f0 : Bool
+  narrow_f0 = not (eqb c 0xF0) || leb 0x90 d
 
-  abbrev narrow·F4 : Bool
-  narrow·F4 = not (eqb c 0xF4) || leb d 0x8F
+  abbrev narrow_f4 : Bool
+  narrow_f4 = not (eqb c 0xF4) || leb d 0x8F
 
   -- the tests of `fits`, one by one
-  pub fits_by : leads && follows && narrow·E0 && narrow·ED && narrow·F0 && narrow·F4 ≡ true → Fits a b c d
+  pub fits_by : leads && follows && narrow_e0 && narrow_ed && narrow_f0 && narrow_f4 ≡ true → Fits a b c d
   fits_by t =
-      let f4 = both_true (leads && follows && narrow·E0 && narrow·ED && narrow·F0) narrow·F4 t in
-      let f0 = both_true (leads && follows && narrow·E0 && narrow·ED) narrow·F0 f4.0 in
-      let ed = both_true (leads && follows && narrow·E0) narrow·ED f0.0 in
-      let e0 = both_true (leads && follows) narrow·E0 ed.0 in
+      let f4 = both_true (leads && follows && narrow_e0 && narrow_ed && narrow_f0) narrow_f4 t in
+      let f0 = both_true (leads && follows && narrow_e0 && narrow_ed) narrow_f0 f4.0 in
+      let ed = both_true (leads && follows && narrow_e0) narrow_ed f0.0 in
+      let e0 = both_true (leads && follows) narrow_e0 ed.0 in
       let is = both_true leads follows e0.0 in
       record {
         lead = λ h g k. alone (simp (lt-leb 0xC0 c k, lt-leb 0xE0 b g, lt-leb 0xF0 a h) at is.0);
         second = λ h. wanted is.1 (simp (le-ltb c 0xC0 h));
         third = λ h. wanted is.1 (simp (le-ltb b 0xE0 h, and-false));
         fourth = λ h. wanted is.1 (simp (le-ltb a 0xF0 h, and-false));
-        after·E0 = λ q. leb-true 0xA0 d (either·not (eqb c 0xE0) (leb 0xA0 d) e0.1 (eq-eqb c 0xE0 q));
-        after·ED = λ q. leb-true d 0x9F (either·not (eqb c 0xED) (leb d 0x9F) ed.1 (eq-eqb c 0xED q));
-        after·F0 = λ q. leb-true 0x90 d (either·not (eqb c 0xF0) (leb 0x90 d) f0.1 (eq-eqb c 0xF0 q));
-        after·F4 = λ q. leb-true d 0x8F (either·not (eqb c 0xF4) (leb d 0x8F) f4.1 (eq-eqb c 0xF4 q));
+        after_e0 = λ q. leb-true 0xA0 d (either_not (eqb c 0xE0) (leb 0xA0 d) e0.1 (eq-eqb c 0xE0 q));
+        after_ed = λ q. leb-true d 0x9F (either_not (eqb c 0xED) (leb d 0x9F) ed.1 (eq-eqb c 0xED q));
+        after_f0 = λ q. leb-true 0x90 d (either_not (eqb c 0xF0) (leb 0x90 d) f0.1 (eq-eqb c 0xF0 q));
+        after_f4 = λ q. leb-true d 0x8F (either_not (eqb c 0xF4) (leb d 0x8F) f4.1 (eq-eqb c 0xF4 q));
       }
     where
       alone : ltb d 0x80 || (leb 0xC2 d && leb d 0xF4) ≡ true → (d < 0x80) ⊎ ((0xC2 ≤ d) × (d ≤ 0xF4))
@@ -119,7 +119,7 @@ begun_three d e h g f =
     ⊎_elim
     (λ l.
     let k : d ≡ 0xE0 = omega arith in
-    record { lead = 0xE0 to 0xE0; second = 0xA0 to 0xBF; is = rw k refl; can = in_range_in 0xA0 0xBF e (f.after.E0 k) q.1 })
+    record { lead = 0xE0 to 0xE0; second = 0xA0 to 0xBF; is = rw k refl; can = in_range_in 0xA0 0xBF e (f.after_e0 k) q.1 })
     (λ l. ⊎_elim
     (λ m. record {
       lead = 0xE1 to 0xEC;
@@ -130,7 +130,7 @@ begun_three d e h g f =
     (λ m. ⊎_elim
     (λ o.
     let k : d ≡ 0xED = omega arith in
-    record { lead = 0xED to 0xED; second = 0x80 to 0x9F; is = rw k refl; can = in_range_in 0x80 0x9F e q.0 (f.after.ED k) })
+    record { lead = 0xED to 0xED; second = 0x80 to 0x9F; is = rw k refl; can = in_range_in 0x80 0x9F e q.0 (f.after_ed k) })
     (λ o. record {
       lead = 0xEE to 0xEF;
       second = 0x80 to 0xBF;
@@ -148,7 +148,7 @@ begun_four d e h g f =
     ⊎_elim
     (λ l.
     let k : d ≡ 0xF0 = omega arith in
-    record { lead = 0xF0 to 0xF0; second = 0x90 to 0xBF; is = rw k refl; can = in_range_in 0x90 0xBF e (f.after.F0 k) q.1 })
+    record { lead = 0xF0 to 0xF0; second = 0x90 to 0xBF; is = rw k refl; can = in_range_in 0x90 0xBF e (f.after_f0 k) q.1 })
     (λ l. ⊎_elim
     (λ m. record {
       lead = 0xF1 to 0xF3;
@@ -158,7 +158,7 @@ begun_four d e h g f =
     })
     (λ m.
     let k : d ≡ 0xF4 = omega arith in
-    record { lead = 0xF4 to 0xF4; second = 0x80 to 0x8F; is = rw k refl; can = in_range_in 0x80 0x8F e q.0 (f.after.F4 k) })
+    record { lead = 0xF4 to 0xF4; second = 0x80 to 0x8F; is = rw k refl; can = in_range_in 0x80 0x8F e q.0 (f.after_f4 k) })
     (lt_or_le d 0xF4))
     (lt_or_le d 0xF1)
 

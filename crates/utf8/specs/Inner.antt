@@ -64,10 +64,10 @@ pub record Fits (a b c d : ℕ) : Type 0 where
   pub second : 0xC0 ≤ c → (0x80 ≤ d) × (d ≤ 0xBF)
   pub third : 0xE0 ≤ b → (0x80 ≤ d) × (d ≤ 0xBF)
   pub fourth : 0xF0 ≤ a → (0x80 ≤ d) × (d ≤ 0xBF)
-  pub after·E0 : c ≡ 0xE0 → 0xA0 ≤ d
-  pub after·ED : c ≡ 0xED → d ≤ 0x9F
-  pub after·F0 : c ≡ 0xF0 → 0x90 ≤ d
-  pub after·F4 : c ≡ 0xF4 → d ≤ 0x8F
+  pub after_e0 : c ≡ 0xE0 → 0xA0 ≤ d
+  pub after_ed : c ≡ 0xED → d ≤ 0x9F
+  pub after_f0 : c ≡ 0xF0 → 0x90 ≤ d
+  pub after_f4 : c ≡ 0xF4 → d ≤ 0x8F
 
 -- the fourth byte from i on fits the three before it
 abbrev pub FitsAt : List ℕ → ℕ → Type 0

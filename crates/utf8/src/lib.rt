@@ -16,14 +16,14 @@ pub use replace::{has_room, lossy_text};
 pub use well::is_utf8;
 
 // The bytes from the first to the last.
-#[derive(Drop)]
+#[derive(Clone, Copy)]
 struct Range {
     low: u8,
     high: u8,
 }
 
 // A row of table 3-7: what the first byte may be, what the second, and how many bytes there are.
-#[derive(Drop)]
+#[derive(Clone, Copy)]
 struct Row {
     lead: Range,
     second: Range,
@@ -31,7 +31,7 @@ struct Row {
 }
 
 // What stands at the front of some bytes: nothing, a well-formed sequence, or a maximal subpart of an ill-formed one.
-#[derive(Drop)]
+#[derive(Clone, Copy)]
 enum Step {
     End,
     Char(usize),
@@ -39,14 +39,14 @@ enum Step {
 }
 
 // The row in whose range a first byte is, if there is one.
-#[derive(Drop)]
+#[derive(Clone, Copy)]
 enum Lead {
     Unused,
     In(Row),
 }
 
 // How far one can go on at once in two texts that start in the same way.
-#[derive(Drop)]
+#[derive(Clone, Copy)]
 enum Both {
     Apart,
     On(usize, usize),

@@ -13,7 +13,7 @@ ghost use Rattle.answer.specs.Writes.{Writes};
 use answer::{NO_ROOM, NOT_FITTING, Refusal, TOO_LARGE, TOO_SOON, Written};
 
 // What the number reader answers.
-#[derive(Drop)]
+#[derive(Clone, Copy)]
 pub enum NumberRead {
     Done { value: u64, used: usize },
     Refused(Refusal),

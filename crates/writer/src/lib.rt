@@ -23,7 +23,7 @@ pub use notify::write_notify;
 
 // What a loop that checks and measures some records found: the first that is refused, with number 0 where none is, and then how many
 // bytes they have as far as it matters.
-#[derive(Drop)]
+#[derive(Clone, Copy)]
 pub(crate) struct Checked {
     pub(crate) refusal: Refusal,
     pub(crate) len: u64,
