@@ -6,25 +6,25 @@ use Rattle.hello.proofs.Laws.{choice_some, choice_none}
 use Rattle.hello.proofs.negotiate_version.Goals as goal
 use Rattle.hello.proofs.negotiate_version.Goals.{After-covers_supported}
 
-pub loop_i_init : goal.loop_i_init
-loop_i_init c = seeking_none _ _ _
+pub loop-i-init : goal.loop-i-init
+loop-i-init c = seeking_none _ _ _
 
-pub covers_supported_requires : goal.covers_supported_requires
-covers_supported_requires c = tt
+pub covers_supported-requires : goal.covers_supported-requires
+covers_supported-requires c = tt
 
 -- what was asked of version i
 asked : (c : After-covers_supported)
     → c.covers_supported.result ≡ covers (version_at c.args.versions.now c.loop-i.i)
 asked c = c.covers_supported.ensures ∙ ap covers c.version_at.ensures
 
-pub returns_then_covers_supported : goal.returns_then_covers_supported
+pub returns-then-covers_supported : goal.returns-then-covers_supported
 unfolding announced
-returns_then_covers_supported c =
-    sym (choice_some _ (seeking_here c.loop-i.invariant c.loop-i-test.true (sym (asked ((goal.at.returns_then_covers_supported c).After-covers_supported)) ∙ c.if-covers_supported.true)))
+returns-then-covers_supported c =
+    sym (choice_some _ (seeking_here c.loop-i.invariant c.loop-i-test.true (sym (asked ((goal.at.returns-then-covers_supported c).After-covers_supported)) ∙ c.if-covers_supported.true)))
 
-pub loop_i_preserved : goal.loop_i_preserved
-loop_i_preserved c =
-    seeking_on c.loop-i.invariant c.loop-i-test.true (sym (asked ((goal.at.loop_i_preserved c).After-covers_supported)) ∙ c.if-covers_supported.false)
+pub loop-i-preserved : goal.loop-i-preserved
+loop-i-preserved c =
+    seeking_on c.loop-i.invariant c.loop-i-test.true (sym (asked ((goal.at.loop-i-preserved c).After-covers_supported)) ∙ c.if-covers_supported.false)
 
 pub returns : goal.returns
 unfolding announced

@@ -7,9 +7,9 @@ use lib.ListN.{drop}
 use Rattle.varint.specs.Number.{more}
 use Rattle.varint.proofs.decode_more.Given as goal
 
-abbrev pub invariant_loop_used : goal.invariant_loop_used
-invariant_loop_used l =
+abbrev pub invariant-loop-used : goal.invariant-loop-used
+invariant-loop-used l =
     (more l.first 1 (drop 1 l.input) ≡ more l.sum l.used (drop l.used l.input)) × (l.shift + 3 ≡ 7 * l.used) × (l.sum < 16 * 2 ^ l.shift) × (l.used ≤ 9)
 
-abbrev pub decreases_loop_used : goal.decreases_loop_used
-decreases_loop_used l = 9 - l.used
+abbrev pub decreases-loop-used : goal.decreases-loop-used
+decreases-loop-used l = 9 - l.used

@@ -40,16 +40,16 @@ module _ (s : List ℕ) (sum : ℕ) where
       last : sum + addend < 2 ^ 64 → more sum 9 (drop 9 s) ≡ done (sum + addend) 10
       last o = rw whole (ap (more sum 9) next ∙ more_last sum 9 byte (λ e. low) (rw whole at o) (omega arith) (drop 10 s))
 
-pub returns_then_input_le9 : goal.returns_then_input_le9
-returns_then_input_le9 c = let s = c.args.input.now in ap number_said c.refused.ensures ∙ sym (none s _ c.if-input-le9.true)
+pub returns-then-input-le9 : goal.returns-then-input-le9
+returns-then-input-le9 c = let s = c.args.input.now in ap number_said c.refused.ensures ∙ sym (none s _ c.if-input-le9.true)
 
-pub returns_then_byte_gt15 : goal.returns_then_byte_gt15
-returns_then_byte_gt15 c =
+pub returns-then-byte-gt15 : goal.returns-then-byte-gt15
+returns-then-byte-gt15 c =
     let s = c.args.input.now in
     ap number_said c.refused-then-byte-gt15.ensures ∙ sym (high s _ c.if-input-le9.false c.if-byte-gt15.true)
 
-pub returns_then_sum_addend : goal.returns_then_sum_addend
-returns_then_sum_addend c =
+pub returns-then-sum-addend : goal.returns-then-sum-addend
+returns-then-sum-addend c =
     let s = c.args.input.now in
     ap number_said c.refused-then-sum-addend.ensures
     ∙ sym (over s c.args.sum c.if-input-le9.false c.if-byte-gt15.false (omega (arith, c.if-sum-addend.true)))

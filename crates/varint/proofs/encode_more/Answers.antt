@@ -18,26 +18,26 @@ last : (c : After-loop-rest)
     → Partly (groups 9 c.args.steps) c.args.out.now c.loop-rest.at (c.loop-rest.rest ∷ []) c.loop-rest.out
 last c = rw (groups_last 8 c.loop-rest.rest c.loop-rest-test.false) at c.loop-rest.invariant.0
 
-pub loop_rest_init : goal.loop_rest_init
-loop_rest_init c = (partly_none _ _ c.requires.steps_in_bounds, c.requires.steps_bound)
+pub loop-rest-init : goal.loop-rest-init
+loop-rest-init c = (partly_none _ _ c.requires.steps_in_bounds, c.requires.steps_bound)
 
-pub bounds_out_at : goal.bounds_out_at
-bounds_out_at c = partly_place (on ((goal.at.bounds_out_at c).In-loop-rest))
+pub bounds-out-at : goal.bounds-out-at
+bounds-out-at c = partly_place (on ((goal.at.bounds-out-at c).In-loop-rest))
 
-pub overflow_add_at : goal.overflow_add_at
-overflow_add_at c = omega (arith, partly_place (on ((goal.at.overflow_add_at c).In-loop-rest)), partly_length (on ((goal.at.overflow_add_at c).In-loop-rest)))
+pub overflow_add-at : goal.overflow_add-at
+overflow_add-at c = omega (arith, partly_place (on ((goal.at.overflow_add-at c).In-loop-rest)), partly_length (on ((goal.at.overflow_add-at c).In-loop-rest)))
 
-pub loop_rest_preserved : goal.loop_rest_preserved
-loop_rest_preserved c = (partly_next (on ((goal.at.loop_rest_preserved c).In-loop-rest)), omega arith)
+pub loop-rest-preserved : goal.loop-rest-preserved
+loop-rest-preserved c = (partly_next (on ((goal.at.loop-rest-preserved c).In-loop-rest)), omega arith)
 
-pub bounds_out_at_2 : goal.bounds_out_at_2
-bounds_out_at_2 c = partly_place (last ((goal.at.bounds_out_at_2 c).After-loop-rest))
+pub bounds-out-at-2 : goal.bounds-out-at-2
+bounds-out-at-2 c = partly_place (last ((goal.at.bounds-out-at-2 c).After-loop-rest))
 
-pub overflow_add_result : goal.overflow_add_result
-overflow_add_result c = omega (arith, partly_place (last ((goal.at.overflow_add_result c).After-loop-rest)), partly_length (last ((goal.at.overflow_add_result c).After-loop-rest)))
+pub overflow_add-result : goal.overflow_add-result
+overflow_add-result c = omega (arith, partly_place (last ((goal.at.overflow_add-result c).After-loop-rest)), partly_length (last ((goal.at.overflow_add-result c).After-loop-rest)))
 
-pub shape_of_out : goal.shape_of_out
-shape_of_out c = simp (length-set, partly_length (last ((goal.at.shape_of_out c).After-loop-rest)))
+pub shape_of-out : goal.shape_of-out
+shape_of-out c = simp (length-set, partly_length (last ((goal.at.shape_of-out c).After-loop-rest)))
 
 pub returns : goal.returns
 returns c =

@@ -5,8 +5,8 @@ use Rattle.varint.specs.Number.{groups}
 use Rattle.answer.proofs.Output.{Partly}
 use Rattle.varint.proofs.encode_more.Given as goal
 
-abbrev pub invariant_loop_rest : goal.invariant_loop_rest
-invariant_loop_rest l = (Partly (groups 9 l.steps) l.initial.out l.at (groups 9 l.rest) l.out) × (l.rest < 2 ^ 60)
+abbrev pub invariant-loop-rest : goal.invariant-loop-rest
+invariant-loop-rest l = (Partly (groups 9 l.steps) l.initial.out l.at (groups 9 l.rest) l.out) × (l.rest < 2 ^ 60)
 
-abbrev pub decreases_loop_rest : goal.decreases_loop_rest
-decreases_loop_rest l = l.rest
+abbrev pub decreases-loop-rest : goal.decreases-loop-rest
+decreases-loop-rest l = l.rest

@@ -41,36 +41,36 @@ both c one =
     rw (bytes c.before.before.before.before.before)
     (leaves_tail ((240 + i % 16) ∷ []) (groups 9 ((i - 240) / 16)) old _ _ 1 refl (leaves_byte (240 + i % 16) old one) c.encode_more-n.ensures.out_after)
 
-pub returns_then_out_varint_len : goal.returns_then_out_varint_len
-returns_then_out_varint_len c = writes_none (number_bytes c.args.i) _ (omega (arith, ltb-true, c.varint_len.ensures))
+pub returns-then-out-varint_len : goal.returns-then-out-varint_len
+returns-then-out-varint_len c = writes_none (number_bytes c.args.i) _ (omega (arith, ltb-true, c.varint_len.ensures))
 
-pub bounds_out_0 : goal.bounds_out_0
-bounds_out_0 c = room_one ((goal.at.bounds_out_0 c).Joined-else-out-lt10)
+pub bounds-out-0 : goal.bounds-out-0
+bounds-out-0 c = room_one ((goal.at.bounds-out-0 c).Joined-else-out-lt10)
 
-pub returns_then_i_lt240 : goal.returns_then_i_lt240
-returns_then_i_lt240 c = let i = c.args.i in
+pub returns-then-i-lt240 : goal.returns-then-i-lt240
+returns-then-i-lt240 c = let i = c.args.i in
     let old = c.args.out.now in
-    writes_all (number_bytes i) old _ _ (room ((goal.at.returns_then_i_lt240 c).Joined-else-out-lt10)) (rw (bytes_one i c.if-i-lt240.true))
-    (rw (bytes_one i c.if-i-lt240.true) (leaves_byte i old (room_one ((goal.at.returns_then_i_lt240 c).Joined-else-out-lt10))))
+    writes_all (number_bytes i) old _ _ (room ((goal.at.returns-then-i-lt240 c).Joined-else-out-lt10)) (rw (bytes_one i c.if-i-lt240.true))
+    (rw (bytes_one i c.if-i-lt240.true) (leaves_byte i old (room_one ((goal.at.returns-then-i-lt240 c).Joined-else-out-lt10))))
 
-pub bounds_out_0_2 : goal.bounds_out_0_2
-bounds_out_0_2 c = room_one ((goal.at.bounds_out_0_2 c).Joined-else-out-lt10)
+pub bounds-out-0-2 : goal.bounds-out-0-2
+bounds-out-0-2 c = room_one ((goal.at.bounds-out-0-2 c).Joined-else-out-lt10)
 
-pub slice_bounds_encode_more_count : goal.slice_bounds_encode_more_count
-slice_bounds_encode_more_count c = simp length-set (room_one ((goal.at.slice_bounds_encode_more_count c).Joined-else-out-lt10))
+pub slice_bounds-encode_more-count : goal.slice_bounds-encode_more-count
+slice_bounds-encode_more-count c = simp length-set (room_one ((goal.at.slice_bounds-encode_more-count c).Joined-else-out-lt10))
 
-pub slice_bounds_encode_more_start : goal.slice_bounds_encode_more_start
-slice_bounds_encode_more_start c = simp length-set (room_one ((goal.at.slice_bounds_encode_more_start c).Joined-else-out-lt10))
+pub slice_bounds-encode_more-start : goal.slice_bounds-encode_more-start
+slice_bounds-encode_more-start c = simp length-set (room_one ((goal.at.slice_bounds-encode_more-start c).Joined-else-out-lt10))
 
-pub encode_more_n_requires : goal.encode_more_n_requires
-encode_more_n_requires c =
-    let i = c.args.i in record { steps_bound = omega (arith, c.ranges.i); steps_in_bounds = rw lent_tail_lem (simp (length-drop, length-set) (omega (arith, room ((goal.at.encode_more_n_requires c).Joined-else-out-lt10), ap length (bytes ((goal.at.encode_more_n_requires c).Else-i-lt240))))) }
+pub encode_more-n-requires : goal.encode_more-n-requires
+encode_more-n-requires c =
+    let i = c.args.i in record { steps_bound = omega (arith, c.ranges.i); steps_in_bounds = rw lent_tail_lem (simp (length-drop, length-set) (omega (arith, room ((goal.at.encode_more-n-requires c).Joined-else-out-lt10), ap length (bytes ((goal.at.encode_more-n-requires c).Else-i-lt240))))) }
 
-pub overflow_add_result : goal.overflow_add_result
-overflow_add_result c = omega (arith, c.encode_more-n.ensures.value, ap length (bytes ((goal.at.overflow_add_result c).Else-i-lt240)), length_bounds c.args.i c.ranges.i.fits)
+pub overflow_add-result : goal.overflow_add-result
+overflow_add-result c = omega (arith, c.encode_more-n.ensures.value, ap length (bytes ((goal.at.overflow_add-result c).Else-i-lt240)), length_bounds c.args.i c.ranges.i.fits)
 
-pub shape_of_out : goal.shape_of_out
-shape_of_out c = ap length (both ((goal.at.shape_of_out c).After-slice_known-2-1) (room_one ((goal.at.shape_of_out c).Joined-else-out-lt10))) ∙ leaves_length (number_bytes c.args.i) c.args.out.now (room ((goal.at.shape_of_out c).Joined-else-out-lt10))
+pub shape_of-out : goal.shape_of-out
+shape_of-out c = ap length (both ((goal.at.shape_of-out c).After-slice_known-2-1) (room_one ((goal.at.shape_of-out c).Joined-else-out-lt10))) ∙ leaves_length (number_bytes c.args.i) c.args.out.now (room ((goal.at.shape_of-out c).Joined-else-out-lt10))
 
 pub returns : goal.returns
 returns c = let i = c.args.i in

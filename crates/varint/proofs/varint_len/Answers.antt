@@ -65,14 +65,14 @@ module _ (i : ℕ) where
         let more : reach row ≤ steps = ⊎_elim (λ l. absurd (omega (arith, t, one_bit row few_rows, (reached row steps).0 l))) (λ l. l) (lt_or_le steps (reach row)) in
         omega (arith, a_seventh, length_from i _ some fits b.below b.above (subst (λ (k : ℕ). reach k ≤ steps) a_seventh more))
 
-pub returns_then_i_lt240 : goal.returns_then_i_lt240
-returns_then_i_lt240 c = rw (bytes_one _ c.if-i-lt240.true)
+pub returns-then-i-lt240 : goal.returns-then-i-lt240
+returns-then-i-lt240 c = rw (bytes_one _ c.if-i-lt240.true)
 
-pub overflow_sub_k : goal.overflow_sub_k
-overflow_sub_k c = leading_le 64 _
+pub overflow_sub-k : goal.overflow_sub-k
+overflow_sub-k c = leading_le 64 _
 
-pub returns_then_steps_k : goal.returns_then_steps_k
-returns_then_steps_k c = shorter c.args.i c.if-i-lt240.false c.ranges.i.fits c.if-steps-k.true
+pub returns-then-steps-k : goal.returns-then-steps-k
+returns-then-steps-k c = shorter c.args.i c.if-i-lt240.false c.ranges.i.fits c.if-steps-k.true
 
-pub returns_else_steps_k : goal.returns_else_steps_k
-returns_else_steps_k c = longer c.args.i c.if-i-lt240.false c.ranges.i.fits c.if-steps-k.false
+pub returns-else-steps-k : goal.returns-else-steps-k
+returns-else-steps-k c = longer c.args.i c.if-i-lt240.false c.ranges.i.fits c.if-steps-k.false
