@@ -1,0 +1,11 @@
+-- `utf8::equal::eights_equal` meets its contract. The loop's invariant: the bytes up to `at` are the same.
+use mathlib.Core.Path.{◌≡◌}
+use Prim.Native.Nat.{◌-◌}
+use lib.ListN.{take}
+use Rattle.utf8.proofs.equal.eights_equal.Given as goal
+
+abbrev pub invariant-loop-at : goal.invariant-loop-at
+invariant-loop-at l = take l.at l.a ≡ take l.at l.b
+
+abbrev pub decreases-loop-at : goal.decreases-loop-at
+decreases-loop-at l = l.last - l.at
