@@ -5,15 +5,15 @@ use mathlib.Core.List.{List, [], ◌∷◌, ◌++◌}
 use mathlib.Core.Logic.{⊎_elim}
 use Prim.Native.Nat.{ℕ, ◌+◌, ◌-◌, ◌≤◌, ◌<◌}
 use native.Mathlib.Omega.{arith}
-use lib.ListN.{length, take, drop, get_or, set}
+use lib.ListN.{length, take, drop, set}
 use borrow.Rule.Slice.PartMut.{put_mid}
 use borrow.Author.Tests.{le-leb, lt-leb}
 use Rattle.answer.specs.declared.Written.{Written}
 use Rattle.answer.specs.Answer.{Answer, done, refused, written, within, tells}
 use Rattle.answer.specs.Writes.{counted, Writes}
 use Rattle.answer.proofs.Cases.{lt_or_le}
-use Rattle.answer.proofs.Output.{Partly, partly_none, partly_count, partly_all, leaves_length, leaves_byte}
-use Rattle.answer.proofs.Parts.{room_counted, room_leaves, both_start, both_room, both_count, both_leaves, copy_place, copy_next, copy_all}
+use Rattle.answer.proofs.Output.{leaves_length, leaves_byte}
+use Rattle.answer.proofs.Parts.{room_counted, room_leaves, both_start, both_room, both_count, both_leaves}
 use Rattle.types.specs.Form.{length_of}
 use Rattle.types.specs.Inner.{Puts}
 

@@ -2,7 +2,7 @@
 use Rattle.types.specs.declared.Value.{Value}
 use Rattle.std.specs.Prelude.{◌≡◌, Bool, true, false, List, ◌++◌, ℕ, ◌+◌, length, take, drop}
 use Rattle.answer.specs.Answer.{Answer, refused, behind, within, leaves, tells}
-use Rattle.types.specs.Value.{Shape, nothing, flag, integer, address, text, reserved, shape, Record, value, moved, content}
+use Rattle.types.specs.Value.{Shape, nothing, flag, integer, address, text, reserved, shape, Record, moved, content}
 use Rattle.types.specs.Form.{value_answer, length_of}
 use Rattle.types.specs.Promise.{record_of}
 
