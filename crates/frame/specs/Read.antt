@@ -1,5 +1,5 @@
 -- A frame, cut out and read up to its payload: SPOE.txt, section 3.2. Starts and places count from its first length byte.
-use Rattle.std.specs.Prelude.{Bool, List, [], ◌∷◌, ◌++◌, ℕ, ◌+◌, ◌-◌, ◌/◌, ◌%◌, ltb, leb, eqb, length, take, drop, get_or}
+use Rattle.std.specs.Prelude.{List, [], ◌∷◌, ◌++◌, ℕ, ◌+◌, ◌-◌, ◌/◌, ◌%◌, ltb, leb, eqb, length, take, drop, get_or}
 use Rattle.answer.specs.Answer.{Answer, done, refused, next, behind}
 use Rattle.answer.specs.Order.{in_order}
 use Rattle.answer.specs.Table.{some}

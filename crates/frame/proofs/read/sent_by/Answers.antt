@@ -1,5 +1,4 @@
 -- `frame::read::sent_by` meets its contract: a side's types are three in a row.
--- Assumes nothing.
 use borrow.Author.Rules.{rules}
 use mathlib.Core.Path.{◌≡◌, sym, ap, ◌∙◌}
 use mathlib.Core.Bool.{Bool, ◌&&◌}
@@ -11,14 +10,13 @@ use Rattle.frame.specs.declared.Side.{Side}
 use Rattle.frame.specs.declared.Side.TheVariants as side
 use Rattle.frame.specs.Read.{sender}
 use Rattle.frame.proofs.Heads.{three}
-use Rattle.frame.proofs.read.sent_by.Statement.{statement}
-use Rattle.frame.proofs.read.sent_by.Tie as tie
+use Rattle.frame.proofs.read.sent_by.Goals as goal
 
-enum_told : tie.Need-enum-told
-enum_told c = search rules
+pub enum_told-1 : goal.enum_told-1
+enum_told-1 c = search rules
 
-enum-told-2 : tie.Need-enum-told-2
-enum-told-2 c = search rules
+pub enum_told-in-Agents : goal.enum_told-in-Agents
+enum_told-in-Agents c = search rules
 
 -- of each side: from its first type on, up to its third, or not
 low : (x : Side) (k : ℕ) → x ≡ side.HAProxy → some (eqb k) (sender x).own ≡ leb 1 k && leb k 3
@@ -33,17 +31,14 @@ from first k q e h = sym (e ∙ ap (λ (b : Bool). b && q) (le-leb first k h))
 below : {p : Bool} (first k : ℕ) (q : Bool) → p ≡ leb first k && q → k < first → leb first k ≡ p
 below first k q e h = let z = lt-leb first k h in z ∙ sym (e ∙ ap (λ (b : Bool). b && q) z)
 
-returns : tie.Need-returns
-returns c = from 1 _ _ (low _ c.before.before.before.args.frame-type c.before.enum_told.given.1) c.if1.true
+pub returns-then-frame_type-ge-HAPROXY_HELLO : goal.returns-then-frame_type-ge-HAPROXY_HELLO
+returns-then-frame_type-ge-HAPROXY_HELLO c = from 1 _ _ (low _ c.args.frame_type c.in-HAProxy.is) c.if-frame_type-ge-HAPROXY_HELLO.true
 
-returns-2 : tie.Need-returns-2
-returns-2 c = below 1 _ _ (low _ c.before.before.before.args.frame-type c.before.enum_told.given.1) c.if1.false
+pub returns-else-frame_type-ge-HAPROXY_HELLO : goal.returns-else-frame_type-ge-HAPROXY_HELLO
+returns-else-frame_type-ge-HAPROXY_HELLO c = below 1 _ _ (low _ c.args.frame_type c.in-HAProxy.is) c.if-frame_type-ge-HAPROXY_HELLO.false
 
-returns-3 : tie.Need-returns-3
-returns-3 c = from 101 _ _ (high _ c.before.before.before.args.frame-type c.before.enum-told2.given.1) c.if2.true
+pub returns-then-frame_type-ge-AGENT_HELLO : goal.returns-then-frame_type-ge-AGENT_HELLO
+returns-then-frame_type-ge-AGENT_HELLO c = from 101 _ _ (high _ c.args.frame_type c.in-Agents.is) c.if-frame_type-ge-AGENT_HELLO.true
 
-returns-4 : tie.Need-returns-4
-returns-4 c = below 101 _ _ (high _ c.before.before.before.args.frame-type c.before.enum-told2.given.1) c.if2.false
-
-pub sent-by-spec : {M : Type 1} → statement M
-sent-by-spec = tie.close (tie.spec enum_told enum-told-2 returns returns-2 returns-3 returns-4)
+pub returns-else-frame_type-ge-AGENT_HELLO : goal.returns-else-frame_type-ge-AGENT_HELLO
+returns-else-frame_type-ge-AGENT_HELLO c = below 101 _ _ (high _ c.args.frame_type c.in-Agents.is) c.if-frame_type-ge-AGENT_HELLO.false
