@@ -1,6 +1,6 @@
 -- Laws about payloads that are accepted: one takes all of its bytes, and a refusal lies within them; and what it holds stands in a row, the pairs of a KV list,
 -- messages with their arguments, or actions.
-use mathlib.Core.Path.{◌≡◌, refl, sym, ap, ap₂, ◌∙◌}
+use mathlib.Core.Path.{◌≡◌, refl, sym, ap, ◌∙◌}
 use mathlib.Core.Bool.{Bool, true, false, not, ◌&&◌}
 use mathlib.Core.Logic.{⊎_elim}
 use mathlib.Core.List.{List, [], ◌∷◌, ◌++◌, map, append_assoc, append-nil}
@@ -12,7 +12,7 @@ use lib.Seq.{take_at, drop_at}
 use borrow.Author.Tests.{lt-ltb, le-ltb, le-leb, lt-leb, leb-true, ltb-true, not-true}
 use Rattle.answer.specs.Answer.{Answer, done, refused, behind}
 use Rattle.answer.specs.Order.{in_order}
-use Rattle.answer.specs.Row.{so_many, to_end}
+use Rattle.answer.specs.Row.{to_end}
 use Rattle.answer.specs.Inner.{InRow}
 use Rattle.answer.proofs.Cases.{lt_or_le}
 use Rattle.answer.proofs.Each.{Each}
@@ -35,7 +35,7 @@ use Rattle.payload.proofs.Rows.{from_next, run_on}
 use Rattle.payload.proofs.Actions.{action_inside, action_place, action_next}
 use Rattle.payload.proofs.Steps.{string_next, message_says, message_next}
 use Rattle.payload.proofs.Kept.{Within}
-use Rattle.answer.proofs.Row.{Row, row_as, Found, found_row, puts, Read, many_read, end_read, many_holds, end_holds, ends, next_ends, line_ends, many_ends, end_ends, end_all}
+use Rattle.answer.proofs.Row.{Row, row_as, Found, found_row, puts, many_read, end_read, many_holds, end_holds, ends, next_ends, line_ends, many_ends, end_ends, end_all}
 
 -- ---- one more of each sort
 

@@ -1,25 +1,22 @@
 -- Laws about filling tables: a table at whose front records stand takes one more behind them; and how far a pass is that fills three of them.
 use mathlib.Core.Path.{◌≡◌, refl, sym, ap, ap₂, subst, ◌∙◌}
-use mathlib.Core.Bool.{Bool, true, false, not, ◌&&◌}
+use mathlib.Core.Bool.{true, false, ◌&&◌}
 use mathlib.Core.Logic.{⊎_elim}
 use mathlib.Core.List.{List, [], ◌∷◌, ◌++◌, append-nil, append_assoc}
-use Prim.Native.Nat.{ℕ, zero, suc, ◌+◌, ◌-◌, ◌*◌, ◌/◌, ◌≤◌, ◌<◌}
+use Prim.Native.Nat.{ℕ, suc, ◌+◌, ◌*◌, ◌≤◌, ◌<◌}
 use native.Mathlib.Nat.{zero-mul, one-mul, add-mul}
 use native.Mathlib.Omega.{arith}
-use lib.Dec.{ltb, eqb}
+use lib.Dec.{eqb}
 use lib.ListN.{length, take, drop, length-append}
 use lib.Seq.{take_at, drop_at, drop-drop}
 use borrow.Author.Tests.{lt-ltb, le-ltb}
-use Rattle.answer.specs.Answer.{Answer, done, refused, written, leaves}
+use Rattle.answer.specs.Answer.{Answer, done, written, leaves}
 use Rattle.answer.specs.Order.{in_order}
 use Rattle.answer.specs.Table.{joined}
 use Rattle.answer.specs.declared.Refusal.{Refusal}
 use Rattle.answer.proofs.Cases.{lt_or_le, bool_cases, true_false, not_both}
 use Rattle.answer.proofs.Output.{leaves_length}
 use Rattle.answer.proofs.Records.{joined_none, joined_on, joined_both}
-use Rattle.frame.specs.declared.Pair.{Pair}
-use Rattle.frame.specs.declared.Message.{Message}
-use Rattle.frame.specs.declared.Action.{Action}
 use Rattle.frame.specs.Records.{message_width, message_numbers, pair_width, pair_numbers, action_width, action_numbers}
 use Rattle.payload.specs.declared.Counts.{Counts}
 use Rattle.payload.specs.declared.Cursor.{Cursor}
@@ -30,7 +27,7 @@ use Rattle.payload.specs.declared.Step.TheVariants as v
 use Rattle.payload.specs.declared.Payload.{Payload}
 use Rattle.payload.specs.Payload.{Contents, empty, met, payload}
 use Rattle.payload.specs.Item.{item_at}
-use Rattle.payload.specs.Promise.{rooms_of, Fills}
+use Rattle.payload.specs.Promise.{rooms_of}
 use Rattle.payload.specs.Inner.{began, after_item, follows, refused_at, tests, Stands, Goes, Fits, put_at, Stores, Accepted, Leaves}
 use Rattle.payload.proofs.Passing.{with_item, goes_start, stands_start, goes_then, Then}
 

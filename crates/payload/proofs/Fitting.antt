@@ -1,10 +1,9 @@
 -- Laws about room: records that were read into other tables are copied from there.
-use mathlib.Core.Path.{◌≡◌, refl, sym, ap, ap₂, ◌∙◌}
+use mathlib.Core.Path.{◌≡◌, refl, sym, ap, ◌∙◌}
 use mathlib.Core.List.{List}
-use Prim.Native.Nat.{ℕ, ◌*◌, ◌/◌, ◌≤◌, ◌<◌}
+use Prim.Native.Nat.{ℕ, ◌*◌, ◌≤◌, ◌<◌}
 use native.Mathlib.Omega.{arith}
 use lib.ListN.{length, take, drop, length-append}
-use lib.Dec.{leb}
 use lib.Seq.{take_at}
 use borrow.Author.Tests.{lt-leb}
 use Rattle.answer.specs.declared.Refusal.{Refusal}
@@ -23,7 +22,6 @@ use Rattle.payload.specs.Promise.{counts_of, payload_tells, rooms_of, Fills}
 use Rattle.payload.specs.Inner.{passed_said, Passes, Accepted, Leaves, LeavesAccepted}
 use Rattle.answer.proofs.Answers.{done_same}
 use Rattle.payload.proofs.Filling.{joined_width}
-use Rattle.payload.proofs.Kept.{Within}
 use Rattle.payload.proofs.Holding.{payload_fits}
 
 -- the front of a table that was filled

@@ -1,5 +1,5 @@
 -- What larger tables keep: an accepted payload, and every refusal but 10, which goes by the one table that was full.
-use mathlib.Core.Path.{◌≡◌, refl, sym, ap, ◌∙◌}
+use mathlib.Core.Path.{◌≡◌, refl, sym, ◌∙◌}
 use mathlib.Core.Bool.{Bool, true, false, cond, not, ◌&&◌}
 use mathlib.Core.List.{List}
 use Prim.Native.Nat.{ℕ, ◌≤◌, ◌<◌}
@@ -9,18 +9,15 @@ use lib.ListN.{length}
 use borrow.Author.Tests.{lt-ltb, ltb-true}
 use Rattle.answer.specs.Answer.{Answer, done, refused, next}
 use Rattle.answer.specs.Order.{in_order}
-use Rattle.answer.specs.Row.{so_many, to_end}
+use Rattle.answer.specs.Row.{so_many}
 use Rattle.answer.proofs.Cases.{bool_cases}
-use Rattle.frame.specs.declared.Pair.{Pair}
-use Rattle.frame.specs.declared.Message.{Message}
-use Rattle.frame.specs.declared.Action.{Action}
 use Rattle.payload.specs.declared.Counts.{Counts}
 use Rattle.payload.specs.declared.Payload.{Payload}
 use Rattle.payload.specs.declared.Payload.TheVariants as k
 use Rattle.payload.specs.Pair.{pair_from}
 use Rattle.payload.specs.Action.{action_from}
 use Rattle.payload.specs.Payload.{Contents, empty, with_message, with_pair, with_action, message_from, met, one_pair, one_message, one_action, one_of, payload}
-use Rattle.answer.proofs.Row.{Kept, KeptAs, kept_done, kept_refused, kept_same, kept_next, many_kept, end_kept}
+use Rattle.answer.proofs.Row.{KeptAs, kept_done, kept_refused, kept_same, kept_next, many_kept, end_kept}
 
 -- the tables that a payload's records go into
 pub data Table : Payload → Type 0 where

@@ -1,9 +1,9 @@
 -- Laws about bytes behind: what was read at a place, and what stands in a row, is so with more bytes behind it.
 use mathlib.Core.Path.{◌≡◌, sym, ap, ap₂, ◌∙◌}
 use mathlib.Core.List.{List, ◌++◌}
-use Prim.Native.Nat.{ℕ, ◌+◌, ◌≤◌, ◌<◌}
+use Prim.Native.Nat.{ℕ, ◌≤◌}
 use native.Mathlib.Omega.{arith}
-use lib.ListN.{length, drop, get_or, length-append, get_or-append}
+use lib.ListN.{length, drop, length-append, get_or-append}
 use lib.Seq.{drop-append-le}
 use Rattle.answer.specs.Answer.{Answer, done, behind}
 use Rattle.answer.proofs.Cases.{answer_cases, not_both}
@@ -12,7 +12,7 @@ use Rattle.types.proofs.Reading.{string_accepted, string_accepted_kept, typed_ac
 use Rattle.frame.specs.declared.Pair.{Pair}
 use Rattle.frame.specs.declared.Message.{Message}
 use Rattle.payload.specs.Pair.{moved_pair, pair, pair_from}
-use Rattle.payload.specs.Payload.{moved_span, string_from, message_of, message_from}
+use Rattle.payload.specs.Payload.{moved_span, message_of, message_from}
 use Rattle.payload.specs.Inner.{Run}
 use Rattle.payload.proofs.Pairs.{pair_cases, pair_key, pair_value, pair_whole}
 use Rattle.payload.proofs.Rows.{from_next}

@@ -6,11 +6,10 @@ use mathlib.Core.List.{List, []}
 use Prim.Native.Nat.{ℕ, ◌+◌, ◌-◌, ◌≤◌, ◌<◌}
 use native.Mathlib.Nat.{add-zero}
 use native.Mathlib.Omega.{arith}
-use lib.ListN.{length, take, drop, length-drop, drop_of_length-le}
+use lib.ListN.{length, drop, length-drop, drop_of_length-le}
 use Rattle.answer.specs.Answer.{Answer, done, refused, behind}
 use Rattle.answer.proofs.Cases.{not_both, answer_cases}
 use Rattle.answer.proofs.Answers.{done_same, refused_same}
-use Rattle.answer.proofs.Output.{lent_tail_lem}
 use Rattle.varint.proofs.Reading.{number_none}
 use Rattle.types.specs.Value.{Span, span, string, Record, value, points, shape, moved, typed}
 use Rattle.types.proofs.Reading.{string_refused, string_accepted, string_place, typed_accepted, typed_place}

@@ -5,14 +5,14 @@ use mathlib.Core.Logic.{⊎_elim}
 use mathlib.Core.List.{List, [], ◌∷◌, ◌++◌}
 use Prim.Native.Nat.{ℕ, zero, suc, ◌+◌, ◌-◌, ◌^◌, ◌≤◌, ◌<◌}
 use native.Mathlib.Omega.{arith}
-use lib.Dec.{ltb, leb, eqb}
+use lib.Dec.{eqb}
 use lib.ListN.{length, length-append}
 use borrow.Author.Tests.{lt-ltb, le-ltb, le-leb, eq-eqb, ne_eqb}
 use Rattle.answer.specs.declared.Refusal.{Refusal}
 use Rattle.answer.specs.Answer.{Answer, done, refused, next}
 use Rattle.answer.specs.Order.{in_order}
 use Rattle.answer.specs.Row.{so_many, to_end}
-use Rattle.answer.proofs.Cases.{lt_or_le, bool_cases, answer_cases, not_both}
+use Rattle.answer.proofs.Cases.{lt_or_le, bool_cases}
 use Rattle.frame.specs.declared.Pair.{Pair}
 use Rattle.frame.specs.declared.Message.{Message}
 use Rattle.frame.specs.declared.Action.{Action}
@@ -27,9 +27,9 @@ use Rattle.payload.specs.declared.Payload.{Payload}
 use Rattle.payload.specs.declared.Payload.TheVariants as k
 use Rattle.payload.specs.Pair.{pair_from}
 use Rattle.payload.specs.Action.{action_from}
-use Rattle.payload.specs.Payload.{Contents, empty, with_pair, with_message, with_action, message_from, met, one_pair, one_message, one_action, one_of, payload}
+use Rattle.payload.specs.Payload.{Contents, empty, with_pair, with_message, with_action, message_from, met, one_pair, one_of, payload}
 use Rattle.payload.specs.Item.{item_of, listed, item_at}
-use Rattle.payload.specs.Inner.{began, after_item, refused_at, tests, Low, KeyInside, Run, Stands, Goes, Passes}
+use Rattle.payload.specs.Inner.{began, after_item, tests, Low, KeyInside, Run, Stands, Goes, Passes}
 use Rattle.payload.proofs.Pairs.{from_lies}
 use Rattle.payload.proofs.Rows.{from_next, run_more}
 use Rattle.payload.proofs.Actions.{action_next}

@@ -1,16 +1,15 @@
 -- Laws about one more of each sort: what reading it comes to, test by test.
 use mathlib.Core.Path.{◌≡◌, refl, sym, ap, ◌∙◌}
-use mathlib.Core.Bool.{Bool, true, false, not, ◌&&◌}
+use mathlib.Core.Bool.{Bool, true, false, ◌&&◌}
 use mathlib.Core.Logic.{⊎_elim}
-use mathlib.Core.List.{List, [], ◌∷◌, ◌++◌}
+use mathlib.Core.List.{List}
 use Prim.Native.Nat.{ℕ, ◌+◌, ◌≤◌, ◌<◌}
 use native.Mathlib.Omega.{arith}
-use lib.Dec.{ltb}
 use lib.ListN.{length, drop, get_or, length-drop}
 use borrow.Author.Tests.{lt-ltb, le-ltb}
-use Rattle.answer.specs.Answer.{Answer, done, refused, next, behind}
+use Rattle.answer.specs.Answer.{Answer, done, refused, behind}
 use Rattle.answer.specs.Order.{in_order}
-use Rattle.answer.specs.Row.{so_many, to_end}
+use Rattle.answer.specs.Row.{so_many}
 use Rattle.answer.proofs.Cases.{lt_or_le, not_both}
 use Rattle.types.specs.Value.{Span, span, string}
 use Rattle.types.proofs.Reading.{string_accepted}

@@ -1,0 +1,24 @@
+-- `payload::fill::put_pair` meets its contract: six stores, one after the other.
+use native.Mathlib.Omega.{arith}
+use lib.ListN.{length-set}
+use lib.Seq.{sets-eq}
+use Rattle.frame.specs.Records.{pair_numbers}
+use Rattle.payload.proofs.fill.put_pair.Goals as goal
+
+pub returns : goal.returns
+returns c = sets-eq (pair_numbers c.args.pair) c.args.table.now 0 c.requires
+
+pub bounds-table-1 : goal.bounds-table-1
+bounds-table-1 c = simp length-set (omega arith)
+
+pub bounds-table-2 : goal.bounds-table-2
+bounds-table-2 c = simp length-set (omega arith)
+
+pub bounds-table-3 : goal.bounds-table-3
+bounds-table-3 c = simp length-set (omega arith)
+
+pub bounds-table-4 : goal.bounds-table-4
+bounds-table-4 c = simp length-set (omega arith)
+
+pub bounds-table-5 : goal.bounds-table-5
+bounds-table-5 c = simp length-set (omega arith)
