@@ -1,5 +1,5 @@
-// The calls under C names, as `include/spop.h` declares them. Each is thin over the call that it wraps, and its promise goes
-// through the same definitions.
+// The calls that a C program has, as `include/spop.h` declares them; crate `spop_c` exports them. Each is thin over the call that it wraps,
+// and its promise goes through the same definitions.
 //
 // A call answers a refusal's number, 0 for done, and `at` takes what goes with it: the bytes used or written, after a wait those that are
 // missing, or the place. Whatever else is lent changes only after 0.
@@ -36,23 +36,20 @@ use varint::NumberRead;
 
 const DONE: u64 = 0;
 
-#[unsafe(no_mangle)]
-pub extern "C" fn spop_varint_len(n: u64) -> u64
+pub fn spop_varint_len(n: u64) -> u64
     ensures { result ≡ length (number_bytes n) }
 {
     varint::varint_len(n) as u64
 }
 
-#[unsafe(no_mangle)]
-pub extern "C" fn spop_encode_varint(n: u64, out: &mut [u8], at: &mut u64) -> u64
+pub fn spop_encode_varint(n: u64, out: &mut [u8], at: &mut u64) -> u64
     ensures { Left (written (number_bytes n)) result at.new out.old out.new }
 {
     let answer = varint::encode_varint(n, out);
     tell(answer, at)
 }
 
-#[unsafe(no_mangle)]
-pub extern "C" fn spop_decode_varint(input: &[u8], value: &mut u64, at: &mut u64) -> u64
+pub fn spop_decode_varint(input: &[u8], value: &mut u64, at: &mut u64) -> u64
     ensures { SpopDecodeVarint input.now result at.new value.old value.new }
 {
     match varint::decode_varint(input) {
@@ -65,22 +62,19 @@ pub extern "C" fn spop_decode_varint(input: &[u8], value: &mut u64, at: &mut u64
     }
 }
 
-#[unsafe(no_mangle)]
-pub extern "C" fn spop_is_utf8(bytes: &[u8]) -> bool
+pub fn spop_is_utf8(bytes: &[u8]) -> bool
     ensures { result ≡ is_utf8 bytes.now }
 {
     utf8::is_utf8(bytes)
 }
 
-#[unsafe(no_mangle)]
-pub extern "C" fn spop_same_text(a: &[u8], b: &[u8]) -> bool
+pub fn spop_same_text(a: &[u8], b: &[u8]) -> bool
     ensures { result ≡ same_text a.now b.now }
 {
     utf8::same_text(a, b)
 }
 
-#[unsafe(no_mangle)]
-pub extern "C" fn spop_same_text_plain(
+pub fn spop_same_text_plain(
     a: &[u8],
     b: &[u8],
     a_text: &mut [u8],
@@ -100,16 +94,14 @@ pub extern "C" fn spop_same_text_plain(
     }
 }
 
-#[unsafe(no_mangle)]
-pub extern "C" fn spop_lossy_text(bytes: &[u8], out: &mut [u8], at: &mut u64) -> u64
+pub fn spop_lossy_text(bytes: &[u8], out: &mut [u8], at: &mut u64) -> u64
     ensures { Left (written (lossy bytes.now)) result at.new out.old out.new }
 {
     let answer = utf8::lossy_text(bytes, out);
     tell(answer, at)
 }
 
-#[unsafe(no_mangle)]
-pub extern "C" fn spop_typed_data(input: &[u8], value: &mut [u64; VALUE_WIDTH], at: &mut u64) -> u64
+pub fn spop_typed_data(input: &[u8], value: &mut [u64; VALUE_WIDTH], at: &mut u64) -> u64
     ensures { SpopTypedData input.now result at.new value.old value.new }
 {
     match types::typed_data(input) {
@@ -122,22 +114,19 @@ pub extern "C" fn spop_typed_data(input: &[u8], value: &mut [u64; VALUE_WIDTH], 
     }
 }
 
-#[unsafe(no_mangle)]
-pub extern "C" fn spop_value_len(value: &[u64; VALUE_WIDTH], buffer: &[u8]) -> u64
+pub fn spop_value_len(value: &[u64; VALUE_WIDTH], buffer: &[u8]) -> u64
     ensures { result ≡ length_of (value_answer buffer.now (record_in value.now)) }
 {
     types::value_len(value_of(value), buffer) as u64
 }
 
-#[unsafe(no_mangle)]
-pub extern "C" fn spop_check_value(value: &[u64; VALUE_WIDTH], buffer: &[u8]) -> u64
+pub fn spop_check_value(value: &[u64; VALUE_WIDTH], buffer: &[u8]) -> u64
     ensures { result ≡ in_order (value_checks buffer.now (record_in value.now)) 0 }
 {
     types::check_value(value_of(value), buffer)
 }
 
-#[unsafe(no_mangle)]
-pub extern "C" fn spop_write_value(
+pub fn spop_write_value(
     value: &[u64; VALUE_WIDTH],
     buffer: &[u8],
     out: &mut [u8],
@@ -161,8 +150,7 @@ fn value_of(value: &[u64; VALUE_WIDTH]) -> Value
     }
 }
 
-#[unsafe(no_mangle)]
-pub extern "C" fn spop_read_pair(input: &[u8], pair: &mut [u64; PAIR_WIDTH], at: &mut u64) -> u64
+pub fn spop_read_pair(input: &[u8], pair: &mut [u64; PAIR_WIDTH], at: &mut u64) -> u64
     ensures { SpopReadPair input.now result at.new pair.old pair.new }
 {
     match payload::read_pair(input) {
@@ -182,8 +170,7 @@ pub extern "C" fn spop_read_pair(input: &[u8], pair: &mut [u64; PAIR_WIDTH], at:
     }
 }
 
-#[unsafe(no_mangle)]
-pub extern "C" fn spop_read_frame(
+pub fn spop_read_frame(
     input: &[u8],
     limit: u32,
     messages: &mut [u64],
@@ -198,8 +185,7 @@ pub extern "C" fn spop_read_frame(
 }
 
 // The same with pair records for the pairs' numbers. It takes a slice of structs, so its proof is a walk by hand, and it only calls.
-#[unsafe(no_mangle)]
-pub extern "C" fn spop_read_frame_records(
+pub fn spop_read_frame_records(
     input: &[u8],
     limit: u32,
     messages: &mut [u64],
@@ -214,8 +200,7 @@ pub extern "C" fn spop_read_frame_records(
 }
 
 // The same for what agents send.
-#[unsafe(no_mangle)]
-pub extern "C" fn spop_read_agent_frame(
+pub fn spop_read_agent_frame(
     input: &[u8],
     limit: u32,
     pairs: &mut [u64],
@@ -230,8 +215,7 @@ pub extern "C" fn spop_read_agent_frame(
 }
 
 // All frames of a receive buffer. It answers what stopped it, so never 0, and `counts` is always set.
-#[unsafe(no_mangle)]
-pub extern "C" fn spop_read_frames(
+pub fn spop_read_frames(
     input: &[u8],
     limit: u32,
     rows: &mut [u64],
@@ -260,8 +244,7 @@ pub extern "C" fn spop_read_frames(
     }
 }
 
-#[unsafe(no_mangle)]
-pub extern "C" fn spop_write_kv(
+pub fn spop_write_kv(
     kind: u64,
     fin: bool,
     abort: bool,
@@ -282,8 +265,7 @@ pub extern "C" fn spop_write_kv(
     tell(answer, at)
 }
 
-#[unsafe(no_mangle)]
-pub extern "C" fn spop_write_actions(
+pub fn spop_write_actions(
     fin: bool,
     abort: bool,
     stream_id: u64,
@@ -311,8 +293,7 @@ pub extern "C" fn spop_write_actions(
     tell(answer, at)
 }
 
-#[unsafe(no_mangle)]
-pub extern "C" fn spop_write_notify(
+pub fn spop_write_notify(
     fin: bool,
     abort: bool,
     stream_id: u64,
@@ -344,8 +325,7 @@ pub extern "C" fn spop_write_notify(
     tell(answer, at)
 }
 
-#[unsafe(no_mangle)]
-pub extern "C" fn spop_negotiate_max_frame_size(theirs: u32, ours: u32, at: &mut u64) -> u64
+pub fn spop_negotiate_max_frame_size(theirs: u32, ours: u32, at: &mut u64) -> u64
     ensures { Told (frame_size theirs ours) result at.new }
 {
     match hello::negotiate_max_frame_size(theirs, ours) {
@@ -357,8 +337,7 @@ pub extern "C" fn spop_negotiate_max_frame_size(theirs: u32, ours: u32, at: &mut
     }
 }
 
-#[unsafe(no_mangle)]
-pub extern "C" fn spop_negotiate_version(versions: &[u64], version: &mut [u64; 3]) -> bool
+pub fn spop_negotiate_version(versions: &[u64], version: &mut [u64; 3]) -> bool
     ensures { SpopNegotiateVersion versions.now result version.old version.new }
 {
     match hello::negotiate_version(versions) {
