@@ -6,10 +6,13 @@
 
 sum_of() { sha256sum | cut -d ' ' -f 1; }
 
-# The crates of this repository that a crate is built on, itself among them.
+# The crates that crates.txt lists, in its order, each with what is behind the colon.
+listed_crates() { sed -nE 's/#.*//; s/^[[:space:]]*([a-z0-9_]+)([^:]*):(.*)$/\1 \3/p' "$top/crates.txt"; }
+
+# The crates of this repository that a crate is built on, itself among them, in the order of crates.txt.
 reached_crates() { # CRATE
-    sed 's/#.*//' "$top/crates.txt" | awk -F: -v crate="$1" '
-        NF > 1 { gsub(/[ \t]/, "", $1); listed[$1] = 1; deps[$1] = $2 }
+    listed_crates | awk -v crate="$1" '
+        { names[NR] = $1; listed[$1] = 1; deps[$1] = substr($0, length($1) + 1) }
         END {
             reached[crate] = more = 1
             while (more) {
@@ -19,22 +22,26 @@ reached_crates() { # CRATE
                     for (i = 1; i <= many; i++) if (!(each[i] in reached)) reached[each[i]] = more = 1
                 }
             }
-            for (name in listed) if (name in reached) print name
+            for (i = 1; i <= NR; i++) if (names[i] in reached) print names[i]
         }'
 }
 
-# The sum of the kit's identity, the processor's name, crates.txt, these files, and all files of the crates but their must-fail.
+# Asks the kit for its identity, once.
+ask_kit() { [ -n "${kit_line-}" ] || kit_line=$(rt version); }
+
+# The sum of the kit's identity, the processor's name, crates.txt, these files, and all files of the crates but their must-fail and what is
+# made in out.
 sum_of_inputs() { # CRATE FILE..
     local crate=$1 folders
     shift
+    ask_kit || return
     mapfile -t folders < <(reached_crates "$crate" | sed 's,^,crates/,')
     (
         set -o pipefail
         cd "$top" || exit
-        kit=$(rt version) || exit
         {
-            echo "$kit $(uname -m)"
-            find crates.txt tools/made.sh "$@" "${folders[@]}" -name must-fail -prune -o -type f -print0 |
+            echo "$kit_line $(uname -m)"
+            find crates.txt tools/made.sh "$@" "${folders[@]}" \( -name must-fail -o -name out \) -prune -o -type f -print0 |
                 LC_ALL=C sort -z | xargs -0 sha256sum
         } | sum_of
     )
@@ -53,4 +60,41 @@ note_made() { # FILE INPUTS
     note=$(note_of "$1")
     mkdir -p "$(dirname "$note")"
     echo "$2 $(sum_of <"$1")" >"$note"
+}
+
+# ---- what the gate leaves
+
+# `rt ci` leaves each program and each library that it proved in the crate's out/. The program is that file; of a library, which is a
+# folder, it is the one that holds the sum of the others.
+program_of() { echo "$top/crates/$1/out/$1"; }           # CRATE
+library_of() { echo "$top/crates/$1/out/rlib/$1.rlib"; } # CRATE
+mark_of_library() { echo "$(library_of "$1")/format"; }  # CRATE
+
+# The sums of what each crate is made from, a line for each.
+sums_of_all() {
+    local crate rest
+    ask_kit || return
+    listed_crates | while read -r crate rest; do
+        echo "$crate $(sum_of_inputs "$crate")" || exit
+    done
+}
+
+# Notes what the gate left as made, where nothing that it read has changed since these sums were taken.
+note_left() { # SUMS
+    local crate sum file
+    [ "$(sums_of_all)" = "$1" ] || return 0
+    while read -r crate sum; do
+        for file in "$(program_of "$crate")" "$(mark_of_library "$crate")"; do
+            [ ! -f "$file" ] || note_made "$file" "$sum"
+        done
+    done <<<"$1"
+}
+
+# Whether the libraries that a crate is built on are those that the gate proved.
+are_left() { # CRATE
+    local name
+    ask_kit || return
+    while read -r name; do
+        [ "$name" = "$1" ] || is_made "$(mark_of_library "$name")" "$(sum_of_inputs "$name")" || return
+    done < <(reached_crates "$1")
 }

@@ -44,70 +44,78 @@ end_child() {
         rest 0.1
     done
     kill -KILL -- "-$child" 2>/dev/null || true
-    [ -z "${mark-}" ] || rm -f "$mark"
     [ ! -t 2 ] || echo >&2
 }
 
-# Runs a command that proves a crate and those it is built on, with what it says in a log, and shows what is proved: on a terminal in
-# one line that moves, elsewhere in a line for each crate. Where all is proved already nothing is shown.
+# Runs a command of rt's that proves a crate and those it is built on, with what it says in a log, and shows what is proved: on a terminal
+# in one line that moves, elsewhere in a line for each crate. Where all is proved already nothing is shown.
 #
 # How long it will take is told from the size of what is left. At first that is 6,500 bytes a second, as on two idle cores, and then
 # more and more what it is here.
 proving() { # CRATE LOG COMMAND..
-    local crate=$1 log=$2 here mark crates name status=0 unless=failed began=$SECONDS all=0 proved_bytes=0 running_bytes=0 proved=0
+    local crate=$1 log=$2 here crates name status=0 began=$SECONDS all=0 proved_bytes=0 running_bytes=0 proved=0
     local -A size=() since=() ended=()
     shift 2
     here=$(basename "$0")
     mapfile -t crates < <(reached_crates "$crate")
     for name in "${crates[@]}"; do
-        size[$name]=$(find "$top/crates/$name" -name must-fail -prune -o -type f -printf '%s\n' | awk '{ all += $1 } END { print all + 0 }')
+        size[$name]=$(find "$top/crates/$name" \( -name must-fail -o -name out \) -prune -o -type f -printf '%s\n' |
+            awk '{ all += $1 } END { print all + 0 }')
         all=$((all + size[$name]))
     done
-    mkdir -p "$top/target/log"
-    mark=$(mktemp "$top/target/log/.proving.XXXXXX")
-    # A file's time goes in steps of some milliseconds: what the prover leaves is to be newer than the mark.
-    rest 0.05
+    mkdir -p "$(dirname "$log")"
+    : >"$log"
     start_child "$@" >"$log" 2>&1 </dev/null
     while kill -0 "$child" 2>/dev/null; do
         look_at_crates
         rest 0.5
     done
     wait_for_child || status=$?
-    [ "$status" -ne 0 ] || unless=proved
     look_at_crates
-    rm -f "$mark"
     if [ -t 2 ] && [ ${#since[@]} -gt 0 ]; then printf '\r\033[K' >&2; fi
     [ "$status" -ne 0 ] || [ "$proved" -eq 0 ] || echo "$here: crates proved: $proved, in $((SECONDS - began)) s" >&2
     return "$status"
 }
 
-# Looks at what the prover has left in target/log since it was started: NAME.say as soon as it is at a crate, and NAME.res with a word,
-# which is `failed` until the crate is proved. The library that is made last has none.
+# Looks at what rt has said. It proves one crate after the other, in the order of crates.txt, and says `chose --jobs` of each that it begins
+# with, and rattle `logic=proved` where that is proved. Of a crate with nothing to do nothing is said.
 look_at_crates() {
-    local name word running='' seconds
+    local what word name='' running='' seconds
     running_bytes=0
-    for name in "${crates[@]}"; do
-        [ -z "${ended[$name]-}" ] || continue
-        word=$unless
-        [ ! "$top/target/log/$name.res" -nt "$mark" ] || read -r word <"$top/target/log/$name.res" || true
-        if [ "$top/target/log/$name.say" -nt "$mark" ]; then
-            [ ${#since[@]} -gt 0 ] || [ -t 2 ] || echo "$here: proving $crate and what it is built on$(left)" >&2
-            : "${since[$name]:=$SECONDS}"
-            seconds=$((SECONDS - since[$name]))
+    while read -r what word; do
+        if [ "$what" = at ]; then
+            name=$word
+            begin_crate "$name"
+        elif [ -n "$name" ]; then
+            end_crate "$name"
         fi
-        if [ "$word" = failed ] && [ -n "${since[$name]-}" ]; then
-            running="$running${running:+, }$name $seconds s"
-            running_bytes=$((running_bytes + (seconds * 6500 < size[$name] ? seconds * 6500 : size[$name])))
-        elif [ "$word" != failed ] && [ -n "${since[$name]-}" ]; then
-            ended[$name]=$word proved=$((proved + 1)) proved_bytes=$((proved_bytes + size[$name]))
-            [ -t 2 ] || echo "$here: crate ${#ended[@]} of ${#crates[@]}: $name, $seconds s$(left)" >&2
-        elif [ "$word" != failed ]; then
-            ended[$name]=unchanged all=$((all - size[$name]))
-        fi
-    done
+    done < <(sed -nE 's/^rt: chose --jobs [0-9]+ for ([a-z0-9_]+)$/at \1/p; s/^logic=proved .*/proved/p' "$log")
+    if [ -n "$name" ] && [ -z "${ended[$name]-}" ]; then
+        seconds=$((SECONDS - since[$name]))
+        running="$name $seconds s"
+        running_bytes=$((seconds * 6500 < size[$name] ? seconds * 6500 : size[$name]))
+    fi
     if [ -z "$running" ] || [ ! -t 2 ]; then return; fi
     running="$here: crate $((${#ended[@]} + 1)) of ${#crates[@]}: $running$(left)"
     printf '\r\033[K%s' "${running:0:79}" >&2
+}
+
+# A crate is begun with, so those before it that were not have nothing to do.
+begin_crate() { # CRATE
+    local each
+    [ -z "${since[$1]-}" ] || return 0
+    for each in "${crates[@]}"; do
+        [ "$each" != "$1" ] || break
+        if [ -z "${since[$each]-}${ended[$each]-}" ]; then ended[$each]=unchanged all=$((all - size[$each])); fi
+    done
+    [ ${#since[@]} -gt 0 ] || [ -t 2 ] || echo "$here: proving $crate and what it is built on$(left)" >&2
+    since[$1]=$SECONDS
+}
+
+end_crate() { # CRATE
+    [ -z "${ended[$1]-}" ] || return 0
+    ended[$1]=proved proved=$((proved + 1)) proved_bytes=$((proved_bytes + size[$1]))
+    [ -t 2 ] || echo "$here: crate ${#ended[@]} of ${#crates[@]}: $1, $((SECONDS - since[$1])) s$(left)" >&2
 }
 
 # How long it will take, in words; none where by its size all should be proved.
