@@ -13,7 +13,7 @@ TOKEN = re.compile(rf'"(?:\\.|[^"\\])*"|{NAME}(?:\.{NAME})*|\.{NAME}|\S')
 ANTT_COMMENT = re.compile(r'("(?:\\.|[^"\\])*"|«[^»]*»)|\{-.*?-\}|(?<![^\s(){}.;,@"«»])--[^\n]*', re.S)
 RT_COMMENT = re.compile(r'("[^"\\\n]?")|"(?:\\.|[^"\\])*"|//[^\n]*', re.S)
 FUNCTION = re.compile(r'\b(pub(?:\([^)]*\))?\s+)?(?:(?:const|unsafe|extern(?:\s*"[^"]*")?)\s+)*fn\s+(\w+)')
-CLAUSE = re.compile(r"(?:[^{};\[]|\[[^]]*\])*?\b(requires|ensures)\s*(?=\{)")
+CLAUSE = re.compile(r"(?:[^{};\[]|\[[^]]*\])*?\b(requires|ensures)\b[\s*]*(?:\w+\s*)?(?=\{)")
 GROUPS = {"(": ")", "{": "}"}
 
 faults = []
@@ -110,7 +110,7 @@ def read_antt(module):
             module.own.update((word, last) for word in last.constructors | {name} if word)
         elif last and kind not in ("mod", "open", "ruleset"):
             last.chunks.append(chunk)
-        elif kind != "mod":
+        elif kind != "mod" and not (kind in ("open", "ruleset") and module.file.startswith("proofs/")):
             module.fault(f"line {chunk.first}", "this declaration cannot be read here")
     for chunk, section in fixities:
         owner = module.own.get(chunk.words()[-1], section)
@@ -154,19 +154,20 @@ def closing(text, at):
 
 
 def functions_of(module):
-    """Each function's name, whether it is public, its parameters, and its `requires` and `ensures`, word by word, with what it
-    is lent to change."""
+    """Each function's name, whether it is public, its parameters, and its `requires` and `ensures`, word by word, with the text of the latter
+    and what it is lent to change."""
     for head in FUNCTION.finditer(module.code):
         at = module.code.index("(", head.end())
         end = closing(module.code, at)
         parameters = set(re.findall(r"(\w+)\s*:(?!:)", module.code[at:end])) | {"self"}
-        clauses, place = {"requires": [], "ensures": []}, end + 1
+        clauses, place = {"requires": [], "ensures": [], "text": []}, end + 1
         clauses["lent"] = re.findall(r"(\w+)\s*:\s*&mut\b", module.code[at:end])
         while found := CLAUSE.match(module.code, place):
             place = closing(module.code, found.end()) + 1
             # A parameter is quoted, as «pair_count», where antt would read its name as an operator's.
-            words = TOKEN.findall(module.code[found.end() + 1 : place - 1])
-            clauses[found[1]].append([word[1:-1] if word[1:-1] in parameters else word for word in words])
+            text = module.code[found.end() + 1 : place - 1]
+            clauses[found[1]].append([word[1:-1] if word[1:-1] in parameters else word for word in TOKEN.findall(text)])
+            clauses["text"] += [" ".join(text.split())] * (found[1] == "ensures")
         yield head[2], (head[1] or "").strip() == "pub", parameters, clauses
 
 
@@ -174,12 +175,14 @@ def functions_of(module):
 
 
 class Sources:
-    """The libraries that crates.txt lists, in its order, with their files."""
+    """The libraries that crates.txt lists, in its order, with their files. Those that are static are over another one, whose calls they
+    export, and have no definitions."""
 
     def __init__(self):
         lines = [line.split("#")[0] for line in (TOP / "crates.txt").read_text().split("\n")]
-        names = [line.split(":")[0].strip() for line in lines if ":" in line]
-        self.crates = [name for name in names if (TOP / "crates" / name / "src" / "lib.rt").is_file()]
+        heads = [line.split(":")[0].split() for line in lines if ":" in line]
+        self.crates = [head[0] for head in heads if (TOP / "crates" / head[0] / "src" / "lib.rt").is_file()]
+        self.static = {head[0] for head in heads if "staticlib" in head}
         self.modules = {}
         for crate in self.crates:
             for folder in ("specs", "proofs", "src"):
@@ -201,7 +204,7 @@ class Sources:
 
     def find(self, path, module):
         """The definition at the end of a whole path, or nothing where it is the kit's or a type of src/."""
-        parts = re.fullmatch(r"(?:package\.)?Rattle·([^.·]+)(?:·\w+)?\.(\w+)\.([^.]+)\.([^.]+).*", path)
+        parts = re.fullmatch(r"Rattle\.(\w+)\.(specs|proofs)\.([^.]+)\.([^.]+).*", path)
         if not parts or parts[1] not in self.crates or parts[3] == "declared":
             return None
         owner = self.modules.get(parts.group(1, 2, 3))
@@ -218,8 +221,8 @@ class Sources:
             # Modules first, since a line may name a definition by the name that another line gives to its module.
             for use in sorted(module.uses, key=lambda use: ".{" in use):
                 self.bring(module, *use.partition(".{")[::2])
-            for name in (name for name in module.scope if "_" in name and "«" not in name and module.scope[name]):
-                module.parts.update((part, module.scope[name]) for part in name.split("_") if part)
+            for name in (name for name in module.scope if "◌" in name and "«" not in name and module.scope[name]):
+                module.parts.update((part, module.scope[name]) for part in name.split("◌") if part)
         return module.scope
 
     def bring(self, module, path, leaves):
@@ -240,10 +243,10 @@ class Sources:
     def resolve(self, word, module):
         """The definition of this repository that a word stands for, or nothing."""
         head, _, rest = word.partition(".")
-        found = self.scope(module).get(head) or module.parts.get(head.strip("_"))
+        found = self.scope(module).get(head) or module.parts.get(head.strip("◌"))
         if isinstance(found, str):
             found = self.find(f"{found}.{rest}", module) if rest else None
-        return found or (self.find(word, module) if "Rattle·" in head else None)
+        return found or (self.find(word, module) if head == "Rattle" else None)
 
     def named(self, words, module):
         return {found for found in (self.resolve(word, module) for word in words) if found}
