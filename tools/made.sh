@@ -79,14 +79,15 @@ sums_of_all() {
     done
 }
 
-# Notes what the gate left as made, where nothing that it read has changed since these sums were taken.
-note_left() { # SUMS
-    local crate sum file
+# Notes as made what the gate left since a file was, where nothing that it read has changed since these sums were taken. Libraries that
+# were there before it are put back when it ends, and they may be of other sources.
+note_left() { # SUMS FILE
+    local crate sum program library
     [ "$(sums_of_all)" = "$1" ] || return 0
     while read -r crate sum; do
-        for file in "$(program_of "$crate")" "$(mark_of_library "$crate")"; do
-            [ ! -f "$file" ] || note_made "$file" "$sum"
-        done
+        program=$(program_of "$crate") library=$(library_of "$crate")
+        if [ -f "$program" ] && [ "$program" -nt "$2" ]; then note_made "$program" "$sum"; fi
+        if [ -d "$library" ] && [ "$library" -nt "$2" ]; then note_made "$(mark_of_library "$crate")" "$sum"; fi
     done <<<"$1"
 }
 
