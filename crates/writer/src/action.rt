@@ -16,7 +16,7 @@ use frame::{ACTION_WIDTH, Action, Head, SET_VAR, UNSET_VAR};
 use types::{Measured, Value};
 
 // Whether a value's four numbers are 0.
-fn no_value_lem(value: Value) -> bool
+fn no_value(value: Value) -> bool
     ensures { result ≡ no_value (record_of value) }
 {
     if value.kind != 0 {
@@ -44,7 +44,7 @@ fn action_writable(action: Action) -> bool
     if action.verb != UNSET_VAR {
         return false;
     }
-    no_value_lem(action.pair.value)
+    no_value(action.pair.value)
 }
 
 // What an action is refused with: 14, 16 or 15, the first that holds; else 0, and how many bytes its written form has, as far as it matters.
