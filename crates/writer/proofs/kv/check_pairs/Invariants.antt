@@ -1,0 +1,13 @@
+-- `writer::kv::check_pairs` meets its contract: the loop checks and measures one record after the other, each key against those before.
+use Prim.Native.Nat.{◌-◌, ◌≤◌}
+use Rattle.frame.specs.Records.{pair_at}
+use Rattle.writer.specs.Pair.{pair_bytes, kv_checks}
+use Rattle.writer.proofs.Checking.{Checking}
+use Rattle.writer.proofs.kv.check_pairs.Given as goal
+
+abbrev pub invariant-loop-i : goal.invariant-loop-i
+invariant-loop-i l =
+    (l.i ≤ l.count) × Checking (kv_checks l.buffer l.pairs) (pair_bytes l.buffer) (pair_at l.pairs) l.most l.len l.i
+
+abbrev pub decreases-loop-i : goal.decreases-loop-i
+decreases-loop-i l = l.count - l.i
