@@ -4,7 +4,7 @@ use mathlib.Core.List.{List, ◌++◌}
 use Prim.Native.Nat.{ℕ, ◌*◌, ◌≤◌}
 use lib.ListN.{length, take, drop}
 use lib.Seq.{take_at, drop_at}
-use Rattle.answer.specs.Answer.{Answer, done, refused, written, leaves}
+use Rattle.answer.specs.Answer.{done, refused, written, leaves}
 use Rattle.answer.specs.Table.{joined}
 use Rattle.answer.proofs.Cases.{not_both}
 use Rattle.frame.specs.declared.Head.{Head}

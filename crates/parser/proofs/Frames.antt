@@ -1,7 +1,5 @@
 -- Laws about a whole frame: what it comes to by its head and its payload, and what an accepted one is.
-use mathlib.Core.Path.{◌≡◌, refl, sym, ap, ap₂, subst, ◌∙◌}
-use mathlib.Core.Bool.{Bool, true, false, ◌&&◌}
-use mathlib.Core.Logic.{◌⊎◌, inl, inr, ⊎_elim}
+use mathlib.Core.Path.{◌≡◌, sym, ap, ap₂, ◌∙◌}
 use mathlib.Core.List.{List, []}
 use Prim.Native.Nat.{ℕ, ◌+◌, ◌≤◌}
 use native.Mathlib.Omega.{arith}
@@ -10,17 +8,16 @@ use lib.ListN.{length, take}
 use lib.Seq.{length-take-le}
 use borrow.Author.Tests.{leb-true, eqb-true, eqb-false}
 use Rattle.answer.specs.Answer.{Answer, done, refused, next}
-use Rattle.answer.specs.Table.{some}
 use Rattle.answer.proofs.Cases.{bool_cases, both_true}
 use Rattle.frame.specs.declared.Head.{Head}
 use Rattle.frame.specs.declared.Side.{Side}
 use Rattle.frame.specs.declared.Side.TheVariants as side
 use Rattle.frame.specs.Head.{four_number}
-use Rattle.frame.specs.Read.{Reading, answered, onward, cut, Sender, sender, head, haproxy_types, agent_types}
-use Rattle.frame.proofs.Answers.{answered_same, onward_done}
+use Rattle.frame.specs.Read.{Reading, answered, onward, cut, Sender, sender, head}
+use Rattle.frame.proofs.Answers.{onward_done}
 use Rattle.answer.proofs.Answers.{done_same, next_done}
 use Rattle.frame.proofs.Cutting.{cut_out}
-use Rattle.frame.proofs.Heads.{HeadSays, head_says, three}
+use Rattle.frame.proofs.Heads.{head_says, three}
 use Rattle.payload.specs.declared.Counts.{Counts}
 use Rattle.payload.specs.declared.Payload.{Payload}
 use Rattle.payload.specs.declared.Payload.TheVariants as k
