@@ -21,18 +21,18 @@ unset_room : (t : Else-action-eq-SET_VAR) → let a = t.args in length ((2 ∷ 2
 unset_room t = rw (unset_bytes t.args.buffer.now t.args.action t.if-action-eq-SET_VAR.false) at t.requires.action_in_bounds
 
 name_room : (w : After-write_string)
-    → let a = ((w.before.before.before.before.before.before.before.before.before.before.before.before)).args in
+    → let a = w.args in
     let out = w.put_three-2.new.out in
     length (string_bytes (key_of a.buffer.now a.action.pair)) ≤ length (take (length out - 3) (drop 3 out))
 name_room w =
-    let a = ((w.before.before.before.before.before.before.before.before.before.before.before.before)).args in
-    both_room ((2 ∷ 2 ∷ w.args.action.scope ∷ [])) (string_bytes (key_of a.buffer.now a.action.pair)) a.out.now _ 3 refl w.put_three-2.ensures (unset_room (@@["let a = w.args in length ((2 \u2237 2 \u2237 w.args.action.scope \u2237 []) ++ string_bytes (key_of a.buffer.now a.action.pair)) \u2264 length a.out.now", "rw (unset_bytes w.args.buffer.now w.args.action w.if-action-eq-SET_VAR.false) at w.requires.action_in_bounds"]@@))
+    let a = w.args in
+    let room : length ((2 ∷ 2 ∷ a.action.scope ∷ []) ++ string_bytes (key_of a.buffer.now a.action.pair)) ≤ length a.out.now
+        = rw (unset_bytes a.buffer.now a.action w.if-action-eq-SET_VAR.false) at w.requires.action_in_bounds in
+    both_room (2 ∷ 2 ∷ a.action.scope ∷ []) (string_bytes (key_of a.buffer.now a.action.pair)) a.out.now _ 3 refl w.put_three-2.ensures room
 
-name_count : (c : After-wrote)
-    → let a = ((((goal.at.overflow_add-result-2 c).Start))).args in
-    c.wrote.result ≡ length (string_bytes (key_of a.buffer.now a.action.pair))
+name_count : (c : After-wrote) → let a = c.args in c.wrote.result ≡ length (string_bytes (key_of a.buffer.now a.action.pair))
 name_count c =
-    let a = ((((goal.at.overflow_add-result-2 c).Start))).args in
+    let a = c.args in
     string_count a.buffer.now a.action.pair.start a.action.pair.len c.write_string.ensures c.wrote.ensures (name_room ((goal.at.overflow_add-result-2 c).After-write_string))
 
 pub overflow_cast-action : goal.overflow_cast-action
@@ -66,13 +66,13 @@ pub returns-then-action-eq-SET_VAR-clause-value : goal.returns-then-action-eq-SE
 returns-then-action-eq-SET_VAR-clause-value c = let a = c.args in
     let front = (1 ∷ 3 ∷ c.args.action.scope ∷ []) in
     let rest = pair_bytes a.buffer.now a.action.pair in
-    rw (set_bytes a.buffer.now a.action c.if-action-eq-SET_VAR.true) (both_count front rest a.out.now _ 3 refl c.put_three.ensures (set_room ((goal.at.returns-then-action-eq-SET_VAR c).Then-action-eq-SET_VAR)) _ c.put_pair.ensures.value)
+    rw (set_bytes a.buffer.now a.action c.if-action-eq-SET_VAR.true) (both_count front rest a.out.now _ 3 refl c.put_three.ensures (set_room ((goal.at.returns-then-action-eq-SET_VAR-clause-value c).Then-action-eq-SET_VAR)) _ c.put_pair.ensures.value)
 
 pub returns-then-action-eq-SET_VAR-clause-out_after : goal.returns-then-action-eq-SET_VAR-clause-out_after
 returns-then-action-eq-SET_VAR-clause-out_after c = let a = c.args in
     let front = (1 ∷ 3 ∷ c.args.action.scope ∷ []) in
     let rest = pair_bytes a.buffer.now a.action.pair in
-    rw (set_bytes a.buffer.now a.action c.if-action-eq-SET_VAR.true) (both_leaves front rest a.out.now _ 3 refl c.put_three.ensures (set_room ((goal.at.returns-then-action-eq-SET_VAR c).Then-action-eq-SET_VAR)) _ c.put_pair.ensures.out_after)
+    rw (set_bytes a.buffer.now a.action c.if-action-eq-SET_VAR.true) (both_leaves front rest a.out.now _ 3 refl c.put_three.ensures (set_room ((goal.at.returns-then-action-eq-SET_VAR-clause-out_after c).Then-action-eq-SET_VAR)) _ c.put_pair.ensures.out_after)
 
 pub overflow_cast-action-2 : goal.overflow_cast-action-2
 overflow_cast-action-2 c = omega (arith, passed_scope c.args.buffer.now c.args.action c.requires.passes)
@@ -119,11 +119,11 @@ pub returns-clause-value : goal.returns-clause-value
 returns-clause-value c = let a = c.args in
     let front = (2 ∷ 2 ∷ c.args.action.scope ∷ []) in
     let rest = string_bytes (key_of a.buffer.now a.action.pair) in
-    rw (unset_bytes a.buffer.now a.action c.if-action-eq-SET_VAR.left) (both_count front rest a.out.now _ 3 refl c.put_three-2.ensures (unset_room ((goal.at.returns c).Else-action-eq-SET_VAR)) _ (name_count ((goal.at.returns c).After-wrote)))
+    rw (unset_bytes a.buffer.now a.action c.if-action-eq-SET_VAR.false) (both_count front rest a.out.now _ 3 refl c.put_three-2.ensures (unset_room ((goal.at.returns-clause-value c).Else-action-eq-SET_VAR)) _ (name_count ((goal.at.returns-clause-value c).After-wrote)))
 
 pub returns-clause-out_after : goal.returns-clause-out_after
 returns-clause-out_after c = let a = c.args in
     let front = (2 ∷ 2 ∷ c.args.action.scope ∷ []) in
     let rest = string_bytes (key_of a.buffer.now a.action.pair) in
-    rw (unset_bytes a.buffer.now a.action c.if-action-eq-SET_VAR.left) (both_leaves front rest a.out.now _ 3 refl c.put_three-2.ensures (unset_room ((goal.at.returns c).Else-action-eq-SET_VAR)) _
-          (string_leaves a.buffer.now a.action.pair.start a.action.pair.len c.write_string.ensures c.wrote.ensures (name_room ((goal.at.returns c).After-write_string))))
+    rw (unset_bytes a.buffer.now a.action c.if-action-eq-SET_VAR.false) (both_leaves front rest a.out.now _ 3 refl c.put_three-2.ensures (unset_room ((goal.at.returns-clause-out_after c).Else-action-eq-SET_VAR)) _
+          (string_leaves a.buffer.now a.action.pair.start a.action.pair.len c.write_string.ensures c.wrote.ensures (name_room ((goal.at.returns-clause-out_after c).After-write_string))))

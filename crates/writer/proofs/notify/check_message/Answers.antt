@@ -1,7 +1,6 @@
 -- `writer::notify::check_message` meets its contract: each test in turn, and past them the name's own check.
 use borrow.Author.Rules.{rules}
 use mathlib.Core.Path.{◌≡◌, sym, ◌∙◌}
-use mathlib.Core.Logic.{⊎_elim}
 use mathlib.Core.Bool.{true}
 use Prim.Native.Nat.{◌+◌}
 use native.Mathlib.Omega.{arith}
@@ -10,7 +9,7 @@ use borrow.Author.Tests.{not-true, not-false}
 use Rattle.answer.proofs.Cases.{true_false}
 use Rattle.writer.proofs.Messages.{message_start, message_end, message_many, message_name}
 use Rattle.writer.proofs.notify.check_message.Goals as goal
-use Rattle.writer.proofs.notify.check_message.Goals.{Else-not-ends_at, Joined-last}
+use Rattle.writer.proofs.notify.check_message.Goals.{Else-not-ends_at, Joined-last, then-last+else-not-ends_at-2, else-last}
 
 pub ends_at-requires : goal.ends_at-requires
 ends_at-requires c = search rules
@@ -34,10 +33,10 @@ returns-then-not-ends_at-2 c =
 
 -- a last run ends at the last pair, or this is not the last
 ends : (c : Joined-last) → let a = c.args in a.last ≡ true → eqb a.total (a.message.first + a.message.count) ≡ true
-ends c l =
-    ⊎_elim (λ t. sym t.1.ensures ∙ not-false t.1.result t.2.left)
-    (λ e. true_false l e.left)
-    c.if-last.branch
+ends c l = elim c.if-last.branch [
+  | then-last+else-not-ends_at-2 w ↦ sym w.ends_at-then-last.ensures ∙ not-false w.ends_at-then-last.result w.if-not-ends_at-2.false-raw
+  | else-last w ↦ true_false l w.if-last.false
+]
 
 pub returns-then-message-gt-MOST_ARGUMENTS : goal.returns-then-message-gt-MOST_ARGUMENTS
 returns-then-message-gt-MOST_ARGUMENTS c =

@@ -16,7 +16,7 @@ use Rattle.writer.proofs.Capped.{capped_most}
 use Rattle.writer.proofs.Messages.{run_next, name_length}
 use Rattle.writer.proofs.Checking.{checking_none, checking_small, checking_on, checking_here, checking_all}
 use Rattle.writer.proofs.notify.check_messages.Goals as goal
-use Rattle.writer.proofs.notify.check_messages.Goals.{After-cap-name, After-check_message-number, After-varint_len, Else-number-ne0}
+use Rattle.writer.proofs.notify.check_messages.Goals.{After-cap-name, After-check_message-number, After-struct_known-1, Else-number-ne0}
 
 pub loop-i-init : goal.loop-i-init
 loop-i-init c = (omega arith, refl, checking_none _ _ _ _)
@@ -52,19 +52,18 @@ passed e = passes_zero _ tt (sym (own ((goal.at.varint_len-requires e).After-che
 range : (e : Else-number-ne0)
     → let m = e.message_at-message.result in
     m.start + m.len ≤ length e.args.buffer.now
-range e =
-    rw e.message_at-message.ensures (string_range e.args.buffer.now _ _ (passed e).1.1.1)
+range e = rw e.message_at-message.ensures (string_range e.args.buffer.now _ _ (passed e).1.1.1)
 
-small : (v : After-varint_len)
+small : (v : After-struct_known-1)
     → let m = v.message_at-message.result in
     v.varint_len.result + m.len + 1 ≤ 11 + length v.args.buffer.now
-small v = omega (arith, (let it : let m = v.message_at-message.result in m.start + m.len ≤ length v.args.buffer.now = rw v.message_at-message.ensures (string_range v.args.buffer.now _ _ (let it : let a = v.args in Passes (message_order a.buffer.now a.total a.messages.now a.count v.loop-i.i) = passes_zero _ tt (sym (own ((goal.at.varint_len-requires e).After-check_message-number)) ∙ v.if-number-ne0.false) in it).1.1.1) in it), v.varint_len.ensures, length_most v.message_at-message.result.len)
+small v = omega (arith, range ((goal.at.overflow_add-varint_len v).Else-number-ne0), v.varint_len.ensures, length_most v.message_at-message.result.len)
 
 pub overflow_add-varint_len : goal.overflow_add-varint_len
-overflow_add-varint_len c = omega (arith, small ((goal.at.overflow_add-varint_len c).After-varint_len), c.well_formed)
+overflow_add-varint_len c = omega (arith, small c, c.well_formed)
 
 pub overflow_add-varint_len-in-loop-i : goal.overflow_add-varint_len-in-loop-i
-overflow_add-varint_len-in-loop-i c = omega (arith, small ((goal.at.overflow_add-varint_len-in-loop-i c).After-varint_len), c.well_formed)
+overflow_add-varint_len-in-loop-i c = omega (arith, small c, c.well_formed)
 
 pub cap-name-requires : goal.cap-name-requires
 cap-name-requires c = search rules

@@ -27,12 +27,12 @@ slice_bounds-put_pairs-end c = search rules
 
 pub put_pairs-requires : goal.put_pairs-requires
 put_pairs-requires c =
-    let n = c.put_name-n.ensures in record { formed_run = c.requires.ready.run; count_in_bounds = both_room ((name_bytes c.args.buffer.now c.args.message)) ((let a = c.args in joined (pair_bytes a.buffer.now) (records (pair_at a.pairs.now) a.message.first a.message.count))) c.args.out.now _ _ n.0 n.1 ((let it : length ((name_bytes c.args.buffer.now c.args.message) ++ (let a = c.args in joined (pair_bytes a.buffer.now) (records (pair_at a.pairs.now) a.message.first a.message.count))) ≤ length c.args.out.now = rw (message_bytes_lem c.args.buffer.now c.args.pairs.now c.args.message) at c.requires.message_in_bounds in it)) }
+    let n = c.put_name-n.ensures in record { formed_run = c.requires.ready.run; count_in_bounds = both_room ((name_bytes c.args.buffer.now c.args.message)) ((let a = c.args in joined (pair_bytes a.buffer.now) (records (pair_at a.pairs.now) a.message.first a.message.count))) c.args.out.now _ _ n.value n.out_after ((let it : length ((name_bytes c.args.buffer.now c.args.message) ++ (let a = c.args in joined (pair_bytes a.buffer.now) (records (pair_at a.pairs.now) a.message.first a.message.count))) ≤ length c.args.out.now = rw (message_bytes_lem c.args.buffer.now c.args.pairs.now c.args.message) at c.requires.message_in_bounds in it)) }
 
 pub overflow_add-result : goal.overflow_add-result
 overflow_add-result c =
     let n = c.put_name-n.ensures in
-    omega (arith, both_count ((name_bytes c.args.buffer.now c.args.message)) ((let a = c.args in joined (pair_bytes a.buffer.now) (records (pair_at a.pairs.now) a.message.first a.message.count))) c.args.out.now _ _ n.0 n.1 ((let it : length ((name_bytes c.args.buffer.now c.args.message) ++ (let a = c.args in joined (pair_bytes a.buffer.now) (records (pair_at a.pairs.now) a.message.first a.message.count))) ≤ length c.args.out.now = rw (message_bytes_lem c.args.buffer.now c.args.pairs.now c.args.message) at c.requires.message_in_bounds in it)) _ c.put_pairs.ensures.value, (let it : length ((name_bytes c.args.buffer.now c.args.message) ++ (let a = c.args in joined (pair_bytes a.buffer.now) (records (pair_at a.pairs.now) a.message.first a.message.count))) ≤ length c.args.out.now = rw (message_bytes_lem c.args.buffer.now c.args.pairs.now c.args.message) at c.requires.message_in_bounds in it), c.well_formed)
+    omega (arith, both_count ((name_bytes c.args.buffer.now c.args.message)) ((let a = c.args in joined (pair_bytes a.buffer.now) (records (pair_at a.pairs.now) a.message.first a.message.count))) c.args.out.now _ _ n.value n.out_after ((let it : length ((name_bytes c.args.buffer.now c.args.message) ++ (let a = c.args in joined (pair_bytes a.buffer.now) (records (pair_at a.pairs.now) a.message.first a.message.count))) ≤ length c.args.out.now = rw (message_bytes_lem c.args.buffer.now c.args.pairs.now c.args.message) at c.requires.message_in_bounds in it)) _ c.put_pairs.ensures.value, (let it : length ((name_bytes c.args.buffer.now c.args.message) ++ (let a = c.args in joined (pair_bytes a.buffer.now) (records (pair_at a.pairs.now) a.message.first a.message.count))) ≤ length c.args.out.now = rw (message_bytes_lem c.args.buffer.now c.args.pairs.now c.args.message) at c.requires.message_in_bounds in it), c.well_formed)
 
 pub shape_of-out : goal.shape_of-out
 shape_of-out c = search rules
@@ -40,9 +40,9 @@ shape_of-out c = search rules
 pub returns-clause-value : goal.returns-clause-value
 returns-clause-value c = let n = c.put_name-n.ensures in
     let r = c.put_pairs.ensures in
-    rw (message_bytes_lem c.args.buffer.now c.args.pairs.now c.args.message) (both_count ((name_bytes c.args.buffer.now c.args.message)) ((let a = c.args in joined (pair_bytes a.buffer.now) (records (pair_at a.pairs.now) a.message.first a.message.count))) c.args.out.now _ _ n.0 n.1 ((let it : length ((name_bytes c.args.buffer.now c.args.message) ++ (let a = c.args in joined (pair_bytes a.buffer.now) (records (pair_at a.pairs.now) a.message.first a.message.count))) ≤ length c.args.out.now = rw (message_bytes_lem c.args.buffer.now c.args.pairs.now c.args.message) at c.requires.message_in_bounds in it)) _ r.0)
+    rw (message_bytes_lem c.args.buffer.now c.args.pairs.now c.args.message) (both_count ((name_bytes c.args.buffer.now c.args.message)) ((let a = c.args in joined (pair_bytes a.buffer.now) (records (pair_at a.pairs.now) a.message.first a.message.count))) c.args.out.now _ _ n.value n.out_after ((let it : length ((name_bytes c.args.buffer.now c.args.message) ++ (let a = c.args in joined (pair_bytes a.buffer.now) (records (pair_at a.pairs.now) a.message.first a.message.count))) ≤ length c.args.out.now = rw (message_bytes_lem c.args.buffer.now c.args.pairs.now c.args.message) at c.requires.message_in_bounds in it)) _ r.value)
 
 pub returns-clause-out_after : goal.returns-clause-out_after
 returns-clause-out_after c = let n = c.put_name-n.ensures in
     let r = c.put_pairs.ensures in
-    rw (message_bytes_lem c.args.buffer.now c.args.pairs.now c.args.message) (both_leaves ((name_bytes c.args.buffer.now c.args.message)) ((let a = c.args in joined (pair_bytes a.buffer.now) (records (pair_at a.pairs.now) a.message.first a.message.count))) c.args.out.now _ _ n.0 n.1 ((let it : length ((name_bytes c.args.buffer.now c.args.message) ++ (let a = c.args in joined (pair_bytes a.buffer.now) (records (pair_at a.pairs.now) a.message.first a.message.count))) ≤ length c.args.out.now = rw (message_bytes_lem c.args.buffer.now c.args.pairs.now c.args.message) at c.requires.message_in_bounds in it)) _ r.1)
+    rw (message_bytes_lem c.args.buffer.now c.args.pairs.now c.args.message) (both_leaves ((name_bytes c.args.buffer.now c.args.message)) ((let a = c.args in joined (pair_bytes a.buffer.now) (records (pair_at a.pairs.now) a.message.first a.message.count))) c.args.out.now _ _ n.value n.out_after ((let it : length ((name_bytes c.args.buffer.now c.args.message) ++ (let a = c.args in joined (pair_bytes a.buffer.now) (records (pair_at a.pairs.now) a.message.first a.message.count))) ≤ length c.args.out.now = rw (message_bytes_lem c.args.buffer.now c.args.pairs.now c.args.message) at c.requires.message_in_bounds in it)) _ r.out_after)

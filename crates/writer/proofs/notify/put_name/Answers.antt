@@ -52,9 +52,9 @@ pub shape_of-out : goal.shape_of-out
 shape_of-out c = search rules
 
 pub returns-clause-value : goal.returns-clause-value
-returns-clause-value c = let all = partly_next (named ((goal.at.returns c).After-wrote-n)) in
+returns-clause-value c = let all = partly_next (named ((goal.at.returns-clause-value c).After-wrote-n)) in
     rw (name_bytes_lem c.args.buffer.now c.args.message) (partly_count all)
 
 pub returns-clause-out_after : goal.returns-clause-out_after
-returns-clause-out_after c = let all = partly_next (named ((goal.at.returns c).After-wrote-n)) in
+returns-clause-out_after c = let all = partly_next (named ((goal.at.returns-clause-out_after c).After-wrote-n)) in
     rw (name_bytes_lem c.args.buffer.now c.args.message) (partly_all all)

@@ -75,8 +75,8 @@ shape_of-out c = search rules
 
 pub returns-clause-value : goal.returns-clause-value
 returns-clause-value c = let a = c.args in
-    rw (pair_bytes_lem a.buffer.now a.pair) (((all ((goal.at.returns c).After-wrote))).0)
+    rw (pair_bytes_lem a.buffer.now a.pair) (((all ((goal.at.returns-clause-value c).After-wrote))).0)
 
 pub returns-clause-out_after : goal.returns-clause-out_after
 returns-clause-out_after c = let a = c.args in
-    rw (pair_bytes_lem a.buffer.now a.pair) (((all ((goal.at.returns c).After-wrote))).1)
+    rw (pair_bytes_lem a.buffer.now a.pair) (((all ((goal.at.returns-clause-out_after c).After-wrote))).1)
