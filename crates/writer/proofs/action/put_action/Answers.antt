@@ -27,7 +27,7 @@ name_room : (w : After-write_string)
 name_room w =
     let a = w.args in
     let room : length ((2 ∷ 2 ∷ a.action.scope ∷ []) ++ string_bytes (key_of a.buffer.now a.action.pair)) ≤ length a.out.now
-        = rw (unset_bytes a.buffer.now a.action w.if-action-eq-SET_VAR.false) at w.requires.action_in_bounds in
+    = rw (unset_bytes a.buffer.now a.action w.if-action-eq-SET_VAR.false) at w.requires.action_in_bounds in
     both_room (2 ∷ 2 ∷ a.action.scope ∷ []) (string_bytes (key_of a.buffer.now a.action.pair)) a.out.now _ 3 refl w.put_three-2.ensures room
 
 name_count : (c : After-wrote) → let a = c.args in c.wrote.result ≡ length (string_bytes (key_of a.buffer.now a.action.pair))
@@ -126,4 +126,4 @@ returns-clause-out_after c = let a = c.args in
     let front = (2 ∷ 2 ∷ c.args.action.scope ∷ []) in
     let rest = string_bytes (key_of a.buffer.now a.action.pair) in
     rw (unset_bytes a.buffer.now a.action c.if-action-eq-SET_VAR.false) (both_leaves front rest a.out.now _ 3 refl c.put_three-2.ensures (unset_room ((goal.at.returns-clause-out_after c).Else-action-eq-SET_VAR)) _
-          (string_leaves a.buffer.now a.action.pair.start a.action.pair.len c.write_string.ensures c.wrote.ensures (name_room ((goal.at.returns-clause-out_after c).After-write_string))))
+    (string_leaves a.buffer.now a.action.pair.start a.action.pair.len c.write_string.ensures c.wrote.ensures (name_room ((goal.at.returns-clause-out_after c).After-write_string))))

@@ -1,6 +1,5 @@
 use borrow.Author.Rules.{rules}
 use mathlib.Core.Path.{◌≡◌, sym, ◌∙◌}
-use Prim.Native.Nat.{◌-◌}
 use native.Mathlib.Omega.{arith}
 use lib.ListN.{length}
 use Rattle.answer.specs.Inner.{Passes}
@@ -70,11 +69,10 @@ pub loop-i-smaller : goal.loop-i-smaller
 loop-i-smaller c = omega (arith, c.loop-i-test.true)
 
 pub loop-i-preserved : goal.loop-i-preserved
-loop-i-preserved c =
-    (
-      omega (arith, c.loop-i-test.true),
-      checking_on c.loop-i.invariant.1 (kv_new _ _ _ (passed ((goal.at.loop-i-preserved c).Else-number-ne0)) (sym c.key_met.ensures ∙ c.if-key_met.false)) c.measure_pair-own.result.len c.cap-len.result (length_is ((goal.at.loop-i-preserved c).After-struct_known-1)) c.cap-len.ensures,
-    )
+loop-i-preserved c = (
+  omega (arith, c.loop-i-test.true),
+  checking_on c.loop-i.invariant.1 (kv_new _ _ _ (passed ((goal.at.loop-i-preserved c).Else-number-ne0)) (sym c.key_met.ensures ∙ c.if-key_met.false)) c.measure_pair-own.result.len c.cap-len.result (length_is ((goal.at.loop-i-preserved c).After-struct_known-1)) c.cap-len.ensures,
+)
 
 pub returns : goal.returns
 returns c = let l = c.loop-i in checking_all l.invariant.1 _ (omega (arith, l.invariant.0, c.loop-i-test.false))

@@ -1,6 +1,6 @@
 use borrow.Author.Rules.{rules}
 use mathlib.Core.Path.{◌≡◌, refl, sym, ap, ◌∙◌}
-use Prim.Native.Nat.{ℕ, ◌+◌, ◌-◌, ◌≤◌}
+use Prim.Native.Nat.{ℕ, ◌+◌, ◌≤◌}
 use native.Mathlib.Omega.{arith}
 use lib.ListN.{length}
 use Rattle.answer.specs.Order.{in_order}
@@ -94,12 +94,11 @@ pub loop-i-smaller : goal.loop-i-smaller
 loop-i-smaller c = omega (arith, c.loop-i-test.true)
 
 pub loop-i-preserved : goal.loop-i-preserved
-loop-i-preserved c =
-    (
-      omega (arith, c.loop-i-test.true),
-      ap (λ (m : Message). m.first + m.count) c.message_at-message.ensures ∙ sym (run_next c.args.messages.now c.loop-i.i),
-      checking_on c.loop-i.invariant.2 (passed ((goal.at.loop-i-preserved c).Else-number-ne0)) c.cap-name.result c.cap-len.result (length_is ((goal.at.loop-i-preserved c).After-cap-name)) c.cap-len.ensures,
-    )
+loop-i-preserved c = (
+  omega (arith, c.loop-i-test.true),
+  ap (λ (m : Message). m.first + m.count) c.message_at-message.ensures ∙ sym (run_next c.args.messages.now c.loop-i.i),
+  checking_on c.loop-i.invariant.2 (passed ((goal.at.loop-i-preserved c).Else-number-ne0)) c.cap-name.result c.cap-len.result (length_is ((goal.at.loop-i-preserved c).After-cap-name)) c.cap-len.ensures,
+)
 
 pub returns : goal.returns
 returns c = let l = c.loop-i in checking_all l.invariant.2 _ (omega (arith, l.invariant.0, c.loop-i-test.false))

@@ -1,7 +1,7 @@
 -- `writer::notify::put_message` meets its contract: the name with its count byte, and the run in the tail behind it.
 use borrow.Author.Rules.{rules}
 use mathlib.Core.List.{◌++◌}
-use Prim.Native.Nat.{◌+◌, ◌≤◌}
+use Prim.Native.Nat.{◌≤◌}
 use native.Mathlib.Omega.{arith}
 use lib.ListN.{length, length-append}
 use Rattle.answer.proofs.Parts.{both_start, both_room, both_count, both_leaves}

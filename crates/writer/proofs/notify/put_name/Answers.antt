@@ -1,7 +1,7 @@
 -- `writer::notify::put_name` meets its contract: the name, and one byte behind it.
 use borrow.Author.Rules.{rules}
 use mathlib.Core.List.{[], ◌∷◌, ◌++◌}
-use Prim.Native.Nat.{◌+◌, ◌≤◌}
+use Prim.Native.Nat.{◌≤◌}
 use native.Mathlib.Omega.{arith}
 use lib.ListN.{length, length-append}
 use Rattle.answer.proofs.Output.{Partly, partly_next, partly_place, partly_count, partly_all}

@@ -123,7 +123,7 @@ given c = c.check_arguments-given.ensures.measured c.if-bad_pair-ne0.false
 pub overflow_add-named : goal.overflow_add-named
 overflow_add-named c =
     let a = c.args in
-    omega (arith, names ((goal.at.overflow_add-named c).Else-bad_pair-ne0), given ((goal.at.overflow_add-named c).Else-bad_pair-ne0), capped_most a.limit (length (joined (name_bytes a.buffer.now) (records (message_at a.messages.now) 0 a.message_count))), capped_most a.limit (length (pairs_bytes a.buffer.now a.pairs.now a.pair_count)), c.fits)
+    omega (arith, names ((goal.at.overflow_add-named c).Else-bad_pair-ne0), given ((goal.at.overflow_add-named c).Else-bad_pair-ne0), capped_most a.limit (length (joined (name_bytes a.buffer.now) (records (message_at a.messages.now) 0 a.message_count))), capped_most a.limit (length (pairs_bytes a.buffer.now a.pairs.now a.pair_count)), c.ranges)
 
 pub cap-len-requires : goal.cap-len-requires
 cap-len-requires c = search rules
@@ -133,12 +133,16 @@ head_of-head-requires c = search rules
 
 pub notify_frame-requires : goal.notify_frame-requires
 notify_frame-requires c =
-    let a = c.args in let n = length (joined (name_bytes a.buffer.now) (records (message_at a.messages.now) 0 a.message_count)) in let m = length (pairs_bytes a.buffer.now a.pairs.now a.pair_count) in record { message_width_in_bounds = messages_held ((goal.at.notify_frame-requires c).Else-messages-message_count); all_ready = all_ready a.buffer.now a.messages.now a.pairs.now a.message_count a.pair_count (pairs_held ((goal.at.notify_frame-requires c).Else-pairs-pair_count)) (sound_messages (((goal.at.notify_frame-requires c).Else-bad_message-ne0))) (sound_pairs ((goal.at.notify_frame-requires c).Else-bad_pair-ne0)); len_value = c.cap-len.ensures
-            ∙ ap (λ (x : ℕ). capped a.limit (x + c.check_arguments-given.result.len)) (names ((goal.at.notify_frame-requires c).Else-bad_pair-ne0))
-            ∙ capped_left a.limit n c.check_arguments-given.result.len
-            ∙ ap (λ (x : ℕ). capped a.limit (n + x)) (given ((goal.at.notify_frame-requires c).Else-bad_pair-ne0))
-            ∙ capped_right a.limit n m
-            ∙ ap (capped a.limit) (sym (payload_length a.buffer.now a.pair_count a.messages.now a.message_count (sound_messages (((goal.at.notify_frame-requires c).Else-bad_message-ne0))) a.pairs.now (fourth ((goal.at.notify_frame-requires c).Else-message_count-pair_count)))) }
+    let a = c.args in let n = length (joined (name_bytes a.buffer.now) (records (message_at a.messages.now) 0 a.message_count)) in let m = length (pairs_bytes a.buffer.now a.pairs.now a.pair_count) in record {
+      message_width_in_bounds = messages_held ((goal.at.notify_frame-requires c).Else-messages-message_count);
+      all_ready = all_ready a.buffer.now a.messages.now a.pairs.now a.message_count a.pair_count (pairs_held ((goal.at.notify_frame-requires c).Else-pairs-pair_count)) (sound_messages (((goal.at.notify_frame-requires c).Else-bad_message-ne0))) (sound_pairs ((goal.at.notify_frame-requires c).Else-bad_pair-ne0));
+      len_value = c.cap-len.ensures
+          ∙ ap (λ (x : ℕ). capped a.limit (x + c.check_arguments-given.result.len)) (names ((goal.at.notify_frame-requires c).Else-bad_pair-ne0))
+          ∙ capped_left a.limit n c.check_arguments-given.result.len
+          ∙ ap (λ (x : ℕ). capped a.limit (n + x)) (given ((goal.at.notify_frame-requires c).Else-bad_pair-ne0))
+          ∙ capped_right a.limit n m
+          ∙ ap (capped a.limit) (sym (payload_length a.buffer.now a.pair_count a.messages.now a.message_count (sound_messages (((goal.at.notify_frame-requires c).Else-bad_message-ne0))) a.pairs.now (fourth ((goal.at.notify_frame-requires c).Else-message_count-pair_count))));
+    }
 
 pub shape_of-out : goal.shape_of-out
 shape_of-out c = search rules
