@@ -2,7 +2,7 @@
 ghost use Rattle.std.specs.Prelude.{◌≡◌, List, map, ℕ, ◌≤◌, ◌<◌, ◌^◌, length};
 ghost use Rattle.answer.specs.Answer.{written};
 ghost use Rattle.types.specs.Inner.{Puts};
-ghost use Rattle.listing.specs.Digits.{decimal, signed, shown, glyph as glyphOf};
+ghost use Rattle.listing.specs.Digits.{decimal, signed, shown, glyph as glyph_of};
 ghost use Rattle.listing.specs.Lines.{filled};
 
 pub(crate) const DASH: u8 = b'-';
@@ -70,7 +70,7 @@ pub(crate) fn filled_len(form: &[u8], numbers: &[u64]) -> usize
 // A digit below 16.
 fn glyph(d: u8) -> u8
     requires { d < 16 }
-    ensures { result ≡ glyphOf d }
+    ensures { result ≡ glyph_of d }
 {
     if d < 10 { 48 + d } else { 87 + d }
 }
