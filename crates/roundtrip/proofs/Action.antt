@@ -14,7 +14,6 @@ use Rattle.answer.specs.Inner.{InRow}
 use Rattle.answer.proofs.Each.{Each}
 use Rattle.varint.proofs.Reading.{Bytes}
 use Rattle.frame.specs.declared.Action.{Action}
-use Rattle.payload.specs.Pair.{pair}
 use Rattle.payload.specs.Action.{argument_count, action_from}
 use Rattle.answer.proofs.Row.{Found, row_found}
 use Rattle.payload.proofs.Standing.{Stands, stands, by_verb}

@@ -290,7 +290,7 @@ module _ {x : Side} {limit : ℕ} {f : List ℕ} {m : Head} {counts : Counts} {m
 module _ {limit : ℕ} {f : List ℕ} {m : Head} {counts : Counts} {messages pairs actions : List ℕ} where
   pub haproxy_kv : Left side.HAProxy limit f m counts messages pairs actions → (m.frame_type ≡ 3 → ⊥) → (payload_of m.frame_type ≡ k.KvList) × (kv_allowed (head_again m) ≡ true)
   haproxy_kv l kv =
-      let own = three_says 1 m.frame_type l.whole.own_val in (
+      let own = three_says 1 m.frame_type l.whole.own in (
         rw (ne_eqb m.frame_type 3 kv, ne_eqb m.frame_type 103 (λ e. omega (arith, e, own.1))),
         bool_cases (eqb m.frame_type 1) (λ t. kv_haproxy_hello (head_again m) (eqb-true m.frame_type 1 t))
             (λ t. kv_haproxy_disconnect (head_again m) (second (eqb-false m.frame_type 1 t) own)),
@@ -302,7 +302,7 @@ module _ {limit : ℕ} {f : List ℕ} {m : Head} {counts : Counts} {messages pai
   pub agent_kv : Left side.Agents limit f m counts messages pairs actions → (m.frame_type ≡ 103 → ⊥)
       → (payload_of m.frame_type ≡ k.KvList) × (kv_allowed (head_again m) ≡ eqb m.stream 0 && eqb m.frame 0)
   agent_kv l kv =
-      let own = three_says 101 m.frame_type l.whole.own_val in (
+      let own = three_says 101 m.frame_type l.whole.own in (
         rw (ne_eqb m.frame_type 3 (λ e. omega (arith, e, own.0)), ne_eqb m.frame_type 103 kv),
         bool_cases (eqb m.frame_type 101) (λ t. kv_agent_hello (head_again m) (eqb-true m.frame_type 101 t))
             (λ t. kv_agent_disconnect (head_again m) (second (eqb-false m.frame_type 101 t) own)),

@@ -13,7 +13,7 @@ use borrow.Author.Tests.{le-leb}
 use Rattle.answer.specs.declared.Refusal.{Refusal}
 use Rattle.answer.specs.declared.Written.{Written}
 use Rattle.answer.specs.declared.Written.TheVariants as w
-use Rattle.answer.specs.Answer.{Answer, done, refused, written, within}
+use Rattle.answer.specs.Answer.{Answer, done, refused, written}
 use Rattle.answer.specs.Writes.{said, Writes}
 use Rattle.answer.specs.Order.{Check, in_order, each_in_order}
 use Rattle.answer.specs.Inner.{Passes, Sound}
