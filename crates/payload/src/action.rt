@@ -1,6 +1,6 @@
 // An action, read from the front of some bytes, or at a place of them.
 ghost use Rattle.std.specs.Prelude.{◌≡◌, not, ◌||◌, ◌≤◌, eqb, length};
-ghost use Rattle.payload.specs.Action.{argument_count, action as actionOf, action_from};
+ghost use Rattle.payload.specs.Action.{argument_count, action as action_of, action_from};
 ghost use Rattle.payload.specs.Inner.{action_behind, action_said, Headed};
 
 use crate::pair::{moved_pair, read_pair};
@@ -37,7 +37,7 @@ fn arguments(verb: u64) -> u64
 // Reads the name and the value of a set.
 fn read_set(input: &[u8], scope: u64) -> ActionRead
     requires { Headed input.now 1 scope }
-    ensures { action_behind result ≡ actionOf input.now }
+    ensures { action_behind result ≡ action_of input.now }
 {
     match read_pair(&input[3..]) {
         PairRead::Refused(r) => {
@@ -59,7 +59,7 @@ fn read_set(input: &[u8], scope: u64) -> ActionRead
 // Reads the name of an unset.
 fn read_unset(input: &[u8], scope: u64) -> ActionRead
     requires { Headed input.now 2 scope }
-    ensures { action_behind result ≡ actionOf input.now }
+    ensures { action_behind result ≡ action_of input.now }
 {
     match types::read_string(&input[3..]) {
         StringRead::Refused(r) => {
@@ -89,7 +89,7 @@ fn read_unset(input: &[u8], scope: u64) -> ActionRead
 
 // Reads the action at the front of `input`: each of its three bytes is tested as it is read.
 fn read_action(input: &[u8]) -> ActionRead
-    ensures { action_behind result ≡ actionOf input.now }
+    ensures { action_behind result ≡ action_of input.now }
 {
     let have = input.len();
     if have < 1 {

@@ -1,6 +1,6 @@
 // A pair, read from the front of some bytes, or at a place of them.
 ghost use Rattle.std.specs.Prelude.{◌≡◌, ℕ, ◌+◌, ◌≤◌, ◌<◌, ◌^◌, length};
-ghost use Rattle.types.specs.Value.{moved as movedRecord};
+ghost use Rattle.types.specs.Value.{moved as moved_record};
 ghost use Rattle.types.specs.Promise.{record_of, string_said};
 ghost use Rattle.answer.specs.Answer.{refused};
 ghost use Rattle.payload.specs.Pair.{moved_pair, pair_from};
@@ -59,7 +59,7 @@ fn key_refused(key: StringRead) -> PairRead
 // A value that was read behind n other bytes: where it points, its start moves.
 fn moved_value(value: Value, n: u64) -> Value
     requires { 6 ≤ value.kind → value.kind < 10 → value.a + n < 2 ^ 64 }
-    ensures { record_of result ≡ movedRecord n (record_of value) }
+    ensures { record_of result ≡ moved_record n (record_of value) }
 {
     let kind = value.kind;
     if kind < 6 {

@@ -1,7 +1,7 @@
 // Strings and values, read from the front of some bytes.
 ghost use Rattle.std.specs.Prelude.{◌≡◌, true, false, cond, ◌+◌, ◌≤◌, ◌<◌, leb, length};
 ghost use Rattle.answer.specs.Answer.{done, refused};
-ghost use Rattle.types.specs.Value.{Width, integer, address, shape, value as aRecord, narrowed};
+ghost use Rattle.types.specs.Value.{Width, integer, address, shape, value as a_record, narrowed};
 ghost use Rattle.types.specs.Promise.{value_said, ReadString, TypedData};
 ghost use Rattle.types.specs.Inner.{ReadsKind, numbered};
 
@@ -84,7 +84,7 @@ fn read_number(kind: u64, flags: u64, input: &[u8]) -> ValueRead
 // An integer whose number is n, and which took so many bytes.
 fn integer_value(kind: u64, flags: u64, n: u64, taken: usize) -> ValueRead
     requires { (2 ≤ kind) × (kind < 6) }
-    ensures { (w : Width) → shape kind ≡ integer w → value_said result ≡ done (aRecord kind (narrowed w n) 0 flags) taken }
+    ensures { (w : Width) → shape kind ≡ integer w → value_said result ≡ done (a_record kind (narrowed w n) 0 flags) taken }
 {
     ValueRead::Done {
         value: Value {
@@ -138,7 +138,7 @@ fn read_address(kind: u64, len: usize, flags: u64, input: &[u8]) -> ValueRead
 // A string or a binary of n bytes, which start behind those taken so far.
 fn bytes_value(kind: u64, flags: u64, n: u64, taken: usize, input: &[u8]) -> ValueRead
     requires { taken ≤ length input.now }
-    ensures { value_said result ≡ cond (leb (taken + n) (length input.now)) (done (aRecord kind taken n flags) (taken + n)) (refused 3 taken) }
+    ensures { value_said result ≡ cond (leb (taken + n) (length input.now)) (done (a_record kind taken n flags) (taken + n)) (refused 3 taken) }
 {
     if ((input.len() - taken) as u64) < n {
         return ValueRead::Refused(Refusal {
