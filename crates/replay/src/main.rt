@@ -11,41 +11,56 @@ mod frames;
 mod parts;
 mod verdict;
 
+ghost use Rattle.std.specs.Prelude.{◌≤◌, IfOk, length};
+
 use fields::Strings;
 use frames::{OLD, TABLE};
-use libc::STDOUT_FILENO;
+use std::fs::File;
+use std::io;
+use std::io::Read;
+use std::rt::Files;
 use verdict::{Counts, Verdict};
 
-fn main() {
-    replay(b"marked.txt");
-    replay(b"numbers.txt");
-    replay(b"text.txt");
-    replay(b"values.txt");
-    replay(b"hello.txt");
+// How many bytes of a list are read at most.
+const TEXT: usize = 65_536;
+
+fn main(rt: HostRuntime) -> io::Result<()> {
+    replay(&rt, "marked.txt")?;
+    replay(&rt, "numbers.txt")?;
+    replay(&rt, "text.txt")?;
+    replay(&rt, "values.txt")?;
+    replay(&rt, "hello.txt")
 }
 
-fn replay(name: &[u8]) {
-    let file = os::open_read(name);
-    if file < 0 {
-        io::write_all(STDOUT_FILENO, name);
-        io::write_all(STDOUT_FILENO, b" cannot be opened\n");
-        return;
+fn replay(rt: &(impl Files + Print), name: &str) -> io::Result<()> {
+    let Ok(mut file) = File::open(rt, name) else {
+        return println!(rt; "{name} cannot be opened");
+    };
+    let mut text = [0u8; TEXT];
+    let n = read_full(&mut file, &mut text)?;
+    let counts = lines(rt, &text[0..n])?;
+    let agree = counts.agree;
+    let differ = counts.differ;
+    let unread = counts.unread;
+    println!(rt; "{name}: {agree} agree, {differ} differ, {unread} cannot be read")
+}
+
+// Reads until the buffer is full or the file ends; how many bytes the buffer has then.
+fn read_full(file: &mut impl Read, buffer: &mut [u8]) -> io::Result<usize>
+    ensures { IfOk result (λ n. n ≤ length buffer.new) }
+{
+    let mut n = 0;
+    while n < buffer.len() {
+        let more = file.read(&mut buffer[n..])?;
+        if more == 0 {
+            return Ok(n);
+        }
+        n += more;
     }
-    let mut text = io::large_buffer();
-    let n = io::read_full(file, &mut text);
-    libc::close(file);
-    let counts = lines(&text[0..n]);
-    io::write_all(STDOUT_FILENO, name);
-    io::write_all(STDOUT_FILENO, b": ");
-    io::print_decimal(STDOUT_FILENO, counts.agree);
-    io::write_all(STDOUT_FILENO, b" agree, ");
-    io::print_decimal(STDOUT_FILENO, counts.differ);
-    io::write_all(STDOUT_FILENO, b" differ, ");
-    io::print_decimal(STDOUT_FILENO, counts.unread);
-    io::write_all(STDOUT_FILENO, b" cannot be read\n");
+    Ok(n)
 }
 
-fn lines(text: &[u8]) -> Counts {
+fn lines(rt: &impl Print, text: &[u8]) -> io::Result<Counts> {
     let mut counts = Counts {
         agree: 0,
         differ: 0,
@@ -57,10 +72,10 @@ fn lines(text: &[u8]) -> Counts {
         let rest = &text[at..];
         let n = fields::find(rest, b'\n', b'\n');
         line = verdict::more(line);
-        counts = verdict::count(counts, judge(&rest[0..n]), line);
+        counts = verdict::count(rt, counts, judge(&rest[0..n]), line)?;
         at = at + n + 1;
     }
-    counts
+    Ok(counts)
 }
 
 fn judge(line: &[u8]) -> Verdict {

@@ -1,6 +1,6 @@
 // What a line turned out to be, and how many lines of each sort there are.
 use answer::Written;
-use libc::STDOUT_FILENO;
+use std::io;
 
 #[derive(Drop)]
 pub(crate) enum Verdict {
@@ -32,7 +32,7 @@ pub(crate) fn written(answer: Written, out: &[u8], number: u64, at: u64, want: &
             if out.len() < k {
                 return Verdict::Differs;
             }
-            agreed(number == 0 && at == k as u64 && check::same(&out[0..k], want))
+            agreed(number == 0 && at == k as u64 && &out[0..k] == want)
         },
         Written::Refused(r) => agreed(
             number == r.number && at == r.place as u64 && want.len() == 0,
@@ -41,8 +41,13 @@ pub(crate) fn written(answer: Written, out: &[u8], number: u64, at: u64, want: &
 }
 
 // The counts with one verdict more, and a line of output where it is not that the answers agree.
-pub(crate) fn count(counts: Counts, verdict: Verdict, line: u64) -> Counts {
-    match verdict {
+pub(crate) fn count(
+    rt: &impl Print,
+    counts: Counts,
+    verdict: Verdict,
+    line: u64,
+) -> io::Result<Counts> {
+    Ok(match verdict {
         Verdict::Comment => counts,
         Verdict::Agrees => Counts {
             agree: more(counts.agree),
@@ -50,7 +55,7 @@ pub(crate) fn count(counts: Counts, verdict: Verdict, line: u64) -> Counts {
             unread: counts.unread,
         },
         Verdict::Differs => {
-            say(line, b" differs\n");
+            say(rt, line, "differs")?;
             Counts {
                 agree: counts.agree,
                 differ: more(counts.differ),
@@ -58,20 +63,18 @@ pub(crate) fn count(counts: Counts, verdict: Verdict, line: u64) -> Counts {
             }
         },
         Verdict::Unread => {
-            say(line, b" cannot be read\n");
+            say(rt, line, "cannot be read")?;
             Counts {
                 agree: counts.agree,
                 differ: counts.differ,
                 unread: more(counts.unread),
             }
         },
-    }
+    })
 }
 
-fn say(line: u64, what: &[u8]) {
-    io::write_all(STDOUT_FILENO, b"line ");
-    io::print_decimal(STDOUT_FILENO, line);
-    io::write_all(STDOUT_FILENO, what);
+fn say(rt: &impl Print, line: u64, what: &str) -> io::Result<()> {
+    println!(rt; "line {line} {what}")
 }
 
 // One more, up to what a u64 holds.

@@ -5,14 +5,19 @@
 
 #![tactic(auto)]
 
-ghost use Rattle.std.specs.Prelude.{◌+◌, ◌*◌, ◌≤◌, length};
+ghost use Rattle.std.specs.Prelude.{◌+◌, ◌*◌, ◌≤◌, IfOk, length};
 ghost use Rattle.spoplist.specs.Inner.{line_room, ReadsIn, side_in, Takes, Ends, StandMessages, StandPairs, StandActions, Lies};
 
 use answer::{Refusal, WAIT, Written};
 use frame::{ACTION_WIDTH, MESSAGE_WIDTH, PAIR_WIDTH};
-use libc::{STDERR_FILENO, STDIN_FILENO, STDOUT_FILENO};
 use listing::{Place, Step};
 use parser::FrameRead;
+use std::env::{Env, FillError};
+use std::io;
+use std::io::Read;
+
+// How many bytes are read at most.
+const INPUT: usize = 65_536;
 
 // The longest frame that is read, its length bytes aside.
 const LIMIT: u32 = 65_532;
@@ -42,39 +47,64 @@ enum Ended {
     Closed,
 }
 
-fn main() {
-    if !are_words_known() {
-        io::write_all(STDERR_FILENO, b"usage: spoplist [agent] < FRAMES\n");
-        return;
+fn main(rt: HostRuntime) -> io::Result<()> {
+    if !are_words_known(&rt) {
+        return rt.eprintln("usage: spoplist [agent] < FRAMES");
     }
-    let mut input = io::large_buffer();
-    let n = io::read_full(STDIN_FILENO, &mut input);
-    list(is_for_agents(), &input[0..n]);
+    let mut input = [0u8; INPUT];
+    let n = read_full(&mut rt.stdin(), &mut input)?;
+    list(&rt, is_for_agents(&rt), &input[0..n]);
+    Ok(())
 }
 
-// Whether there is no word, or `agent` alone. The program's own name is counted too.
-fn are_words_known() -> bool {
-    let n = os::arg_count();
-    if n < 2 {
+// Whether there is no word, or `agent` alone. Word 0 is the program's own name.
+fn are_words_known(rt: &impl Env) -> bool {
+    if !is_given(rt, 1) {
         return true;
     }
-    n == 2 && is_for_agents()
+    !is_given(rt, 2) && is_for_agents(rt)
+}
+
+// Whether there is such a word. One that is there is longer than no bytes, or empty.
+fn is_given(rt: &impl Env, word: usize) -> bool {
+    match rt.arg(word, &mut []) {
+        Err(FillError::NotPresent) => false,
+        _ => true,
+    }
 }
 
 // Whether the first word is `agent`: then the frames are an agent's.
-fn is_for_agents() -> bool {
+fn is_for_agents(rt: &impl Env) -> bool {
     let mut word = [0u8; 8];
-    let n = os::arg(1, &mut word);
-    check::same(&word[0..n], b"agent")
+    match rt.arg(1, &mut word) {
+        Ok(n) => &word[0..n] == b"agent".as_slice(),
+        Err(_) => false,
+    }
+}
+
+// Reads until the buffer is full or the input ends; how many bytes the buffer has then.
+fn read_full(input: &mut impl Read, buffer: &mut [u8]) -> io::Result<usize>
+    ensures { IfOk result (λ n. n ≤ length buffer.new) }
+{
+    let mut n = 0;
+    while n < buffer.len() {
+        let more = input.read(&mut buffer[n..])?;
+        if more == 0 {
+            return Ok(n);
+        }
+        n += more;
+    }
+    Ok(n)
 }
 
 // Lists the frames of the input, and writes the last line. Three tables for a frame's records and the bytes of a line serve for all.
-fn list(agents: bool, input: &[u8]) {
+fn list(rt: &impl Print, agents: bool, input: &[u8]) {
     let mut messages = [0u64; MESSAGES];
     let mut pairs = [0u64; PAIRS];
     let mut actions = [0u64; ACTIONS];
     let mut out = [0u8; LINE];
     match list_all(
+        rt,
         agents,
         input,
         &mut messages,
@@ -83,7 +113,7 @@ fn list(agents: bool, input: &[u8]) {
         &mut out,
     ) {
         Ended::Behind { used, why } => {
-            end(used, why, &mut out);
+            end(rt, used, why, &mut out);
         },
         Ended::Closed => {},
     }
@@ -91,6 +121,7 @@ fn list(agents: bool, input: &[u8]) {
 
 // Lists them one behind the other.
 fn list_all(
+    rt: &impl Print,
     agents: bool,
     input: &[u8],
     messages: &mut [u64],
@@ -104,7 +135,16 @@ fn list_all(
     let mut at = 0;
     let mut index: u64 = 0;
     while at < input.len() {
-        match list_one(agents, index, &input[at..], messages, pairs, actions, out) {
+        match list_one(
+            rt,
+            agents,
+            index,
+            &input[at..],
+            messages,
+            pairs,
+            actions,
+            out,
+        ) {
             Listed::Frame(used) => {
                 at += used;
                 index += 1;
@@ -129,6 +169,7 @@ fn list_all(
 // Reads the frame at the front of the bytes that are left, as one that either side sends, and lists it. One of HAProxy's has no actions, and one of an
 // agent's no messages.
 fn list_one(
+    rt: &impl Print,
     agents: bool,
     index: u64,
     rest: &[u8],
@@ -143,16 +184,25 @@ fn list_one(
     match read_one(agents, rest, messages, pairs, actions) {
         FrameRead::Done { head, counts, used } => {
             if !print(
+                rt,
                 listing::write_frame_line(index, head, used as u64, out),
                 out,
             ) {
                 return Listed::Closed;
             }
             let frame = &rest[0..used];
-            if !list_records(frame, messages, counts.messages, pairs, counts.pairs, out) {
+            if !list_records(
+                rt,
+                frame,
+                messages,
+                counts.messages,
+                pairs,
+                counts.pairs,
+                out,
+            ) {
                 return Listed::Closed;
             }
-            if !list_actions(frame, actions, counts.actions, out) {
+            if !list_actions(rt, frame, actions, counts.actions, out) {
                 return Listed::Closed;
             }
             Listed::Frame(used)
@@ -182,13 +232,19 @@ fn read_one(
 }
 
 // Lists the actions of a frame that was accepted, line by line.
-fn list_actions(frame: &[u8], actions: &[u64], count: usize, out: &mut [u8]) -> bool
+fn list_actions(
+    rt: &impl Print,
+    frame: &[u8],
+    actions: &[u64],
+    count: usize,
+    out: &mut [u8],
+) -> bool
     requires stand_actions { StandActions frame.now actions.now count }
     requires frame_in_bounds { 2 * length frame.now + 128 ≤ length out.old }
 {
     let mut k = 0;
     while k < count {
-        if !print(listing::write_action_at(frame, actions, k, out), out) {
+        if !print(rt, listing::write_action_at(frame, actions, k, out), out) {
             return false;
         }
         k += 1;
@@ -198,6 +254,7 @@ fn list_actions(frame: &[u8], actions: &[u64], count: usize, out: &mut [u8]) -> 
 
 // Lists the messages and pairs of a frame that was accepted, line by line.
 fn list_records(
+    rt: &impl Print,
     frame: &[u8],
     messages: &[u64],
     count: usize,
@@ -217,7 +274,7 @@ fn list_records(
     loop {
         match listing::write_next_line(frame, messages, count, pairs, total, place, out) {
             Step::Line { len, place: next } => {
-                if !io::write_all(STDOUT_FILENO, &out[0..len]) {
+                if rt.write_all(&out[0..len]).is_err() {
                     return false;
                 }
                 place = next;
@@ -225,9 +282,9 @@ fn list_records(
             Step::End => {
                 return true;
             },
-            // Never: of an accepted frame no line is refused where there is room. What nothing can meet is expected, so the proof shows that this is not reached.
+            // Never: of an accepted frame no line is refused where there is room, as the proof shows.
             Step::Refused(_) => {
-                check::expect(false);
+                prove!(false);
                 return true;
             },
         }
@@ -235,19 +292,20 @@ fn list_records(
 }
 
 // Writes the last line: how many bytes accepted frames took, and why there is no frame behind them.
-fn end(used: usize, r: Refusal, out: &mut [u8])
+fn end(rt: &impl Print, used: usize, r: Refusal, out: &mut [u8])
     requires { line_room ≤ length out.old }
 {
     print(
+        rt,
         listing::write_end_line(used as u64, r.number, r.place as u64, out),
         out,
     );
 }
 
 // Writes out a line that was not refused; whether there was somebody to write to.
-fn print(answer: Written, out: &[u8]) -> bool
+fn print(rt: &impl Print, answer: Written, out: &[u8]) -> bool
     requires { Lies answer out.now }
 {
     let n = answer::wrote(answer);
-    io::write_all(STDOUT_FILENO, &out[0..n])
+    rt.write_all(&out[0..n]).is_ok()
 }

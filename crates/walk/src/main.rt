@@ -3,15 +3,15 @@
 
 #![tactic(auto)]
 
-use libc::STDOUT_FILENO;
+use std::io;
 use walker::{Place, Step};
 
-fn main() {
+fn main(rt: HostRuntime) -> io::Result<()> {
     // A HAPROXY-HELLO with two pairs, "a" with true and "max" with the u32 16380, and nothing behind it.
     let hello = [
         0u8, 0, 0, 18, 1, 0, 0, 0, 1, 0, 0, 1, 97, 17, 3, 109, 97, 120, 3, 252, 240, 6,
     ];
-    walk(&hello, walker::kv_of(&hello));
+    walk(&rt, &hello, walker::kv_of(&hello))?;
     // A NOTIFY with the message "m" of two arguments, "x" with null and "" with false.
     let notify = [
         0u8, 0, 0, 15, 3, 0, 0, 0, 1, 1, 1, 1, 109, 2, 1, 120, 0, 0, 1,
@@ -22,55 +22,53 @@ fn main() {
         first: 0,
         count: 2,
     };
-    walk(&notify, walker::arguments_of(message));
+    walk(&rt, &notify, walker::arguments_of(message))?;
     // One argument more than there is.
     walk(
+        &rt,
         &notify,
         Place {
             at: 14,
             left: 3,
             kv: false,
         },
-    );
+    )
 }
 
 // Sixteen steps at most: no frame here has so many pairs.
-fn walk(bytes: &[u8], from: Place) {
+fn walk(rt: &impl Print, bytes: &[u8], from: Place) -> io::Result<()> {
     let mut place = from;
     let mut i: usize = 0;
     while i < 16 {
         match walker::step_from(bytes, place) {
             Step::Found { pair, next } => {
-                key(bytes, pair.start as usize, pair.len as usize);
+                key(rt, bytes, pair.start as usize, pair.len as usize)?;
                 place = next;
             },
             Step::End => {
-                io::write_all(STDOUT_FILENO, b"end\n");
-                return;
+                return rt.write_all(b"end\n");
             },
             Step::Refused(r) => {
-                io::write_all(STDOUT_FILENO, b"refused ");
-                io::print_decimal(STDOUT_FILENO, r.number);
-                io::write_all(STDOUT_FILENO, b" at ");
-                io::print_decimal(STDOUT_FILENO, r.place as u64);
-                io::write_all(STDOUT_FILENO, b"\n");
-                return;
+                let number = r.number;
+                let at = r.place;
+                return println!(rt; "refused {number} at {at}");
             },
         }
         i += 1;
     }
+    Ok(())
 }
 
 // A key in quotes, on its own line.
-fn key(bytes: &[u8], start: usize, len: usize) {
+fn key(rt: &impl Print, bytes: &[u8], start: usize, len: usize) -> io::Result<()> {
     if bytes.len() < start {
-        return;
+        return Ok(());
     }
     if bytes.len() - start < len {
-        return;
+        return Ok(());
     }
     let end = start + len;
-    io::write_all(STDOUT_FILENO, b"\"");
-    io::write_all(STDOUT_FILENO, &bytes[start..end]);
-    io::write_all(STDOUT_FILENO, b"\"\n");
+    rt.write_all(b"\"")?;
+    rt.write_all(&bytes[start..end])?;
+    rt.write_all(b"\"\n")
 }
