@@ -1,5 +1,4 @@
 -- `replay::lines` is safe and ends: each line ends past where it starts, and at the end of the text at the latest.
--- Assumes nothing.
 use Rattle.std.proofs.Common.{◌+◌, ◌-◌, ◌≤◌, length}
 use Rattle.replay.proofs.lines.Given as goal
 

@@ -1,5 +1,4 @@
 -- `replay::read_full` meets its contract: `n` goes up to the length of the buffer.
--- Assumes nothing.
 use Rattle.std.proofs.Common.{◌≡◌, ◌-◌, ◌≤◌, length}
 use Rattle.replay.proofs.read_full.Given as goal
 

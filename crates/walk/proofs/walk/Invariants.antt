@@ -1,5 +1,4 @@
 -- `walk::walk` meets its contract: it takes sixteen steps at most.
--- Assumes nothing.
 use Rattle.std.proofs.Common.{◌-◌, ◌≤◌}
 use Rattle.walk.proofs.walk.Given as goal
 

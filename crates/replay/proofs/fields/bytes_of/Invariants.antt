@@ -1,5 +1,4 @@
 -- `replay::fields::bytes_of` meets its contract: `n` stays within the output and within the pairs of the text.
--- Assumes nothing.
 use Rattle.std.proofs.Common.{◌≡◌, ◌*◌, ◌-◌, ◌≤◌, length}
 use Rattle.replay.proofs.fields.bytes_of.Given as goal
 

@@ -1,6 +1,5 @@
 -- `replay::fields::fields` meets its contract: each field ends past where it starts, and at the end of the text at the latest;
 -- what was found stays within both outputs.
--- Assumes nothing.
 use Rattle.std.proofs.Common.{◌≡◌, ◌+◌, ◌-◌, ◌≤◌, length}
 use Rattle.replay.proofs.fields.fields.Given as goal
 

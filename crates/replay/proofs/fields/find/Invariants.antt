@@ -1,5 +1,4 @@
 -- `replay::fields::find` meets its contract: `at` goes up and stops at the length at the latest.
--- Assumes nothing.
 use Rattle.std.proofs.Common.{◌-◌, ◌≤◌, length}
 use Rattle.replay.proofs.fields.find.Given as goal
 

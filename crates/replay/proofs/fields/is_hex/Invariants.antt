@@ -1,5 +1,4 @@
 -- `replay::fields::is_hex` is safe and ends: `i` goes up to the length.
--- Assumes nothing.
 use Rattle.std.proofs.Common.{◌-◌, ◌≤◌, length}
 use Rattle.replay.proofs.fields.is_hex.Given as goal
 

@@ -1,5 +1,4 @@
 -- `replay::fields::number_of` is safe and ends: a remainder of 60 bits has room for one digit more.
--- Assumes nothing.
 use Rattle.std.proofs.Common.{◌-◌, ◌≤◌, length}
 use Rattle.replay.proofs.fields.number_of.Given as goal
 

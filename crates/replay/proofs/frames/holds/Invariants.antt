@@ -1,5 +1,4 @@
 -- `replay::frames::holds` is safe and ends: `i` goes up to the length of the table.
--- Assumes nothing.
 use Rattle.std.proofs.Common.{◌-◌, ◌≤◌, length}
 use Rattle.replay.proofs.frames.holds.Given as goal
 
