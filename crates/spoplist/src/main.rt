@@ -65,7 +65,7 @@ fn are_words_known(rt: &impl Env) -> bool {
     !is_given(rt, 2) && is_for_agents(rt)
 }
 
-// Whether there is such a word. One that is there is longer than no bytes, or empty.
+// Whether there is such a word. It is lent no bytes, so one that is there is empty or does not fit.
 fn is_given(rt: &impl Env, word: usize) -> bool {
     match rt.arg(word, &mut []) {
         Err(FillError::NotPresent) => false,

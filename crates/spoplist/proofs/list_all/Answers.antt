@@ -33,11 +33,11 @@ loop-at-init g c =
 pub loop-at-preserved : goal.loop-at-preserved
 loop-at-preserved g c =
     let t =
-      rw (
-        lent_tail_lem c.loop-at.at c.args.input.now,
-        side_same c.args.agents c.loop-at.messages c.args.messages.now c.loop-at.pairs c.args.pairs.now c.loop-at.actions c.args.actions.now
-        c.loop-at.auto.messages c.loop-at.auto.pairs c.loop-at.auto.actions (drop c.loop-at.at c.args.input.now),
-      ) at c.in-Frame.ensures
+    rw (
+      lent_tail_lem c.loop-at.at c.args.input.now,
+      side_same c.args.agents c.loop-at.messages c.args.messages.now c.loop-at.pairs c.args.pairs.now c.loop-at.actions c.args.actions.now
+          c.loop-at.auto.messages c.loop-at.auto.pairs c.loop-at.auto.actions (drop c.loop-at.at c.args.input.now),
+    ) at c.in-Frame.ensures
     in
     record {
       in_range = omega (arith, t.most, length-drop c.loop-at.at c.args.input.now, c.loop-at.invariant.in_range);
@@ -51,7 +51,7 @@ returns-in-Stop g c =
     (rw (
       lent_tail_lem c.loop-at.at c.args.input.now,
       side_same c.args.agents c.loop-at.messages c.args.messages.now c.loop-at.pairs c.args.pairs.now c.loop-at.actions c.args.actions.now
-      c.loop-at.auto.messages c.loop-at.auto.pairs c.loop-at.auto.actions (drop c.loop-at.at c.args.input.now),
+          c.loop-at.auto.messages c.loop-at.auto.pairs c.loop-at.auto.actions (drop c.loop-at.at c.args.input.now),
     ) at c.in-Stop.ensures)
 
 pub returns : goal.returns
