@@ -1,4 +1,4 @@
-// The calls that hold the table of pair records. Each is short, as its proof is a walk over its compiled form, by hand; the work is `fill`'s.
+// The calls that hold the table of pair records. Each is short: the work is `fill`'s.
 ghost use Rattle.std.specs.Prelude.{length};
 ghost use Rattle.records.specs.Promise.{FillsRecords, ReadFrameRecords};
 ghost use Rattle.records.specs.Inner.{held, Begins};

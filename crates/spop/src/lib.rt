@@ -184,7 +184,7 @@ pub fn spop_read_frame(
     tell_frame(answer, head, at)
 }
 
-// The same with pair records for the pairs' numbers. It takes a slice of structs, so its proof is a walk by hand, and it only calls.
+// The same with pair records for the pairs' numbers.
 pub fn spop_read_frame_records(
     input: &[u8],
     limit: u32,
