@@ -1,4 +1,4 @@
--- Laws about the table of kinds: EachBelow kind's line, the 32 bits of an integer, the test of its two numbers and that of its flags.
+-- Laws about the table of kinds: each kind's line, the 32 bits of an integer, the test of its two numbers and that of its flags.
 use mathlib.Core.Path.{◌≡◌, refl, sym, ap, subst, ◌∙◌}
 use mathlib.Core.Bool.{Bool, true, false, ◌&&◌, and-false, true≢false}
 use mathlib.Core.Logic.{⊎_elim}
@@ -14,7 +14,7 @@ use Rattle.types.specs.Inner.{numbered}
 
 -- ---- the table
 
--- EachBelow kind's line
+-- each kind's line
 pub shape_is : (shape 0 ≡ nothing) × (shape 1 ≡ flag) × (shape 2 ≡ integer signed32) × (shape 3 ≡ integer unsigned32) × (shape 4 ≡ integer whole64)
     × (shape 5 ≡ integer whole64) × (shape 6 ≡ address 4) × (shape 7 ≡ address 16) × (shape 8 ≡ text) × (shape 9 ≡ text)
 unfolding shape
@@ -70,7 +70,7 @@ shape_cases k null bool int addr txt none =
     (lt_or_le k 6))
     (lt_or_le k 2)
 
--- The kinds whose DATA begins with a number, as bits of one number: EachBelow of the sixteen is looked at.
+-- The kinds whose DATA begins with a number, as bits of one number: each of the sixteen is looked at.
 EachBelow : (ℕ → Type 0) → ℕ → Type 0
 EachBelow P zero = Unit {0}
 EachBelow P (suc n) = P n × EachBelow P n

@@ -314,7 +314,7 @@ more_exact (b ∷ s) sum k (suc left) v used small p e h is =
         let e : b * W + u * X ≡ w * W = ap₂ (λ (x y : ℕ). x * W + y * X) (sym low) (sym high) ∙ both in
         omega arith
 
--- Law: an accepted number took Exactly the bytes that it is written as.
+-- Law: an accepted number took exactly the bytes that it is written as.
 pub number_exact : (s : List ℕ) (n used : ℕ) → Bytes s → number s ≡ done n used → take used s ≡ number_bytes n
 number_exact [] n used small is = not_both is number_none
 number_exact (b ∷ s) n used small is =

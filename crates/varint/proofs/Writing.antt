@@ -62,7 +62,7 @@ steps_reach n h = omega arith
 
 -- ---- how long
 
--- As many as k bytes are enough Exactly below what k bytes reach.
+-- As many as k bytes are enough exactly below what k bytes reach.
 pub groups_length : (left k v : ℕ) → v < reach left → (length (groups left v) ≤ k) ↔ (v < reach k)
 unfolding reach
 groups_length zero k v h = absurd (omega arith)
@@ -132,7 +132,7 @@ unfolding reach
 reach_bits zero = omega arith
 reach_bits (suc k) = omega (arith, seven_more k, reach_bits k)
 
--- So v is as far Exactly where v + 1 less a 128th of v, rounded up, has more than these bits.
+-- So v is as far exactly where v + 1 less a 128th of v, rounded up, has more than these bits.
 pub reached : (k v : ℕ) → (v < reach k) ↔ (v - (v + 127) / 128 + 1 < 2 ^ (7 * k))
 reached k v = (λ h. omega (arith, reach_bits k), λ h. omega (arith, reach_bits k))
 

@@ -10,7 +10,7 @@ abbrev pub number_said : NumberRead → Answer ℕ
 number_said (n.Done value used) = done value used
 number_said (n.Refused r) = refused r.number r.place
 
--- a number that was read took Exactly the bytes that it is written as
+-- a number that was read took exactly the bytes that it is written as
 abbrev pub Exactly : List ℕ → Answer ℕ → Type 0
 Exactly input (done value used) = take used input ≡ number_bytes value
 Exactly input (refused why place) = Unit

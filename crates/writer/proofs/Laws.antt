@@ -1,5 +1,5 @@
 -- Laws about what the writers write: what an accepted call has passed, and where its frame's parts stand. (Where a record's bytes stand is
--- answer's `payload_at`, which record is the refused one answer's `Each-first`, and that all arguments are all the pairs `arguments_all`.)
+-- answer's `payload_at`, which record is the refused one answer's `each_first`, and that all arguments are all the pairs `arguments_all`.)
 use mathlib.Core.Path.{◌≡◌, sym, ap, ◌∙◌}
 use mathlib.Core.Bool.{Bool, true, not, ◌||◌}
 use mathlib.Core.List.{List, [], ◌∷◌, ◌++◌}

@@ -1,4 +1,4 @@
--- `writer::action::no_value_lem` meets its contract: a case for each number.
+-- `writer::action::no_value` meets its contract: a case for each number.
 use borrow.Author.Tests.{eq-eqb, ne_eqb}
 use Rattle.writer.proofs.action.no_value.Goals as goal
 
