@@ -14,7 +14,10 @@ ANTT_COMMENT = re.compile(r'("(?:\\.|[^"\\])*"|«[^»]*»)|\{-.*?-\}|(?<![^\s(){
 RT_COMMENT = re.compile(r'("[^"\\\n]?")|"(?:\\.|[^"\\])*"|//[^\n]*', re.S)
 FUNCTION = re.compile(r'\b(pub(?:\([^)]*\))?\s+)?(?:(?:const|unsafe|extern(?:\s*"[^"]*")?)\s+)*fn\s+(\w+)')
 CLAUSE = re.compile(r"(?:[^{};\[]|\[[^]]*\])*?\b(requires|ensures)\b[\s*]*(?:\w+\s*)?(?=\{)")
-GROUPS = {"(": ")", "{": "}"}
+IMPL = re.compile(r"^(?:pub(?:\([^)]*\))?\s+)?((?:trait|impl)\b[^{]*?)\s*\{", re.M)
+OWN_TRAIT = re.compile(r"^(?:pub\([^)]*\)\s+)?trait\s+(\w+)", re.M)
+MEMBER = re.compile(r"\bghost\s+(\w+)\s*[:=]\s*(?=\{)")
+GROUPS = {"(": ")", "{": "}", "<": ">"}
 
 faults = []
 
@@ -147,7 +150,7 @@ def closing(text, at):
     """Where the bracket that opens there is closed."""
     depth, shut = 0, GROUPS[text[at]]
     for place in range(at, len(text)):
-        depth += (text[place] == text[at]) - (text[place] == shut)
+        depth += (text[place] == text[at]) - (text[place] == shut and text[place - 1 : place + 1] != "->")
         if depth == 0:
             return place
     return len(text)
@@ -157,7 +160,9 @@ def functions_of(module):
     """Each function's name, whether it is public, its parameters, and its `requires` and `ensures`, word by word, with the text of the latter
     and what it is lent to change."""
     for head in FUNCTION.finditer(module.code):
-        at = module.code.index("(", head.end())
+        # The bounds of a generic function have brackets of their own.
+        generic = module.code[head.end()] == "<"
+        at = module.code.index("(", closing(module.code, head.end()) if generic else head.end())
         end = closing(module.code, at)
         parameters = set(re.findall(r"(\w+)\s*:(?!:)", module.code[at:end])) | {"self"}
         clauses, place = {"requires": [], "ensures": [], "text": []}, end + 1
@@ -169,6 +174,16 @@ def functions_of(module):
             clauses[found[1]].append([word[1:-1] if word[1:-1] in parameters else word for word in TOKEN.findall(text)])
             clauses["text"] += [" ".join(text.split())] * (found[1] == "ensures")
         yield head[2], (head[1] or "").strip() == "pub", parameters, clauses
+
+
+def members_of(module):
+    """Each trait and `impl`: its head, the trait's name, and its ghost members with their texts, by name."""
+    for head in IMPL.finditer(module.code):
+        members = MEMBER.finditer(module.code, head.end(), closing(module.code, head.end() - 1))
+        texts = {member[1]: module.code[member.end() + 1 : closing(module.code, member.end())] for member in members}
+        generic = head[1].startswith("impl<")
+        trait = re.match(r"\s*(?:trait\s+)?(\w+)", head[1][closing(head[1], 4) + 1 if generic else 0 :].removeprefix("impl"))
+        yield " ".join(head[1].split()), trait and trait[1], {name: " ".join(text.split()) for name, text in texts.items()}
 
 
 # ---- what a name stands for
@@ -198,6 +213,10 @@ class Sources:
 
     def of(self, folder, crate=None):
         return [module for (name, where, _), module in self.modules.items() if where == folder and crate in (None, name)]
+
+    def own_traits(self, crate):
+        """The traits of a crate that no other crate can name."""
+        return {name for module in self.of("src", crate) for name in OWN_TRAIT.findall(module.code)}
 
     def definitions(self, crate):
         return [item for module in self.of("specs", crate) for item in module.items]

@@ -29,26 +29,25 @@ module _ {A : Type 0} {test : A → Bool} {at : ℕ → A} {count i : ℕ} (s : 
   pub seeking_all : count ≤ i → some test (records at 0 count) ≡ false
   seeking_all h = s.same ∙ ap (some test) (records_end at count i h) ∙ some_none test
 
--- ---- how they are written: old were the lent bytes, and out is what `place` of the written bytes made of them
+-- ---- how those from one to another are written: old were the lent bytes, and out is what `place` of the written bytes made of them
 
-pub record Putting {A : Type 0} (bytes : A → List ℕ) (at : ℕ → A) (count : ℕ) (old : List ℕ) (i place : ℕ) (out : List ℕ) : Type 0 where
-  pub partly : Partly (joined bytes (records at 0 count)) old place (joined bytes (records at i (count - i))) out
+pub record Putting {A : Type 0} (bytes : A → List ℕ) (at : ℕ → A) (from to : ℕ) (old : List ℕ) (i place : ℕ) (out : List ℕ) : Type 0 where
+  pub partly : Partly (joined bytes (records at from (to - from))) old place (joined bytes (records at i (to - i))) out
 
-pub putting_none : {A : Type 0} (bytes : A → List ℕ) (at : ℕ → A) (count : ℕ) (old : List ℕ)
-    → length (joined bytes (records at 0 count)) ≤ length old → Putting bytes at count old 0 0 old
-putting_none bytes at count old h =
-    record { partly = rw (records_start at count) (partly_none (joined bytes (records at 0 count)) old h) }
+pub putting_none : {A : Type 0} (bytes : A → List ℕ) (at : ℕ → A) (from to : ℕ) (old : List ℕ)
+    → length (joined bytes (records at from (to - from))) ≤ length old → Putting bytes at from to old from 0 old
+putting_none bytes at from to old h = record { partly = partly_none (joined bytes (records at from (to - from))) old h }
 
-module _ {A : Type 0} {bytes : A → List ℕ} {at : ℕ → A} {count : ℕ} {old : List ℕ} {i place : ℕ} {out : List ℕ}
-    (p : Putting bytes at count old i place out) where
+module _ {A : Type 0} {bytes : A → List ℕ} {at : ℕ → A} {from to : ℕ} {old : List ℕ} {i place : ℕ} {out : List ℕ}
+    (p : Putting bytes at from to old i place out) where
   pub putting_length : length out ≡ length old
   putting_length = partly_length p.partly
 
-  module _ (h : i < count) where
-    one_more : joined bytes (records at i (count - i)) ≡ bytes (at i) ++ joined bytes (records at (i + 1) (count - (i + 1)))
-    one_more = ap (joined bytes) (records_on at count i h) ∙ joined_on bytes (at i) _
+  module _ (h : i < to) where
+    one_more : joined bytes (records at i (to - i)) ≡ bytes (at i) ++ joined bytes (records at (i + 1) (to - (i + 1)))
+    one_more = ap (joined bytes) (records_on at to i h) ∙ joined_on bytes (at i) _
 
-    parts : Partly (joined bytes (records at 0 count)) old place (bytes (at i) ++ joined bytes (records at (i + 1) (count - (i + 1)))) out
+    parts : Partly (joined bytes (records at from (to - from))) old place (bytes (at i) ++ joined bytes (records at (i + 1) (to - (i + 1)))) out
     parts = rw one_more at p.partly
 
     pub putting_start : place ≤ length out
@@ -62,14 +61,14 @@ module _ {A : Type 0} {bytes : A → List ℕ} {at : ℕ → A} {count : ℕ} {o
 
     pub putting_on : (n : ℕ) (tail : List ℕ) → n ≡ length (bytes (at i))
         → tail ≡ leaves (written (bytes (at i))) (take (length out - place) (drop place out))
-        → Putting bytes at count old (i + 1) (place + n) (put_mid place (length out - place) out tail)
+        → Putting bytes at from to old (i + 1) (place + n) (put_mid place (length out - place) out tail)
     putting_on n tail en et = record { partly = rw en (partly_part (bytes (at i)) _ parts tail et) }
 
-  done_parts : count ≤ i → Partly (joined bytes (records at 0 count)) old place [] out
-  done_parts h = rw (ap (joined bytes) (records_end at count i h) ∙ joined_none bytes) at p.partly
+  done_parts : to ≤ i → Partly (joined bytes (records at from (to - from))) old place [] out
+  done_parts h = rw (ap (joined bytes) (records_end at to i h) ∙ joined_none bytes) at p.partly
 
-  pub putting_count : count ≤ i → place ≡ length (joined bytes (records at 0 count))
+  pub putting_count : to ≤ i → place ≡ length (joined bytes (records at from (to - from)))
   putting_count h = partly_count (done_parts h)
 
-  pub putting_all : count ≤ i → out ≡ leaves (written (joined bytes (records at 0 count))) old
+  pub putting_all : to ≤ i → out ≡ leaves (written (joined bytes (records at from (to - from)))) old
   putting_all h = partly_all (done_parts h)

@@ -10,10 +10,11 @@ use lib.ListN.{length, take, drop, set, get_or, length-append, length-take, leng
 use lib.Seq.{drop-cons, take-suc, append_snoc, set_at, take_all, length-take-le, drop-drop, take_at, drop_at}
 use borrow.Rule.Slice.PartMut.{put_mid}
 use borrow.Author.Tests.{le-leb, lt-leb}
-use Rattle.answer.specs.declared.Written.{Written}
-use Rattle.answer.specs.declared.Written.TheVariants as w
+use Rattle.std.specs.Prelude.{Result, Ok, Err}
+use Rattle.answer.specs.declared.Reason.TheVariants as reason
+use Rattle.answer.specs.declared.Refusal.{Refusal}
 use Rattle.answer.specs.Answer.{Answer, done, refused, written, within, leaves, tells}
-use Rattle.answer.specs.Writes.{said, Writes}
+use Rattle.answer.specs.Writes.{refusal_said, said, Writes}
 use Rattle.answer.proofs.Cases.{lt_or_le, bool_cases}
 
 -- Of `bytes`, which old has room for, the first `at` are written, which makes out of old, and rest is left to write.
@@ -112,30 +113,29 @@ module _ (front rest old out tail : List ℕ) (n : ℕ) (count : length front �
 
 -- ---- what a writer promises: by the answer within the lent bytes, and the two ways to keep it
 
-pub writes_as : {a b : Answer (List ℕ)} {r : Written} {old new : List ℕ} → within (length old) a ≡ b → said r ≡ tells b → new ≡ leaves b old → Writes a r old new
+pub writes_as : {a b : Answer (List ℕ)} {r : Result ℕ Refusal} {old new : List ℕ} → within (length old) a ≡ b → said r ≡ tells b → new ≡ leaves b old → Writes a r old new
 writes_as {old = old} e says holds = record { says = says ∙ ap tells (sym e); holds = holds ∙ ap (λ (x : Answer (List ℕ)). leaves x old) (sym e) }
 
-pub writes_none : (bytes old : List ℕ) → length old < length bytes
-    → Writes (written bytes) (w.Refused (record { number = 11; place = 0 })) old old
-writes_none bytes old h = writes_as {b = refused 11 0} (simp (lt-leb (length bytes) (length old) h)) refl refl
+pub writes_none : (bytes old : List ℕ) {r : Refusal} → r ≡ record { reason = reason.NoRoom; place = 0 } → length old < length bytes
+    → Writes (written bytes) (Err r) old old
+writes_none bytes old {r} e h = writes_as {b = refused 11 0} (simp (lt-leb (length bytes) (length old) h)) (ap refusal_said e) refl
 
 pub writes_all : (bytes old new : List ℕ) (n : ℕ) → length bytes ≤ length old → n ≡ length bytes → new ≡ leaves (written bytes) old
-    → Writes (written bytes) (w.Done n) old new
+    → Writes (written bytes) (Ok n) old new
 writes_all bytes old new n h count e = writes_as {b = written bytes} (simp (le-leb (length bytes) (length old) h)) (ap (done tt) count) e
 
 -- the same of an answer that has other refusals before these
-pub writes_refusal : {a : Answer (List ℕ)} (n place : ℕ) (old : List ℕ) → a ≡ refused n place
-    → Writes a (w.Refused (record { number = n; place = place })) old old
-writes_refusal n place old e = rw e (record { says = refl; holds = refl })
+pub writes_refusal : {a : Answer (List ℕ)} (r : Refusal) (old : List ℕ) → a ≡ refusal_said r → Writes a (Err r) old old
+writes_refusal r old e = rw e (record { says = refl; holds = refl })
 
 module _ {a : Answer (List ℕ)} (bytes old : List ℕ) (is : a ≡ written bytes) where
   pub writes_whole : (new : List ℕ) (n : ℕ) → length bytes ≤ length old → n ≡ length bytes → new ≡ leaves (written bytes) old
-      → Writes a (w.Done n) old new
+      → Writes a (Ok n) old new
   writes_whole new n room m e = rw is (writes_all bytes old new n room m e)
 
 -- What a caller learns where it was told that n bytes were written: they are there, at the front.
-pub writes_done : (bytes : List ℕ) {old new : List ℕ} {r : Written} {n : ℕ}
-    → Writes (written bytes) r old new → r ≡ w.Done n
+pub writes_done : (bytes : List ℕ) {old new : List ℕ} {r : Result ℕ Refusal} {n : ℕ}
+    → Writes (written bytes) r old new → r ≡ Ok n
     → (n ≡ length bytes) × (n ≤ length new) × (take n new ≡ bytes)
 writes_done bytes {old} {new} {r} {n} p is =
     ⊎_elim
@@ -156,7 +156,7 @@ pub record Given (a : Answer (List ℕ)) (n : ℕ) (old new : List ℕ) : Type 0
   pub is : a ≡ done bytes n
   pub left : new ≡ bytes ++ drop n old
 
-pub given : (a : Answer (List ℕ)) {n : ℕ} {old new : List ℕ} → Writes a (w.Done n) old new → Given a n old new
+pub given : (a : Answer (List ℕ)) {n : ℕ} {old new : List ℕ} → Writes a (Ok n) old new → Given a n old new
 given (done bytes m) {n} {old} {new} p =
     bool_cases (leb m (length old))
     (λ t.
@@ -168,13 +168,13 @@ given (done bytes m) {n} {old} {new} p =
 given (refused number place) p = let s = p.says in let z : ◌≡◌ {A = ℕ} 0 1 = cc s in absurd (omega arith)
 
 -- What it leaves where the caller knows that there is room.
-pub writes_room : (bytes : List ℕ) {old new : List ℕ} {r : Written}
+pub writes_room : (bytes : List ℕ) {old new : List ℕ} {r : Result ℕ Refusal}
     → Writes (written bytes) r old new → length bytes ≤ length old → new ≡ leaves (written bytes) old
 writes_room bytes {old} p h = simp (le-leb (length bytes) (length old) h) at p.holds
 
 -- ---- a writer that lends the tail of its output to another writer
 
-module _ (front bytes old out tail : List ℕ) (n : ℕ) {r : Written} (count : length front ≡ n)
+module _ (front bytes old out tail : List ℕ) (n : ℕ) {r : Result ℕ Refusal} (count : length front ≡ n)
     (first : out ≡ leaves (written front) old)
     (fit : length front + length bytes ≤ length old)
     (then : Writes (written bytes) r (take (length out - n) (drop n out)) tail) where

@@ -10,37 +10,36 @@ use lib.Seq.{length-take-le, drop-cons, drop-drop, take-add, take_at, drop_at}
 use borrow.Rule.Slice.PartMut.{put_mid}
 use borrow.Author.Tests.{le-leb}
 use Rattle.answer.specs.declared.Refusal.{Refusal}
-use Rattle.answer.specs.declared.Written.{Written}
-use Rattle.answer.specs.declared.Written.TheVariants as w
-use Rattle.answer.specs.Answer.{done, refused, written, within, leaves}
-use Rattle.answer.specs.Writes.{said, counted, Writes}
+use Rattle.std.specs.Prelude.{Result, Ok, Err}
+use Rattle.answer.specs.Answer.{done, written, leaves}
+use Rattle.answer.specs.Writes.{refusal_said, said, counted, Writes}
 use Rattle.answer.proofs.Output.{Partly, partly_next, partly_place, partly_length, lent_tail_lem, leaves_length, leaves_tail}
 
 -- ---- one writer
 
 -- where there is room, all is written
-module _ (bytes : List ℕ) {old new : List ℕ} {r : Written} (p : Writes (written bytes) r old new) (room : length bytes ≤ length old) where
+module _ (bytes : List ℕ) {old new : List ℕ} {r : Result ℕ Refusal} (p : Writes (written bytes) r old new) (room : length bytes ≤ length old) where
   pub room_count : said r ≡ done tt (length bytes)
   room_count = simp (le-leb (length bytes) (length old) room) at p.says
 
   pub room_leaves : new ≡ leaves (written bytes) old
   room_leaves = simp (le-leb (length bytes) (length old) room) at p.holds
 
-  pub room_done : (n : ℕ) → r ≡ w.Done n → n ≡ length bytes
+  pub room_done : (n : ℕ) → r ≡ Ok n → n ≡ length bytes
   room_done n is = let e : done tt n ≡ done tt (length bytes) = sym (ap said is) ∙ room_count in cc
 
-  pub room_refused : {G : Type 0} (x : Refusal) → r ≡ w.Refused x → G
+  pub room_refused : {G : Type 0} (x : Refusal) → r ≡ Err x → G
   room_refused x is =
-      let e : refused x.number x.place ≡ done tt (length bytes) = sym (ap said is) ∙ room_count in
+      let e : refusal_said x ≡ done tt (length bytes) = sym (ap said is) ∙ room_count in
       let z : ◌≡◌ {A = ℕ} 0 1 = cc in
       absurd (omega arith)
 
   pub room_counted : counted r ≡ length bytes
   room_counted = by_answer r refl
     where
-      by_answer : (x : Written) → r ≡ x → counted x ≡ length bytes
-      by_answer (w.Done n) is = room_done n is
-      by_answer (w.Refused x) is = room_refused x is
+      by_answer : (x : Result ℕ Refusal) → r ≡ x → counted x ≡ length bytes
+      by_answer (Ok n) is = room_done n is
+      by_answer (Err x) is = room_refused x is
 
 -- ---- two parts
 
@@ -65,6 +64,14 @@ module _ (front rest old out : List ℕ) (n : ℕ) (count : n ≡ length front) 
   pub both_leaves : (tail : List ℕ) → tail ≡ leaves (written rest) (take (length out - n) (drop n out))
       → put_mid n (length out - n) out tail ≡ leaves (written (front ++ rest)) old
   both_leaves tail e = leaves_tail front rest old out tail n (sym count) first e
+
+  -- where another writer is lent them
+  module _ {r : Result ℕ Refusal} (tail : List ℕ) (then : Writes (written rest) r (take (length out - n) (drop n out)) tail) where
+    pub both_wrote : counted r ≡ length rest
+    both_wrote = room_counted rest then both_room
+
+    pub both_written : put_mid n (length out - n) out tail ≡ leaves (written (front ++ rest)) old
+    both_written = both_leaves tail (room_leaves rest then both_room)
 
 -- ---- a part that another writer wrote into the tail behind what is written, `&mut out[at..]`
 

@@ -13,7 +13,7 @@ use Rattle.answer.specs.Answer.{Answer, done, refused, next}
 use Rattle.answer.specs.Row.{so_many, to_end}
 use Rattle.answer.specs.Inner.{InRow}
 use Rattle.answer.proofs.Cases.{lt_or_le, bool_cases}
-use Rattle.answer.proofs.Answers.{done_same, next_done}
+use Rattle.answer.proofs.Answers.{ends, done_same, next_done}
 
 -- ---- rows
 
@@ -147,11 +147,6 @@ module _ {A X : Type 0} (one : A → ℕ → Answer A) (put : A → X → A) whe
       (rw r.1 (end_so last k (put c x) r.0 xs r.3 (omega (arith, r.2))))
 
 -- ---- where it ends
-
--- how many bytes it took, or where it is refused
-abbrev pub ends : {A : Type 0} → Answer A → ℕ
-ends (done a used) = used
-ends (refused number place) = place
 
 -- what goes on within the bytes ends within them
 pub next_ends : {A B : Type 0} (last : ℕ) (a : Answer A) (g : A → ℕ → Answer B) → ends a ≤ last → ((x : A) (end : ℕ) → a ≡ done x end → ends (g x end) ≤ last) → ends (next a g) ≤ last

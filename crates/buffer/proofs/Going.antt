@@ -5,14 +5,13 @@ use Prim.Native.Nat.{ℕ, suc, ◌+◌, ◌-◌, ◌*◌, ◌/◌, ◌≤◌, �
 use native.Mathlib.Omega.{arith}
 use lib.ListN.{length, take, drop, length-append, length-drop, take-append-drop}
 use borrow.Rule.Slice.PartMut.{put_mid}
-use Rattle.answer.specs.declared.Refusal.{Refusal}
 use Rattle.answer.specs.Answer.{Answer, done, refused, written, leaves}
 use Rattle.answer.specs.Table.{joined}
 use Rattle.answer.proofs.Output.{lent_tail_lem, leaves_tail}
 use Rattle.answer.proofs.Records.{joined_none}
 use Rattle.frame.specs.declared.Head.{Head}
 use Rattle.frame.specs.declared.Side.TheVariants as side
-use Rattle.frame.specs.Read.{Reading, wait, answered}
+use Rattle.frame.specs.Read.{Reading, answered}
 use Rattle.frame.specs.Records.{message_width, message_numbers, pair_width, pair_numbers}
 use Rattle.payload.specs.declared.Counts.{Counts}
 use Rattle.payload.specs.Payload.{Contents}
@@ -20,19 +19,21 @@ use Rattle.payload.specs.Promise.{rooms_of, counts_of, table_left}
 use Rattle.payload.proofs.Filling.{joined_more, joined_width, Filled, filled_none, filled_length}
 use Rattle.payload.proofs.Kept.{Within}
 use Rattle.payload.proofs.Accepted.{payload_fit}
-use Rattle.parser.specs.declared.FrameRead.{FrameRead}
-use Rattle.parser.specs.declared.FrameRead.TheVariants as f
+use Rattle.std.specs.Prelude.{Result, Ok, Err}
+use Rattle.answer.specs.declared.Read.{Read}
+use Rattle.frame.specs.declared.Stop.{Stop}
+use Rattle.frame.specs.declared.Stop.TheVariants as stop
+use Rattle.frame.specs.Promise.{stop_said}
+use Rattle.parser.specs.declared.Frame.{Frame}
 use Rattle.parser.specs.Frame.{payload_of, frame_read}
 use Rattle.parser.specs.Promise.{frame_said, frame_tells, contents_read, FrameFills, ReadFrame}
 use Rattle.parser.proofs.Entries.{said_done}
 use Rattle.parser.proofs.Frames.{frame_cut}
 use Rattle.buffer.specs.declared.Totals.{Totals}
-use Rattle.buffer.specs.declared.Stop.{Stop}
-use Rattle.buffer.specs.declared.Stop.TheVariants as stop
-use Rattle.buffer.specs.Buffer.{FrameIn, FramesIn, none_read, with_read, room_behind, stopped, frame_first, read_behind, frames_from, row_width, row_numbers}
+use Rattle.buffer.specs.Buffer.{FrameIn, FramesIn, none_read, with_read, room_behind, stopped, frame_first, frame_behind, frames_from, row_width, row_numbers}
 use Rattle.buffer.specs.Promise.{frames_in, messages_in, pairs_in, ReadFrames}
 use Rattle.buffer.specs.Inner.{numbers_of, stop_of}
-use Rattle.buffer.proofs.From.{said_wait, said_refused, frame_there, from_wait, from_refused, from_done, from_none}
+use Rattle.buffer.proofs.From.{said_stop, frame_there, from_stop, from_done, from_none}
 
 -- ---- a table whose tail is lent
 
@@ -134,9 +135,6 @@ module _ (s : List ℕ) (limit : ℕ) (old_rows old_messages old_pairs : List �
 
   module _ {x : Totals} {rows messages pairs : List ℕ} (g : Going x rows messages pairs) where
     -- what stands there is within the tables, which are as long as they were
-    pub long_rows : length rows ≡ length old_rows
-    long_rows = filled_length g.in_rows
-
     pub long_messages : length messages ≡ length old_messages
     long_messages = filled_length g.in_messages_lem
 
@@ -149,22 +147,19 @@ module _ (s : List ℕ) (limit : ℕ) (old_rows old_messages old_pairs : List �
     pub in_table_pairs : x.pairs * pair_width ≤ length pairs
     in_table_pairs = omega (arith, g.many_pairs_lem, g.in_pairs.room, long_pairs)
 
-    pub row_room : x.frames < room → x.frames * row_width + row_width ≤ length rows
-    row_room h = omega (arith, h, long_rows)
-
     -- it ends where what is left is nothing
-    pub going_end : (why : Stop) → left x ≡ stopped x why → ReadFrames s limit (record { totals = x; stop = why }) old_rows rows old_messages messages old_pairs pairs
+    pub going_end : (why : Stop) → left x ≡ stopped x (stop_said why) → ReadFrames s limit (record { totals = x; stop = why }) old_rows rows old_messages messages old_pairs pairs
     going_end why e =
         let all : whole.frames ≡ g.so_far = g.goes ∙ ap (λ (l : FramesIn). g.so_far ++ l.frames) e ∙ append-nil g.so_far in
         record {
           says = sym (g.tells ∙ ap (λ (l : FramesIn). l.told) e);
-          rows = g.in_rows.holds ∙ ap (λ (l : List FrameIn). leaves (written (joined row_numbers l)) old_rows) (sym all);
-          messages = g.in_messages_lem.holds ∙ ap (λ (l : List FrameIn). leaves (written (joined messages_in l)) old_messages) (sym all);
-          pairs = g.in_pairs.holds ∙ ap (λ (l : List FrameIn). leaves (written (joined pairs_in l)) old_pairs) (sym all);
+          fills =
+              rw all
+              (record { rows = g.in_rows.holds; messages = g.in_messages_lem.holds; pairs = g.in_pairs.holds });
         }
 
     -- no row is left: the frame there is looked at
-    pub going_full : room ≤ x.frames → (r : FrameRead)
+    pub going_full : room ≤ x.frames → (r : Result (Read Frame) Stop)
         → frame_said r ≡ frame_tells (frame_read side.HAProxy limit (record { messages = length messages / message_width - x.messages; pairs = length pairs / pair_width - x.pairs; actions = 0 }) (lent_tail x.bytes s))
         → ReadFrames s limit (record { totals = x; stop = stop_of r }) old_rows rows old_messages messages old_pairs pairs
     going_full h r e =
@@ -182,7 +177,7 @@ module _ (s : List ℕ) (limit : ℕ) (old_rows old_messages old_pairs : List �
     abbrev from_pairs : ℕ
     from_pairs = x.pairs * pair_width
 
-    module _ (r : FrameRead) (tail_messages tail_pairs : List ℕ)
+    module _ (r : Result (Read Frame) Stop) (tail_messages tail_pairs : List ℕ)
         (call : ReadFrame (lent_tail x.bytes s) limit r (lent_tail from_messages messages) tail_messages (lent_tail from_pairs pairs) tail_pairs) where
       same_rooms : rooms_of (lent_tail from_messages messages) (lent_tail from_pairs pairs) [] ≡ room_behind rooms x
       same_rooms =
@@ -192,13 +187,13 @@ module _ (s : List ℕ) (limit : ℕ) (old_rows old_messages old_pairs : List �
           omega (arith, lent_length from_pairs pairs, long_pairs) in
           ap₂ (λ (n k : ℕ). record { messages = n; pairs = k; actions = 0 }) m p
 
-      reads : FrameFills (read_behind limit rooms s x) r (lent_tail from_messages messages) tail_messages (lent_tail from_pairs pairs) tail_pairs [] []
+      reads : FrameFills (frame_behind limit rooms s x) r (lent_tail from_messages messages) tail_messages (lent_tail from_pairs pairs) tail_pairs [] []
       reads =
           subst (λ (y : Reading (Head × Contents)). FrameFills y r (lent_tail from_messages messages) tail_messages (lent_tail from_pairs pairs) tail_pairs [] [])
           (ap₂ (λ (k : Counts) (l : List ℕ). frame_read side.HAProxy limit k l) same_rooms (lent_tail_lem x.bytes s)) call
 
       -- a frame that is not accepted fills nothing
-      unfilled : (n p : ℕ) → contents_read (read_behind limit rooms s x) ≡ refused n p
+      unfilled : (n p : ℕ) → contents_read (frame_behind limit rooms s x) ≡ refused n p
           → (back_in from_messages messages tail_messages ≡ messages) × (back_in from_pairs pairs tail_pairs ≡ pairs)
       unfilled n p is = (
         back_same from_messages messages tail_messages
@@ -207,38 +202,35 @@ module _ (s : List ℕ) (limit : ℕ) (old_rows old_messages old_pairs : List �
             (reads.fills.pairs ∙ ap (λ (a : Answer Contents). table_left pair_numbers (λ c. c.pairs) a (lent_tail from_pairs pairs)) is),
       )
 
-      pub back_lengths : (n p : ℕ) → contents_read (read_behind limit rooms s x) ≡ refused n p
-          → (length (back_in from_messages messages tail_messages) ≡ length old_messages) × (length (back_in from_pairs pairs tail_pairs) ≡ length old_pairs)
-      back_lengths n p is = let o = unfilled n p is in (ap length o.0 ∙ long_messages, ap length o.1 ∙ long_pairs)
+      -- what stops it there
+      module _ (e : Stop) (is : r ≡ Err e) where
+        stops : frame_behind limit rooms s x ≡ stop_said e
+        stops = said_stop (frame_behind limit rooms s x) e (ap frame_said (sym is) ∙ reads.says)
 
-      going_stops : (n p : ℕ) → contents_read (read_behind limit rooms s x) ≡ refused n p → (why : Stop) → left x ≡ stopped x why
-          → ReadFrames s limit (record { totals = x; stop = why }) old_rows rows old_messages (back_in from_messages messages tail_messages) old_pairs (back_in from_pairs pairs tail_pairs)
-      going_stops n p is why e = let o = unfilled n p is in rw (o.0, o.1) (going_end why e)
+        as_it_was : (back_in from_messages messages tail_messages ≡ messages) × (back_in from_pairs pairs tail_pairs ≡ pairs)
+        as_it_was = by_stop e (ap contents_read stops)
+          where
+            by_stop : (q : Stop) → contents_read (frame_behind limit rooms s x) ≡ contents_read (stop_said q)
+                → (back_in from_messages messages tail_messages ≡ messages) × (back_in from_pairs pairs tail_pairs ≡ pairs)
+            by_stop (stop.Wait missing) q = unfilled _ _ q
+            by_stop (stop.Refused y) q = unfilled _ _ q
 
-      module _ (missing : ℕ) (is : r ≡ f.Wait missing) where
-        waits : read_behind limit rooms s x ≡ wait missing
-        waits = said_wait (read_behind limit rooms s x) missing (ap frame_said (sym is) ∙ reads.says)
-
-        pub wait_lengths : (length (back_in from_messages messages tail_messages) ≡ length old_messages) × (length (back_in from_pairs pairs tail_pairs) ≡ length old_pairs)
-        wait_lengths = back_lengths 1 missing (ap contents_read waits)
-
-        pub going_wait : ReadFrames s limit (record { totals = x; stop = stop.Wait missing }) old_rows rows old_messages (back_in from_messages messages tail_messages) old_pairs (back_in from_pairs pairs tail_pairs)
-        going_wait = going_stops 1 missing (ap contents_read waits) (stop.Wait missing) (from_wait limit rooms s (room - x.frames) x missing waits)
-
-      module _ (q : Refusal) (is : r ≡ f.Refused q) where
-        refuses : read_behind limit rooms s x ≡ answered (refused q.number q.place)
-        refuses = said_refused (read_behind limit rooms s x) q.number q.place (ap frame_said (sym is) ∙ reads.says)
-
-        pub refused_lengths : (length (back_in from_messages messages tail_messages) ≡ length old_messages) × (length (back_in from_pairs pairs tail_pairs) ≡ length old_pairs)
-        refused_lengths = back_lengths q.number q.place (ap contents_read refuses)
-
-        pub going_refused : ReadFrames s limit (record { totals = x; stop = stop.Refused q }) old_rows rows old_messages (back_in from_messages messages tail_messages) old_pairs (back_in from_pairs pairs tail_pairs)
-        going_refused = going_stops q.number q.place (ap contents_read refuses) (stop.Refused q) (from_refused limit rooms s (room - x.frames) x q.number q.place refuses)
+        pub going_stops : ReadFrames s limit (record { totals = x; stop = e }) old_rows rows old_messages (back_in from_messages messages tail_messages) old_pairs (back_in from_pairs pairs tail_pairs)
+        going_stops = rw (as_it_was.0, as_it_was.1) (going_end e (from_stop limit rooms s (room - x.frames) x e stops))
 
       -- an accepted frame is one more
-      module _ (h : Head) (k : Counts) (used : ℕ) (is : r ≡ f.Done h k used) where
-        found : (c : Contents) × (read_behind limit rooms s x ≡ answered (done (h, c) used)) × (counts_of c ≡ k)
-        found = said_done (read_behind limit rooms s x) h k used (ap frame_said (sym is) ∙ reads.says)
+      module _ (y : Read Frame) (is : r ≡ Ok y) where
+        abbrev h : Head
+        h = y.value.head
+
+        abbrev k : Counts
+        k = y.value.counts
+
+        abbrev used : ℕ
+        used = y.used
+
+        found : (c : Contents) × (frame_behind limit rooms s x ≡ answered (done (h, c) used)) × (counts_of c ≡ k)
+        found = said_done (frame_behind limit rooms s x) h k used (ap frame_said (sym is) ∙ reads.says)
 
         abbrev c : Contents
         c = found.0
@@ -271,14 +263,14 @@ module _ (s : List ℕ) (limit : ℕ) (old_rows old_messages old_pairs : List �
         tail_pairs_lem : tail_pairs ≡ leaves (written (pairs_in here)) (lent_tail from_pairs pairs)
         tail_pairs_lem = reads.fills.pairs ∙ ap (λ (y : Reading (Head × Contents)). table_left pair_numbers (λ c. c.pairs) (contents_read y) (lent_tail from_pairs pairs)) found.1
 
-        module _ (below : x.frames < room) (tail_rows : List ℕ) where
+        module _ (row : ℕ) (counted : x.frames ≡ row) (below : row < room) (tail_rows : List ℕ) where
           one_more : left x ≡ frame_first here (left (with_read x c used))
           one_more =
               let n : room - x.frames ≡ suc (room - (x.frames + 1)) = omega arith in
               ap (λ (n : ℕ). frames_from limit rooms s n x) n ∙ from_done limit rooms s (room - (x.frames + 1)) x (h, c) used found.1
 
-          on : tail_rows ≡ leaves (written (row_numbers here)) (lent_tail (x.frames * row_width) rows)
-              → Going (with_read x c used) (back_in (x.frames * row_width) rows tail_rows) (back_in from_messages messages tail_messages) (back_in from_pairs pairs tail_pairs)
+          on : tail_rows ≡ leaves (written (row_numbers here)) (lent_tail (row * row_width) rows)
+              → Going (with_read x c used) (back_in (row * row_width) rows tail_rows) (back_in from_messages messages tail_messages) (back_in from_pairs pairs tail_pairs)
           on e =
               record {
                 so_far = g.so_far ++ (here ∷ []);
@@ -287,7 +279,7 @@ module _ (s : List ℕ) (limit : ℕ) (old_rows old_messages old_pairs : List �
                     ∙ ap (λ (l : FramesIn). g.so_far ++ l.frames) one_more
                     ∙ sym (append_assoc g.so_far (here ∷ []) (left (with_read x c used)).frames);
                 tells = g.tells ∙ ap (λ (l : FramesIn). l.told) one_more;
-                in_rows = filled_back g.in_rows here (x.frames * row_width) g.many_rows (omega (arith, below)) tail_rows e;
+                in_rows = filled_back g.in_rows here (row * row_width) (g.many_rows ∙ ap (λ (n : ℕ). n * row_width) counted) (omega (arith, below)) tail_rows e;
                 in_messages_lem = filled_back g.in_messages_lem here from_messages g.many_messages_lem (omega (arith, messages_long here, room_messages)) tail_messages tail_messages_lem;
                 in_pairs = filled_back g.in_pairs here from_pairs g.many_pairs_lem (omega (arith, pairs_long here, room_pairs)) tail_pairs tail_pairs_lem;
                 many_rows = omega (arith, longer row_numbers g.so_far here, g.many_rows);
@@ -296,12 +288,12 @@ module _ (s : List ℕ) (limit : ℕ) (old_rows old_messages old_pairs : List �
                 there = ends_there;
               }
 
-          pub going_on : tail_rows ≡ leaves (written (numbers_of x h k used)) (lent_tail (x.frames * row_width) rows)
+          pub going_on : tail_rows ≡ leaves (written (numbers_of x h k used)) (lent_tail (row * row_width) rows)
               → Going (record { frames = x.frames + 1; messages = x.messages + k.messages; pairs = x.pairs + k.pairs; bytes = x.bytes + used })
-              (back_in (x.frames * row_width) rows tail_rows) (back_in from_messages messages tail_messages) (back_in from_pairs pairs tail_pairs)
+              (back_in (row * row_width) rows tail_rows) (back_in from_messages messages tail_messages) (back_in from_pairs pairs tail_pairs)
           going_on e =
               subst
               (λ (n : Counts). Going (record { frames = x.frames + 1; messages = x.messages + n.messages; pairs = x.pairs + n.pairs; bytes = x.bytes + used })
-              (back_in (x.frames * row_width) rows tail_rows) (back_in from_messages messages tail_messages) (back_in from_pairs pairs tail_pairs))
+              (back_in (row * row_width) rows tail_rows) (back_in from_messages messages tail_messages) (back_in from_pairs pairs tail_pairs))
               found.2
-              (on (e ∙ ap (λ (n : Counts). leaves (written (numbers_of x h n used)) (lent_tail (x.frames * row_width) rows)) (sym found.2)))
+              (on (e ∙ ap (λ (n : Counts). leaves (written (numbers_of x h n used)) (lent_tail (row * row_width) rows)) (sym found.2)))

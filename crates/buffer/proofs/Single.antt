@@ -17,29 +17,32 @@ use Rattle.frame.specs.Records.{message_width, message_numbers, pair_width, pair
 use Rattle.payload.specs.declared.Counts.{Counts}
 use Rattle.payload.specs.Payload.{Contents}
 use Rattle.payload.specs.Promise.{rooms_of, counts_of, table_left}
-use Rattle.parser.specs.declared.FrameRead.{FrameRead}
-use Rattle.parser.specs.declared.FrameRead.TheVariants as f
+use Rattle.std.specs.Prelude.{Result, Ok, Err}
+use Rattle.answer.specs.declared.Read.{Read}
+use Rattle.frame.specs.declared.Stop.{Stop}
+use Rattle.frame.specs.declared.Stop.TheVariants as stop
+use Rattle.frame.specs.Promise.{stop_said}
+use Rattle.frame.proofs.Unique.{stop_same}
+use Rattle.parser.specs.declared.Frame.{Frame}
 use Rattle.parser.specs.Frame.{frame_read}
 use Rattle.parser.specs.Promise.{frame_said, frame_tells, contents_read, ReadFrame}
 use Rattle.frame.proofs.Cutting.{cut_start}
 use Rattle.parser.proofs.Frames.{frame_on}
-use Rattle.parser.proofs.Unique.{frame_same}
+use Rattle.parser.proofs.Unique.{frame_done, frame_same}
 use Rattle.parser.proofs.Entries.{said_done}
 use Rattle.buffer.specs.declared.Totals.{Totals}
-use Rattle.buffer.specs.declared.Stop.{Stop}
-use Rattle.buffer.specs.declared.Stop.TheVariants as stop
 use Rattle.buffer.specs.declared.FramesRead.{FramesRead}
-use Rattle.buffer.specs.Buffer.{FrameIn, FramesIn, none_read, with_read, room_behind, read_behind, frames_from, row_width, row_numbers}
+use Rattle.buffer.specs.Buffer.{FrameIn, FramesTold, FramesIn, none_read, with_read, room_behind, frame_behind, frames_from, row_width, row_numbers}
 use Rattle.buffer.specs.Promise.{frames_in, messages_in, pairs_in, ReadFrames}
 use Rattle.buffer.specs.Inner.{stop_of}
-use Rattle.buffer.proofs.From.{by_frames}
+use Rattle.buffer.proofs.From.{said_stop, by_frames}
 use Rattle.buffer.proofs.Going.{longer, messages_long, pairs_long}
 
 -- ---- by the definition
 
 -- The frame is what the single reader gives where it starts, with the room that was left there.
 abbrev pub Single : ℕ → Counts → List ℕ → FrameIn → Type 0
-Single limit rooms s y = read_behind limit rooms s y.before ≡ answered (done (y.head, y.contents) y.used)
+Single limit rooms s y = frame_behind limit rooms s y.before ≡ answered (done (y.head, y.contents) y.used)
 
 -- These frames follow each other: so much was read before the first, each starts where the one before it ended, and so much was read with the last.
 abbrev pub Follow : Totals → List FrameIn → Totals → Type 0
@@ -47,10 +50,10 @@ Follow x [] end = x ≡ end
 Follow x (y ∷ ys) end = (y.before ≡ x) × Follow (with_read x y.contents y.used) ys end
 
 -- What stopped it, by the single reader's answer there: it is this answer; where that accepts a frame it is 10 behind the frame, and no row is left.
-abbrev pub StopsBy : Type 0 → Reading (Head × Contents) → Stop → Type 0
-StopsBy full (wait missing) why = why ≡ stop.Wait missing
-StopsBy full (answered (refused number place)) why = why ≡ stop.Refused (record { number = number; place = place })
-StopsBy full (answered (done y used)) why = (why ≡ stop.Refused (record { number = 10; place = used })) × full
+abbrev pub StopsBy : Type 0 → Reading (Head × Contents) → Reading Unit → Type 0
+StopsBy full (wait missing) why = why ≡ wait missing
+StopsBy full (answered (refused number place)) why = why ≡ answered (refused number place)
+StopsBy full (answered (done y used)) why = (why ≡ answered (refused 10 used)) × full
 
 module _ (limit : ℕ) (rooms : Counts) (s : List ℕ) where
   pub frames_single : (n : ℕ) (x : Totals) → Each (Single limit rooms s) (frames_from limit rooms s n x).frames
@@ -64,16 +67,16 @@ module _ (limit : ℕ) (rooms : Counts) (s : List ℕ) where
       (λ n x y used e rest. (refl, rest))
 
   pub frames_stop : (n : ℕ) (x : Totals)
-      → let r = (frames_from limit rooms s n x).told in StopsBy (r.totals.frames ≡ x.frames + n) (read_behind limit rooms s r.totals) r.stop
+      → let r = (frames_from limit rooms s n x).told in StopsBy (r.totals.frames ≡ x.frames + n) (frame_behind limit rooms s r.totals) r.stop
   frames_stop =
-      by_frames limit rooms s (λ n x r. StopsBy (r.told.totals.frames ≡ x.frames + n) (read_behind limit rooms s r.told.totals) r.told.stop)
+      by_frames limit rooms s (λ n x r. StopsBy (r.told.totals.frames ≡ x.frames + n) (frame_behind limit rooms s r.told.totals) r.told.stop)
       (λ n x missing e. rw e refl)
       (λ n x number place e. rw e refl)
       (λ x y used e. let all : x.frames ≡ x.frames + 0 = omega arith in rw e (refl, all))
       (λ n x y used e rest.
       let next : x.frames + 1 + n ≡ x.frames + suc n = omega arith in
       let r = (frames_from limit rooms s n (with_read x y.1 used)).told in
-      subst (λ (k : ℕ). StopsBy (r.totals.frames ≡ k) (read_behind limit rooms s r.totals) r.stop) next rest)
+      subst (λ (k : ℕ). StopsBy (r.totals.frames ≡ k) (frame_behind limit rooms s r.totals) r.stop) next rest)
 
 -- Law: the rows tile the input. Each starts where the one before it ended, and the last ends where it stopped.
 abbrev pub Tile : ℕ → List FrameIn → ℕ → Type 0
@@ -140,15 +143,15 @@ module _ (input : List ℕ) (limit : ℕ) (r : FramesRead) (old_rows new_rows ol
   -- Law: the rows tile the input, from its first byte to where the frame that stopped starts.
   pub rows_tile : Tile 0 frames_of r.totals.bytes
   rows_tile =
-      subst (λ (q : FramesRead). Tile 0 frames_of q.totals.bytes) (sym p.says)
+      subst (λ (q : FramesTold). Tile 0 frames_of q.totals.bytes) (sym p.says)
       (follow_tile none_read frames_of _ (frames_follow limit rooms input (length old_rows / row_width) none_read))
 
   -- Law: what stopped it is the single reader's answer where the last row ended, but for the 10 of a missing row.
-  pub stop_single : StopsBy (r.totals.frames ≡ length old_rows / row_width) (read_behind limit rooms input r.totals) r.stop
+  pub stop_single : StopsBy (r.totals.frames ≡ length old_rows / row_width) (frame_behind limit rooms input r.totals) (stop_said r.stop)
   stop_single =
       let all : 0 + length old_rows / row_width ≡ length old_rows / row_width = omega arith in
-      subst (λ (q : FramesRead). StopsBy (q.totals.frames ≡ length old_rows / row_width) (read_behind limit rooms input q.totals) q.stop) (sym p.says)
-      (subst (λ (k : ℕ). StopsBy (whole.told.totals.frames ≡ k) (read_behind limit rooms input whole.told.totals) whole.told.stop) all
+      subst (λ (q : FramesTold). StopsBy (q.totals.frames ≡ length old_rows / row_width) (frame_behind limit rooms input q.totals) q.stop) (sym p.says)
+      (subst (λ (k : ℕ). StopsBy (whole.told.totals.frames ≡ k) (frame_behind limit rooms input whole.told.totals) whole.told.stop) all
       (frames_stop limit rooms input (length old_rows / row_width) none_read))
 
   -- Law: where no byte is left, four are missing.
@@ -157,9 +160,9 @@ module _ (input : List ℕ) (limit : ℕ) (r : FramesRead) (old_rows new_rows ol
       let rest = drop r.totals.bytes input in
       let none : length rest ≡ 0 = omega (arith, length-drop r.totals.bytes input) in
       let four : 4 - length rest ≡ 4 = omega arith in
-      let waits : read_behind limit rooms input r.totals ≡ wait 4 =
+      let waits : frame_behind limit rooms input r.totals ≡ wait 4 =
       frame_on side.HAProxy limit (room_behind rooms r.totals) rest (cut_start limit rest (omega arith)) ∙ ap wait four in
-      rw waits at stop_single
+      stop_same r.stop (stop.Wait 4) (rw waits at stop_single)
 
   -- each frame's records in the tables that were left
   abbrev many_messages : FrameIn → ℕ
@@ -171,25 +174,25 @@ module _ (input : List ℕ) (limit : ℕ) (r : FramesRead) (old_rows new_rows ol
   -- Law: each frame's row stands in its table behind those of the frames before it.
   pub rows_stand : Each (StandsAt row_numbers row_width (λ y. 1) (λ x. x.frames) new_rows) frames_of
   rows_stand =
-      subst (λ (l : List ℕ). Each (StandsAt row_numbers row_width (λ y. 1) (λ x. x.frames) l) frames_of) (sym p.rows)
+      subst (λ (l : List ℕ). Each (StandsAt row_numbers row_width (λ y. 1) (λ x. x.frames) l) frames_of) (sym p.fills.rows)
       (stand row_numbers row_width (λ y. 1) (λ x. x.frames) (λ y. refl) (λ x y. refl) (λ a b. omega arith) none_read frames_of _
       (frames_follow limit rooms input (length old_rows / row_width) none_read) [] (ap length (joined_none row_numbers)) _)
 
   messages_stand : Each (StandsAt messages_in message_width many_messages (λ x. x.messages) new_messages) frames_of
   messages_stand =
-      subst (λ (l : List ℕ). Each (StandsAt messages_in message_width many_messages (λ x. x.messages) l) frames_of) (sym p.messages)
+      subst (λ (l : List ℕ). Each (StandsAt messages_in message_width many_messages (λ x. x.messages) l) frames_of) (sym p.fills.messages)
       (stand messages_in message_width many_messages (λ x. x.messages) messages_long (λ x y. refl) (λ a b. omega arith) none_read frames_of _
       (frames_follow limit rooms input (length old_rows / row_width) none_read) [] (ap length (joined_none messages_in)) _)
 
   pairs_stand : Each (StandsAt pairs_in pair_width many_pairs (λ x. x.pairs) new_pairs) frames_of
   pairs_stand =
-      subst (λ (l : List ℕ). Each (StandsAt pairs_in pair_width many_pairs (λ x. x.pairs) l) frames_of) (sym p.pairs)
+      subst (λ (l : List ℕ). Each (StandsAt pairs_in pair_width many_pairs (λ x. x.pairs) l) frames_of) (sym p.fills.pairs)
       (stand pairs_in pair_width many_pairs (λ x. x.pairs) pairs_long (λ x y. refl) (λ a b. omega arith) none_read frames_of _
       (frames_follow limit rooms input (length old_rows / row_width) none_read) [] (ap length (joined_none pairs_in)) _)
 
   -- what the single reader gives behind what was read, lent the tables from there on
   lent_read : (b : Totals)
-      → frame_read side.HAProxy limit (rooms_of (drop (b.messages * message_width) old_messages) (drop (b.pairs * pair_width) old_pairs) []) (drop b.bytes input) ≡ read_behind limit rooms input b
+      → frame_read side.HAProxy limit (rooms_of (drop (b.messages * message_width) old_messages) (drop (b.pairs * pair_width) old_pairs) []) (drop b.bytes input) ≡ frame_behind limit rooms input b
   lent_read b =
       let m : length (drop (b.messages * message_width) old_messages) / message_width ≡ length old_messages / message_width - b.messages =
       omega (arith, length-drop (b.messages * message_width) old_messages) in
@@ -198,30 +201,30 @@ module _ (input : List ℕ) (limit : ℕ) (r : FramesRead) (old_rows new_rows ol
 
   -- Law: the same of the calls. What stopped it is what `read_frame` says where the last row ended, lent the tables from where the records end; where that accepts a
   -- frame, it is 10 behind the frame, and no row is left.
-  pub stop_call : (q : FrameRead) (next_messages next_pairs : List ℕ)
+  pub stop_call : (q : Result (Read Frame) Stop) (next_messages next_pairs : List ℕ)
       → ReadFrame (drop r.totals.bytes input) limit q (drop (r.totals.messages * message_width) old_messages) next_messages (drop (r.totals.pairs * pair_width) old_pairs) next_pairs
-      → (r.stop ≡ stop_of q) × ((h : Head) (k : Counts) (used : ℕ) → q ≡ f.Done h k used → r.totals.frames ≡ length old_rows / row_width)
+      → (r.stop ≡ stop_of q) × ((h : Head) (k : Counts) (used : ℕ) → q ≡ frame_done h k used → r.totals.frames ≡ length old_rows / row_width)
   stop_call q next_messages next_pairs call =
-      let x = read_behind limit rooms input r.totals in
+      let x = frame_behind limit rooms input r.totals in
       let says : frame_said q ≡ frame_tells x = call.says ∙ ap frame_tells (lent_read r.totals) in
-      (stops_as x q says stop_single, λ h k used is. stops_full x (said_done x h k used (ap frame_said (sym is) ∙ says)) stop_single)
+      (stop_same r.stop (stop_of q) (stops_as x q says stop_single), λ h k used is. stops_full x (said_done x h k used (ap frame_said (sym is) ∙ says)) stop_single)
     where
-      stops_as : (x : Reading (Head × Contents)) (q : FrameRead) → frame_said q ≡ frame_tells x
-          → StopsBy (r.totals.frames ≡ length old_rows / row_width) x r.stop → r.stop ≡ stop_of q
-      stops_as (wait missing) q e h = h ∙ ap stop_of (sym (frame_same q (f.Wait missing) e))
-      stops_as (answered (refused number place)) q e h = h ∙ ap stop_of (sym (frame_same q (f.Refused (record { number = number; place = place })) e))
-      stops_as (answered (done (g, c) used)) q e h = h.0 ∙ ap stop_of (sym (frame_same q (f.Done g (counts_of c) used) e))
+      stops_as : (x : Reading (Head × Contents)) (q : Result (Read Frame) Stop) → frame_said q ≡ frame_tells x
+          → StopsBy (r.totals.frames ≡ length old_rows / row_width) x (stop_said r.stop) → ◌≡◌ {A = Reading Unit} (stop_said r.stop) (stop_said (stop_of q))
+      stops_as x (Ok y) e h = let o = said_done x y.value.head y.value.counts y.used e in (rw o.1 at h).0
+      stops_as x (Err (stop.Wait n)) e h = rw (said_stop x (stop.Wait n) e) at h
+      stops_as x (Err (stop.Refused z)) e h = rw (said_stop x (stop.Refused z) e) at h
 
       stops_full : (x : Reading (Head × Contents)) {g : Head} {k : Counts} {used : ℕ} → (c : Contents) × (x ≡ answered (done (g, c) used)) × (counts_of c ≡ k)
-          → StopsBy (r.totals.frames ≡ length old_rows / row_width) x r.stop → r.totals.frames ≡ length old_rows / row_width
+          → StopsBy (r.totals.frames ≡ length old_rows / row_width) x (stop_said r.stop) → r.totals.frames ≡ length old_rows / row_width
       stops_full x (c, e, same) h = (rw e at h).1
 
   -- The single call where a frame starts, lent the tables from where the earlier records end: it says what the row does, and leaves the same numbers.
   abbrev pub SameCall : FrameIn → Type 0
   SameCall y =
-      (q : FrameRead) (next_messages next_pairs : List ℕ)
+      (q : Result (Read Frame) Stop) (next_messages next_pairs : List ℕ)
       → ReadFrame (drop y.before.bytes input) limit q (drop (y.before.messages * message_width) old_messages) next_messages (drop (y.before.pairs * pair_width) old_pairs) next_pairs
-      → (q ≡ f.Done y.head (counts_of y.contents) y.used)
+      → (q ≡ frame_done y.head (counts_of y.contents) y.used)
       × (take (many_messages y * message_width) next_messages ≡ take (many_messages y * message_width) (drop (y.before.messages * message_width) new_messages))
       × (take (many_pairs y * pair_width) next_pairs ≡ take (many_pairs y * pair_width) (drop (y.before.pairs * pair_width) new_pairs))
 
@@ -232,7 +235,7 @@ module _ (input : List ℕ) (limit : ℕ) (r : FramesRead) (old_rows new_rows ol
       let lent_messages = drop (b.messages * message_width) old_messages in
       let lent_pairs = drop (b.pairs * pair_width) old_pairs in
       let is : frame_read side.HAProxy limit (rooms_of lent_messages lent_pairs []) (drop b.bytes input) ≡ answered (done (y.head, y.contents) y.used) = lent_read b ∙ single in (
-        frame_same q (f.Done y.head (counts_of y.contents) y.used) (call.says ∙ ap frame_tells is),
+        frame_same q (frame_done y.head (counts_of y.contents) y.used) (call.says ∙ ap frame_tells is),
         ap (take (many_messages y * message_width))
             (call.fills.messages ∙ ap (λ (x : Reading (Head × Contents)). table_left message_numbers (λ c. c.messages) (contents_read x) lent_messages) is)
             ∙ take_at (messages_in y) _ (many_messages y * message_width) (messages_long y)
@@ -261,7 +264,7 @@ module _ (input : List ℕ) (limit : ℕ) (r : FramesRead) (old_rows new_rows ol
       × (length (joined pairs_in frames_of) ≡ r.totals.pairs * pair_width)
   many_numbers =
       let go = frames_follow limit rooms input (length old_rows / row_width) none_read in
-      let end : whole.told.totals ≡ r.totals = ap (λ (q : FramesRead). q.totals) (sym p.says) in
+      let end : whole.told.totals ≡ r.totals = ap (λ (q : FramesTold). q.totals) (sym p.says) in
       let a = follow_long row_numbers row_width (λ y. 1) (λ x. x.frames) (λ y. refl) (λ x y. refl) (λ i j. omega arith) none_read frames_of _ go in
       let b = follow_long messages_in message_width many_messages (λ x. x.messages) messages_long (λ x y. refl) (λ i j. omega arith) none_read frames_of _ go in
       let c = follow_long pairs_in pair_width many_pairs (λ x. x.pairs) pairs_long (λ x y. refl) (λ i j. omega arith) none_read frames_of _ go in (

@@ -8,9 +8,6 @@ use Rattle.payload.specs.declared.Counts.{Counts}
 use Rattle.payload.specs.Payload.{Contents}
 use Rattle.parser.specs.Frame.{frame_read}
 use Rattle.buffer.specs.declared.Totals.{Totals}
-use Rattle.buffer.specs.declared.Stop.{Stop}
-use Rattle.buffer.specs.declared.Stop.TheVariants as stop
-use Rattle.buffer.specs.declared.FramesRead.{FramesRead}
 
 -- A frame that was read: how much was read before it, its head, what it holds, and how many bytes it took.
 pub record FrameIn : Type 0 where
@@ -19,10 +16,15 @@ pub record FrameIn : Type 0 where
   pub contents : Contents
   pub used : ℕ
 
--- The frames that were read, in order, and what is told: how much that is, and what stopped it.
+-- What is told: how much was read, and what stopped it.
+pub record FramesTold : Type 0 where
+  pub totals : Totals
+  pub stop : Reading Unit
+
+-- The frames that were read, in order, and what is told of them.
 pub record FramesIn : Type 0 where
   pub frames : List FrameIn
-  pub told : FramesRead
+  pub told : FramesTold
 
 -- nothing was read yet
 abbrev pub none_read : Totals
@@ -38,13 +40,13 @@ abbrev pub room_behind : Counts → Totals → Counts
 room_behind rooms x = record { messages = rooms.messages - x.messages; pairs = rooms.pairs - x.pairs; actions = 0 }
 
 -- it stops there, with no frame more
-abbrev pub stopped : Totals → Stop → FramesIn
+abbrev pub stopped : Totals → Reading Unit → FramesIn
 stopped x why = record { frames = []; told = record { totals = x; stop = why } }
 
 -- a wait and a refusal stop it, and an accepted frame is left to what comes next
 abbrev pub on_accepted : Totals → Reading (Head × Contents) → (Head × Contents → ℕ → FramesIn) → FramesIn
-on_accepted x (wait missing) f = stopped x (stop.Wait missing)
-on_accepted x (answered (refused number place)) f = stopped x (stop.Refused (record { number = number; place = place }))
+on_accepted x (wait missing) f = stopped x (wait missing)
+on_accepted x (answered (refused number place)) f = stopped x (answered (refused number place))
 on_accepted x (answered (done y used)) f = f y used
 
 -- this frame comes first
@@ -53,14 +55,14 @@ frame_first y rest = record { frames = y ∷ rest.frames; told = rest.told }
 
 module _ (limit : ℕ) (rooms : Counts) (s : List ℕ) where
   -- the single reader's answer behind what was read
-  abbrev pub read_behind : Totals → Reading (Head × Contents)
-  read_behind x = frame_read side.HAProxy limit (room_behind rooms x) (drop x.bytes s)
+  abbrev pub frame_behind : Totals → Reading (Head × Contents)
+  frame_behind x = frame_read side.HAProxy limit (room_behind rooms x) (drop x.bytes s)
 
   -- The frames behind what was read, with so many rows left. An accepted frame for which there is none is refused with 10, its place behind that frame.
   unfoldable pub frames_from : ℕ → Totals → FramesIn
-  frames_from zero x = on_accepted x (read_behind x) (λ y used. stopped x (stop.Refused (record { number = 10; place = used })))
+  frames_from zero x = on_accepted x (frame_behind x) (λ y used. stopped x (answered (refused 10 used)))
   frames_from (suc n) x =
-      on_accepted x (read_behind x) (λ y used.
+      on_accepted x (frame_behind x) (λ y used.
       frame_first (record { before = x; head = y.0; contents = y.1; used = used }) (frames_from n (with_read x y.1 used)))
 
 -- how many numbers a row has

@@ -1,18 +1,18 @@
 -- What only private contracts cite. No public promise rests on anything in this file.
-use Rattle.std.specs.Prelude.{cond, List, [], ◌∷◌, ℕ, eqb}
+use Rattle.std.specs.Prelude.{cond, List, [], ◌∷◌, ℕ, eqb, Result, Ok, Err}
 use Rattle.frame.specs.declared.Head.{Head}
 use Rattle.payload.specs.declared.Counts.{Counts}
-use Rattle.parser.specs.declared.FrameRead.{FrameRead}
-use Rattle.parser.specs.declared.FrameRead.TheVariants as f
+use Rattle.answer.specs.declared.Read.{Read}
+use Rattle.answer.specs.declared.Reason.TheVariants as reason
+use Rattle.frame.specs.declared.Stop.{Stop}
+use Rattle.frame.specs.declared.Stop.TheVariants as stop
+use Rattle.parser.specs.declared.Frame.{Frame}
 use Rattle.buffer.specs.declared.Totals.{Totals}
-use Rattle.buffer.specs.declared.Stop.{Stop}
-use Rattle.buffer.specs.declared.Stop.TheVariants as stop
 
 -- what stops it where there is no row left, by what is said of the frame there
-abbrev pub stop_of : FrameRead → Stop
-stop_of (f.Done h counts used) = stop.Refused (record { number = 10; place = used })
-stop_of (f.Wait missing) = stop.Wait missing
-stop_of (f.Refused r) = stop.Refused r
+abbrev pub stop_of : Result (Read Frame) Stop → Stop
+stop_of (Ok x) = stop.Refused (record { reason = reason.TableFull; place = x.used })
+stop_of (Err e) = e
 
 -- the numbers of a row, where counts stand for the records
 abbrev pub numbers_of : Totals → Head → Counts → ℕ → List ℕ

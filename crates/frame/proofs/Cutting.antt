@@ -10,7 +10,8 @@ use borrow.Author.Tests.{le-leb, lt-leb}
 use Rattle.answer.specs.Answer.{done, refused}
 use Rattle.answer.specs.Order.{in_order}
 use Rattle.answer.proofs.Cases.{lt_or_le, not_both}
-use Rattle.frame.specs.declared.FrameCut.{FrameCut}
+use Rattle.std.specs.Prelude.{Result}
+use Rattle.frame.specs.declared.Stop.{Stop}
 use Rattle.frame.specs.Head.{four_number}
 use Rattle.frame.specs.Read.{wait, answered, cut}
 use Rattle.frame.specs.Promise.{cut_said, Cut}
@@ -137,7 +138,7 @@ cut_waits_once limit s t n h e m =
     ((cut_waits limit s n).0 e)
 
 -- what a call that says so was given, and how long a frame that was cut out is
-pub cut_said_lem : (limit : ℕ) (s : List ℕ) {r q : FrameCut} → Cut s limit r → r ≡ q → cut limit s ≡ cut_said s q
+pub cut_said_lem : (limit : ℕ) (s : List ℕ) {r q : Result ℕ Stop} → Cut s limit r → r ≡ q → cut limit s ≡ cut_said s q
 cut_said_lem limit s p e = sym p ∙ ap (cut_said s) e
 
 pub cut_long : (limit : ℕ) (s : List ℕ) (end : ℕ) → cut limit s ≡ answered (done (take end s) end) → end ≡ length (take end s)

@@ -6,5 +6,7 @@ pub mod Cutting
 pub mod Heads
 pub mod Back
 pub mod Meaning
+pub mod Records
 pub mod Rows
 pub mod Unique
+pub mod Types

@@ -1,30 +1,19 @@
-// Frames (SPOE.txt, section 3.2): the head, written (`write`) and read (`read`), behind the cut by the length. And the records that stand for
-// what a payload holds, as tables of 64-bit numbers have them.
+// Frames (SPOE.txt, section 3.2): the types (`kind`), the head, written (`write`) and read (`read`), behind the cut by the length. And the records
+// that stand for what a payload holds, as tables of 64-bit numbers have them (`table`).
 
 #![tactic(auto)]
 
+mod kind;
 mod read;
 mod table;
 mod write;
 
 use answer::Refusal;
+pub use kind::{FrameType, UnknownType};
 pub use read::{cut, read_head};
-pub use table::{action_at, message_at, pair_at, put};
+pub use table::{Record, put, record_at};
 use types::Value;
 pub use write::{head_len, write_head};
-
-// Types of frame (SPOE.txt, section 3.2.2).
-pub const HAPROXY_HELLO: u8 = 1;
-
-pub const HAPROXY_DISCONNECT: u8 = 2;
-
-pub const NOTIFY: u8 = 3;
-
-pub const AGENT_HELLO: u8 = 101;
-
-pub const AGENT_DISCONNECT: u8 = 102;
-
-pub const ACK: u8 = 103;
 
 // How many numbers a record has in its table.
 pub const MESSAGE_WIDTH: usize = 4;
@@ -35,20 +24,20 @@ pub const ACTION_WIDTH: usize = 8;
 
 // A pair: where its key stands in the buffer, and its value.
 #[repr(C)]
-#[derive(Clone, Copy)]
+#[derive(Clone, Copy, Debug, Default, PartialEq, Eq)]
 pub struct Pair {
     pub start: u64,
     pub len: u64,
     pub value: Value,
 }
 
-// An action on a variable sets it, or unsets it.
+// An action on a variable sets it, or unsets it. These are numbers, since a table may have any number there, which a writer refuses.
 pub const SET_VAR: u64 = 1;
 
 pub const UNSET_VAR: u64 = 2;
 
 // An action: what it does, the variable's scope, and the variable's name and value as a pair.
-#[derive(Clone, Copy)]
+#[derive(Clone, Copy, Debug, Default, PartialEq, Eq)]
 pub struct Action {
     pub verb: u64,
     pub scope: u64,
@@ -56,7 +45,7 @@ pub struct Action {
 }
 
 // A message: where its name stands in the buffer, and which pairs are its arguments: `count` of them from pair `first` on.
-#[derive(Clone, Copy)]
+#[derive(Clone, Copy, Debug, Default, PartialEq, Eq)]
 pub struct Message {
     pub start: u64,
     pub len: u64,
@@ -64,8 +53,9 @@ pub struct Message {
     pub count: u64,
 }
 
-// What stands before the payload: the type, the flags, and the numbers of the stream and of the frame in it.
-#[derive(Clone, Copy)]
+// What stands before the payload: the type, the flags, and the numbers of the stream and of the frame in it. A writer writes any type and flags,
+// so these are numbers.
+#[derive(Clone, Copy, Debug, PartialEq, Eq)]
 pub struct Head {
     pub frame_type: u8,
     pub flags: u32,
@@ -74,24 +64,26 @@ pub struct Head {
 }
 
 // The side that sends a frame.
-#[derive(Clone, Copy)]
+#[derive(Clone, Copy, Debug, PartialEq, Eq)]
 pub enum Side {
     HAProxy,
     Agents,
 }
 
-// What the cut by the length answers: how many bytes the frame has, with its length bytes; how many are missing; or that the length is over
-// the limit.
-#[derive(Clone, Copy)]
-pub enum FrameCut {
-    Whole(usize),
+// Why there is no frame: so many bytes are missing, or it is refused.
+#[derive(Clone, Copy, Debug, PartialEq, Eq)]
+pub enum Stop {
     Wait(usize),
-    Oversize,
+    Refused(Refusal),
 }
 
-// What the reader of a head answers: the head, and where the payload starts.
-#[derive(Clone, Copy)]
-pub enum HeadRead {
-    Done { head: Head, start: usize },
-    Refused(Refusal),
+impl From<Refusal> for Stop {
+    ghost use Rattle.std.specs.Prelude.{◌≡◌};
+    ghost use Rattle.frame.specs.declared.Stop.TheVariants as stop;
+
+    ghost from_gives = { λ refusal s. s ≡ stop.Refused refusal };
+
+    fn from(refusal: Refusal) -> Stop {
+        Stop::Refused(refusal)
+    }
 }

@@ -5,7 +5,7 @@ ghost use Rattle.frame.specs.Head.{four_bytes, head_bytes};
 ghost use Rattle.answer.specs.Writes.{Writes};
 
 use crate::Head;
-use answer::{NO_ROOM, Refusal, Written};
+use answer::{Reason, Refusal};
 
 // How many bytes the head has, from its type to its second number.
 pub fn head_len(head: Head) -> usize
@@ -15,20 +15,15 @@ pub fn head_len(head: Head) -> usize
 }
 
 // Writes the four length bytes and the head. `behind` is the length of the frame behind the length bytes.
-pub fn write_head(behind: u32, head: Head, out: &mut [u8]) -> Written
+pub fn write_head(behind: u32, head: Head, out: &mut [u8]) -> Result<usize, Refusal>
     ensures { Writes (written (four_bytes behind ++ head_bytes head)) result out.old out.new }
 {
     if out.len() < 4 + head_len(head) {
-        return Written::Refused(Refusal {
-            number: NO_ROOM,
-            place: 0,
-        });
+        return Err(Reason::NoRoom.at(0));
     }
-    let n = 9 + varint::varint_len(head.stream);
     put_start(behind, head.frame_type, head.flags, out);
-    varint::encode_varint(head.stream, &mut out[9..]);
-    varint::encode_varint(head.frame, &mut out[n..]);
-    Written::Done(n + varint::varint_len(head.frame))
+    let n = 9 + answer::wrote(varint::encode_varint(head.stream, &mut out[9..]));
+    Ok(n + answer::wrote(varint::encode_varint(head.frame, &mut out[n..])))
 }
 
 // The nine bytes of fixed places: the length, the type and the flags.

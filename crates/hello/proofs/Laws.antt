@@ -1,9 +1,10 @@
--- Laws about the negotiations: what each test decides, and what a choice says.
-use mathlib.Core.Path.{◌≡◌, refl, ap, ap₂, ◌∙◌}
+-- Laws about the negotiations: what each test decides, how the versions are looked at, and what a choice says.
+use mathlib.Core.Path.{◌≡◌, refl, sym, ap, ap₂, ◌∙◌}
 use mathlib.Core.Bool.{Bool, true, false, cond, ◌||◌}
 use mathlib.Core.List.{List, [], ◌∷◌}
-use Prim.Native.Nat.{ℕ, suc, ◌+◌, ◌*◌, ◌/◌, ◌≤◌, ◌<◌, min}
+use Prim.Native.Nat.{ℕ, zero, suc, ◌+◌, ◌*◌, ◌/◌, ◌≤◌, ◌<◌, min}
 use native.Mathlib.Omega.{arith}
+use Rattle.std.specs.Prelude.{Some, None}
 use lib.Dec.{ltb}
 use lib.ListN.{length}
 use borrow.Author.Tests.{le-leb, lt-leb, eq-eqb, ne_eqb}
@@ -14,7 +15,9 @@ use Rattle.answer.proofs.Rows.{number_later}
 use Rattle.answer.proofs.Records.{records_none, records_run, some_none}
 use Rattle.hello.specs.declared.Announced.{Announced}
 use Rattle.hello.specs.declared.Version.{Version}
-use Rattle.hello.specs.declared.Chosen.TheVariants as c
+use Rattle.std.specs.Bool.{then_some}
+use Rattle.std.specs.List.{list_any}
+use Rattle.std.specs.Simd.{first_chunks}
 use Rattle.hello.specs.Hello.{frame_size, version_width, version_at, covers, announced, choice}
 
 module _ (theirs ours : ℕ) where
@@ -82,26 +85,48 @@ module _ (v : Announced) (others : List ℕ) where
       ∙ ap₂ (λ (x : Announced) (l : List Announced). cond (covers x) true (some covers l)) first_is same
       ∙ bool_cases (covers v) (λ t. rw t) (λ t. rw t)
 
-pub choice_some : (s : List ℕ) → announced s ≡ true → choice s ≡ c.Version (record { major = 2; minor = 0; patch = 0 })
+-- Law: so one is announced where one of the table's chunks covers 2.0.0, each read by itself.
+abbrev pub one_covers : List (List ℕ) → Bool
+one_covers = list_any (λ (numbers : List ℕ). covers (version_at numbers 0))
+
+chunks_cover : (n : ℕ) (s : List ℕ) → length s / version_width ≡ n → one_covers (first_chunks version_width n s) ≡ announced s
+chunks_cover zero s e = sym (announced_none s (omega arith))
+chunks_cover (suc n) [] e = absurd (omega arith)
+chunks_cover (suc n) (a ∷ []) e = absurd (omega arith)
+chunks_cover (suc n) (a ∷ b ∷ []) e = absurd (omega arith)
+chunks_cover (suc n) (a ∷ b ∷ c ∷ []) e = absurd (omega arith)
+chunks_cover (suc n) (a ∷ b ∷ c ∷ d ∷ s) e =
+    let first : Announced = record { major = a; minor = b; patch = c; pre = d } in
+    ap₂ ◌||◌ (ap covers (first_is first [])) (chunks_cover n s (omega arith)) ∙ sym (announced_on first s)
+
+pub announced_chunks : (s : List ℕ) → one_covers (first_chunks version_width (length s / version_width) s) ≡ announced s
+announced_chunks s = chunks_cover (length s / version_width) s refl
+
+pub choice_some : (s : List ℕ) → announced s ≡ true → choice s ≡ Some (record { major = 2; minor = 0; patch = 0 })
 unfolding choice
 choice_some s e = simp e
 
-pub choice_none : (s : List ℕ) → announced s ≡ false → choice s ≡ c.None
+pub choice_none : (s : List ℕ) → announced s ≡ false → choice s ≡ None
 unfolding choice
 choice_none s e = simp e
 
+-- so the choice is as `then_some` gives it
+pub choice_then : (s : List ℕ) (b : Bool) → b ≡ announced s → then_some b (record { major = 2; minor = 0; patch = 0 }) ≡ choice s
+choice_then s true e = sym (choice_some s (sym e))
+choice_then s false e = sym (choice_none s (sym e))
+
 -- what a choice says of the announced versions
 module _ (s : List ℕ) where
-  go_some : (b : Bool) → announced s ≡ b → {v : Version} → choice s ≡ c.Version v → announced s ≡ true
+  go_some : (b : Bool) → announced s ≡ b → {v : Version} → choice s ≡ Some v → announced s ≡ true
   go_some true e p = e
   go_some false e p = let q = choice_none s e in let z : ◌≡◌ {A = ℕ} 0 1 = cc in absurd (omega arith)
 
-  pub some_announced : {v : Version} → choice s ≡ c.Version v → announced s ≡ true
+  pub some_announced : {v : Version} → choice s ≡ Some v → announced s ≡ true
   some_announced p = go_some (announced s) refl p
 
-  go_none : (b : Bool) → announced s ≡ b → choice s ≡ c.None → announced s ≡ false
+  go_none : (b : Bool) → announced s ≡ b → choice s ≡ None → announced s ≡ false
   go_none true e p = let q = choice_some s e in let z : ◌≡◌ {A = ℕ} 0 1 = cc in absurd (omega arith)
   go_none false e p = e
 
-  pub none_announced : choice s ≡ c.None → announced s ≡ false
+  pub none_announced : choice s ≡ None → announced s ≡ false
   none_announced p = go_none (announced s) refl p

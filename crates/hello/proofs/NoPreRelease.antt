@@ -5,6 +5,7 @@ use mathlib.Core.Bool.{Bool, false, cond, ◌||◌}
 use mathlib.Core.List.{List, [], ◌∷◌}
 use Prim.Native.Nat.{ℕ, zero, suc, ◌+◌, ◌/◌, ◌<◌}
 use native.Mathlib.Omega.{arith}
+use Rattle.std.specs.Prelude.{Option, Some, None}
 use lib.Dec.{eqb}
 use lib.ListN.{length}
 use borrow.Author.Tests.{eqb-true, eqb-false}
@@ -12,8 +13,6 @@ use Rattle.answer.specs.Table.{records, joined, some}
 use Rattle.answer.proofs.Cases.{bool_cases}
 use Rattle.hello.specs.declared.Announced.{Announced}
 use Rattle.hello.specs.declared.Version.{Version}
-use Rattle.hello.specs.declared.Chosen.{Chosen}
-use Rattle.hello.specs.declared.Chosen.TheVariants as c
 use Rattle.hello.specs.Hello.{version_width, version_at, covers, announced, choice}
 use Rattle.hello.proofs.Laws.{covers_other, covers_normal, announced_none, announced_on}
 
@@ -24,8 +23,8 @@ major_two (major ∷ []) = false
 major_two (major ∷ minor ∷ []) = false
 major_two (major ∷ minor ∷ patch ∷ others) = eqb major 2 || major_two others
 
-unfoldable pub choice_by_major : List ℕ → Chosen
-choice_by_major versions = cond (major_two versions) (c.Version (record { major = 2; minor = 0; patch = 0 })) c.None
+unfoldable pub choice_by_major : List ℕ → Option Version
+choice_by_major versions = cond (major_two versions) (Some (record { major = 2; minor = 0; patch = 0 })) None
 
 -- the first three numbers of each version of a table
 abbrev pub first_three : Announced → List ℕ
@@ -62,10 +61,10 @@ module _ (versions : List ℕ) (normal : (i : ℕ) → i < length versions / ver
 
   pub no_pre_release_choice : choice versions ≡ choice_by_major (in_threes versions)
   unfolding choice choice_by_major
-  no_pre_release_choice = ap (λ (t : Bool). cond t (c.Version (record { major = 2; minor = 0; patch = 0 })) c.None) no_pre_release
+  no_pre_release_choice = ap (λ (t : Bool). cond t (Some (record { major = 2; minor = 0; patch = 0 })) None) no_pre_release
 
   -- what `negotiate_version` answers
-  pub no_pre_release_answer : (r : Chosen) → r ≡ choice versions → r ≡ choice_by_major (in_threes versions)
+  pub no_pre_release_answer : (r : Option Version) → r ≡ choice versions → r ≡ choice_by_major (in_threes versions)
   no_pre_release_answer r p = p ∙ no_pre_release_choice
 
 -- The same from three numbers to four: with 0 behind each version of a list it is as it was.

@@ -1,10 +1,9 @@
 -- The HELLO handshake: SPOE.txt, sections 3.2, 3.2.4 and 3.2.5, and the ranks of versions: Semantic Versioning 2.0.0, section 11.
-use Rattle.std.specs.Prelude.{Bool, cond, ◌&&◌, ◌||◌, List, ℕ, min, ◌/◌, ltb, leb, eqb, length}
+use Rattle.std.specs.Prelude.{Bool, cond, ◌&&◌, ◌||◌, List, ℕ, min, ◌/◌, ltb, leb, eqb, length, Option, Some, None}
 use Rattle.answer.specs.Answer.{Answer, done, refused}
 use Rattle.answer.specs.Table.{number_at, records, some}
 use Rattle.hello.specs.declared.Announced.{Announced}
-use Rattle.hello.specs.declared.Chosen.{Chosen}
-use Rattle.hello.specs.declared.Chosen.TheVariants as c
+use Rattle.hello.specs.declared.Version.{Version}
 
 -- "The maximum size supported by peers for a frame must be greater than or equal to 256 bytes", and the agent returns "the lower
 -- value between its maximum size allowed for a frame and the HAProxy one". 13 at place 0 where a size is below (docs/RULES.md).
@@ -32,5 +31,5 @@ unfoldable pub announced : List ℕ → Bool
 announced versions = some covers (records (version_at versions) 0 (length versions / version_width))
 
 -- what the agent chooses: the version that it supports, or none
-unfoldable pub choice : List ℕ → Chosen
-choice versions = cond (announced versions) (c.Version (record { major = 2; minor = 0; patch = 0 })) c.None
+unfoldable pub choice : List ℕ → Option Version
+choice versions = cond (announced versions) (Some (record { major = 2; minor = 0; patch = 0 })) None

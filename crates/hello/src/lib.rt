@@ -2,16 +2,16 @@
 
 #![tactic(auto)]
 
-ghost use Rattle.std.specs.Prelude.{◌≡◌, ◌+◌, ◌*◌, ◌≤◌, length};
-ghost use Rattle.hello.specs.Hello.{version_width, version_at, covers, choice};
+ghost use Rattle.std.specs.Prelude.{◌≡◌};
+ghost use Rattle.hello.specs.Hello.{version_at, covers, choice};
 ghost use Rattle.hello.specs.Promise.{NegotiateMaxFrameSize};
 
-use answer::{Refusal, SIZE_TOO_SMALL};
+use answer::{Reason, Refusal};
 
 // The least size that a peer may announce.
 pub const MIN_FRAME_SIZE: u32 = 256;
 
-#[derive(Clone, Copy)]
+#[derive(Clone, Copy, Debug, PartialEq, Eq)]
 pub struct Version {
     pub major: u64,
     pub minor: u64,
@@ -24,11 +24,11 @@ pub const SUPPORTED_VERSION: Version = Version {
     patch: 0,
 };
 
-// How many numbers an announced version has in the table of them.
+// How many numbers an announced version has in the table of them, which C lends as numbers.
 pub const VERSION_WIDTH: usize = 4;
 
 // An announced version. The last number is 0 exactly where it has no pre-release part.
-#[derive(Clone, Copy)]
+#[derive(Clone, Copy, Debug, PartialEq, Eq)]
 pub struct Announced {
     pub major: u64,
     pub minor: u64,
@@ -36,83 +36,49 @@ pub struct Announced {
     pub pre: u64,
 }
 
-// What the size is settled on.
-#[derive(Clone, Copy)]
-pub enum Size {
-    Agreed(u32),
-    Refused(Refusal),
+impl From<[u64; VERSION_WIDTH]> for Announced {
+    ghost from_gives = { λ numbers version. version ≡ version_at numbers 0 };
+
+    #[tactic(auto, unfolding(crate::specs::Hello::version_at))]
+    fn from(numbers: [u64; VERSION_WIDTH]) -> Announced {
+        let [major, minor, patch, pre] = numbers;
+        Announced {
+            major,
+            minor,
+            patch,
+            pre,
+        }
+    }
 }
 
-// What version is given.
-#[derive(Clone, Copy)]
-pub enum Chosen {
-    Version(Version),
-    None,
+impl Announced {
+    // Whether whoever speaks this version speaks the supported one. A pre-release ranks below its version.
+    #[tactic(auto, unfolding(crate::specs::Hello::covers))]
+    fn covers_supported(self) -> bool
+        ensures { result ≡ covers self }
+    {
+        self.major == SUPPORTED_VERSION.major && (self.pre == 0 || 0 < self.minor || 0 < self.patch)
+    }
 }
 
 // The smaller of both sizes.
-pub fn negotiate_max_frame_size(theirs: u32, ours: u32) -> Size
+#[tactic(auto, unfolding(crate::specs::Hello::frame_size))]
+pub fn negotiate_max_frame_size(theirs: u32, ours: u32) -> Result<u32, Refusal>
     ensures { NegotiateMaxFrameSize theirs ours result }
 {
-    if theirs < MIN_FRAME_SIZE {
-        return Size::Refused(Refusal {
-            number: SIZE_TOO_SMALL,
-            place: 0,
-        });
+    if theirs < MIN_FRAME_SIZE || ours < MIN_FRAME_SIZE {
+        return Err(Reason::SizeTooSmall.at(0));
     }
-    if ours < MIN_FRAME_SIZE {
-        return Size::Refused(Refusal {
-            number: SIZE_TOO_SMALL,
-            place: 0,
-        });
-    }
-    if theirs < ours {
-        return Size::Agreed(theirs);
-    }
-    Size::Agreed(ours)
+    Ok(theirs.min(ours))
 }
 
-// Version i of a table.
-fn version_at(versions: &[u64], i: usize) -> Announced
-    requires { i * version_width + version_width ≤ length versions.now }
-    ensures { result ≡ version_at versions.now i }
-{
-    let at = i * VERSION_WIDTH;
-    Announced {
-        major: versions[at],
-        minor: versions[at + 1],
-        patch: versions[at + 2],
-        pre: versions[at + 3],
-    }
-}
-
-// Whether whoever speaks this version speaks the supported one. A pre-release ranks below its version.
-fn covers_supported(v: Announced) -> bool
-    ensures { result ≡ covers v }
-{
-    if v.major != SUPPORTED_VERSION.major {
-        return false;
-    }
-    if v.pre == 0 {
-        return true;
-    }
-    if 0 < v.minor {
-        return true;
-    }
-    0 < v.patch
-}
-
-// The supported version, where one of the announced ones covers it.
-pub fn negotiate_version(versions: &[u64]) -> Chosen
+// The supported version, where one of the announced ones covers it. Fewer numbers than a version has, at the end of the table, are passed over.
+pub fn negotiate_version(versions: &[u64]) -> Option<Version>
     ensures { result ≡ choice versions.now }
 {
-    let count = versions.len() / VERSION_WIDTH;
-    let mut i = 0;
-    while i < count {
-        if covers_supported(version_at(versions, i)) {
-            return Chosen::Version(SUPPORTED_VERSION);
-        }
-        i += 1;
-    }
-    Chosen::None
+    let (announced, _) = versions.as_chunks::<VERSION_WIDTH>();
+    announced
+        .iter()
+        .any(|numbers| Announced::from(*numbers).covers_supported())
+        .then_some(SUPPORTED_VERSION)
 }

@@ -8,23 +8,22 @@ use native.Mathlib.Omega.{arith}
 use lib.Dec.{ltb}
 use lib.ListN.{length}
 use borrow.Author.Tests.{le-leb, lt-leb, lt-ltb, le-ltb, ltb-true}
-use Rattle.answer.specs.declared.Written.{Written}
-use Rattle.answer.specs.declared.Written.TheVariants as w
+use Rattle.std.specs.Prelude.{Result, Ok, Err, Option, Some, None}
+use Rattle.answer.specs.declared.Refusal.{Refusal}
 use Rattle.answer.specs.Answer.{Answer, done, refused, tells, within}
 use Rattle.answer.specs.Writes.{said, counted, Writes}
 use Rattle.answer.proofs.Cases.{lt_or_le, bool_cases, both_true}
 use Rattle.answer.proofs.Same.{writes_unique, one_only}
 use Rattle.frame.specs.Records.{message_width, pair_width, message_at, pair_at}
 use Rattle.listing.specs.declared.Place.{Place}
-use Rattle.listing.specs.declared.Step.{Step}
-use Rattle.listing.specs.declared.Step.TheVariants as s
+use Rattle.listing.specs.declared.Line.{Line}
 use Rattle.listing.specs.Check.{pair_answer, message_answer}
 use Rattle.listing.specs.Order.{pair_next, behind_pair, behind_message, in_table, Coming, line, none, coming, step_of, Comes}
 
 -- ---- a step
 
-pub comes_unique : (c : Coming) (r q : Step) (old new other : List ℕ) → Comes c r old new → Comes c q old other → (r ≡ q) × (new ≡ other)
-comes_unique (line a p) r q old new other x y = let o = writes_unique x.2 y.2 in (x.1 ∙ ap (λ (b : Written). step_of b p) o.0 ∙ sym y.1, o.1)
+pub comes_unique : (c : Coming) (r q : Result (Option Line) Refusal) (old new other : List ℕ) → Comes c r old new → Comes c q old other → (r ≡ q) × (new ≡ other)
+comes_unique (line a p) r q old new other x y = let o = writes_unique x.2 y.2 in (x.1 ∙ ap (λ (b : Result ℕ Refusal). step_of b p) o.0 ∙ sym y.1, o.1)
 comes_unique none r q old new other x y = (one_only x.0 y.0, one_only x.1 y.1)
 
 -- ---- which comes
@@ -47,31 +46,31 @@ module _ (f messages : List ℕ) (count : ℕ) (pairs : List ℕ) (total : ℕ) 
 -- ---- what a caller learns
 
 -- a writer's count fits what was lent to it
-pub writes_fit : {a : Answer (List ℕ)} {r : Written} {old new : List ℕ} → Writes a r old new → counted r ≤ length old
+pub writes_fit : {a : Answer (List ℕ)} {r : Result ℕ Refusal} {old new : List ℕ} → Writes a r old new → counted r ≤ length old
 writes_fit {a} {r} {old} p = told_fits a (length old) r p.says
   where
-    told_fits : (a : Answer (List ℕ)) (room : ℕ) (r : Written) → said r ≡ tells (within room a) → counted r ≤ room
-    told_fits (done bytes n) room (w.Done m) e =
+    told_fits : (a : Answer (List ℕ)) (room : ℕ) (r : Result ℕ Refusal) → said r ≡ tells (within room a) → counted r ≤ room
+    told_fits (done bytes n) room (Ok m) e =
         ⊎_elim
         (λ h. let q : done tt m ≡ refused 11 0 = simp (lt-leb n room h) at e in let z : ◌≡◌ {A = ℕ} 0 1 = cc in absurd (omega arith))
         (λ h. let q : done tt m ≡ done tt n = simp (le-leb n room h) at e in let same : m ≡ n = cc in omega arith)
         (lt_or_le room n)
-    told_fits (refused number place) room (w.Done m) e = let z : ◌≡◌ {A = ℕ} 0 1 = cc in absurd (omega arith)
-    told_fits (done bytes n) room (w.Refused r) e = zero-le
-    told_fits (refused number place) room (w.Refused r) e = zero-le
+    told_fits (refused number place) room (Ok m) e = let z : ◌≡◌ {A = ℕ} 0 1 = cc in absurd (omega arith)
+    told_fits (done bytes n) room (Err r) e = zero-le
+    told_fits (refused number place) room (Err r) e = zero-le
 
-module _ {r : Step} (old new : List ℕ) (n : ℕ) (q : Place) (is : r ≡ s.Line n q) where
+module _ {r : Result (Option Line) Refusal} (old new : List ℕ) (l : Line) (is : r ≡ Ok (Some l)) where
   -- a line that came fits, and leads to its place
-  line_came : (a : Answer (List ℕ)) (p : Place) → Comes (line a p) r old new → (n ≤ length old) × (p ≡ q)
-  line_came a p (w.Done m, e, x) =
-      let o : s.Line m p ≡ s.Line n q = sym e ∙ is in
-      let same : m ≡ n = cc in
-      (omega (arith, writes_fit x), cc)
-  line_came a p (w.Refused y, e, x) = let o : s.Refused y ≡ s.Line n q = sym e ∙ is in let z : ◌≡◌ {A = ℕ} 0 1 = cc in absurd (omega arith)
+  line_came : (a : Answer (List ℕ)) (p : Place) → Comes (line a p) r old new → (l.len ≤ length old) × (p ≡ l.place)
+  line_came a p (Ok m, e, x) =
+      let o : step_of (Ok m) p ≡ Ok (Some l) = sym e ∙ is in
+      let same : ◌≡◌ {A = Line} (record { len = m; place = p }) l = cc in
+      (omega (arith, writes_fit x, ap (λ (y : Line). y.len) same), ap (λ (y : Line). y.place) same)
+  line_came a p (Err y, e, x) = let o : step_of (Err y) p ≡ Ok (Some l) = sym e ∙ is in absurd (cc o)
 
   -- Law: so each line that comes fits, and with each there are fewer left.
   pub line_less : (f messages : List ℕ) (count : ℕ) (pairs : List ℕ) (total : ℕ) (p : Place) → Comes (coming f messages count pairs total p) r old new
-      → (n ≤ length old) × ((count - q.messages) + (total - q.pairs) < (count - p.messages) + (total - p.pairs))
+      → (l.len ≤ length old) × ((count - l.place.messages) + (total - l.place.pairs) < (count - p.messages) + (total - p.pairs))
   line_less f messages count pairs total p e =
       bool_cases (pair_next count total p)
       (λ t.
@@ -85,6 +84,6 @@ module _ {r : Step} (old new : List ℕ) (n : ℕ) (q : Place) (is : r ≡ s.Lin
       (g.0, rw (sym g.1) (omega (arith, h))))
       (λ h.
       let g = rw (coming_none f messages count pairs total p t h) at e in
-      let o : s.End ≡ s.Line n q = sym g.0 ∙ is in
-      let z : ◌≡◌ {A = ℕ} 0 1 = cc in absurd (omega arith))
+      let o : ◌≡◌ {A = Result (Option Line) Refusal} (Ok None) (Ok (Some l)) = sym g.0 ∙ is in
+      absurd (cc o))
       (lt_or_le p.messages count))

@@ -1,11 +1,11 @@
 -- Laws about decimal digits: how they unroll, how many they are, and how they are written from the last to the first.
-use mathlib.Core.Path.{◌≡◌, sym, ap, ◌∙◌}
+use mathlib.Core.Path.{◌≡◌, refl, sym, ap, ◌∙◌}
 use mathlib.Core.Logic.{⊎_elim}
-use mathlib.Core.List.{List, [], ◌∷◌, ◌++◌, append-nil}
+use mathlib.Core.List.{List, [], ◌∷◌, ◌++◌}
 use Prim.Native.Nat.{ℕ, zero, suc, ◌+◌, ◌-◌, ◌*◌, ◌/◌, ◌%◌, ◌^◌, ◌≤◌, ◌<◌}
 use native.Mathlib.Omega.{arith}
-use lib.ListN.{length, take, drop, set, get_or, length-append, length-take, length-drop, take-append-drop}
-use lib.Seq.{take-suc, set_at, append_snoc, length-take-le}
+use lib.ListN.{length, take, drop, set, get_or, length-append, length-take, take-append-drop, drop_of_length-le}
+use lib.Seq.{take-suc, set_at, append_snoc, length-take-le, take_all, take_at, drop_at}
 use borrow.Author.Tests.{lt-ltb, le-ltb}
 use Rattle.answer.specs.Answer.{written}
 use Rattle.answer.proofs.Cases.{lt_or_le}
@@ -75,22 +75,27 @@ decimal_some n = ⊎_elim (λ l. omega (arith, length_last n l)) (λ l. omega (a
 
 -- ---- from the last to the first
 
+-- the last digit, and those before it
+ends : (n : ℕ) → (front : List ℕ) × (decimal n ≡ front ++ (glyph (n % 10) ∷ [])) × (0 < length front → decimal (n / 10) ≡ front)
+ends n =
+    ⊎_elim (λ l. let e : n ≡ n % 10 = omega arith in ([], decimal_last n l ∙ ap (λ (d : ℕ). glyph d ∷ []) e, λ z. absurd (omega arith)))
+    (λ l. (decimal (n / 10), decimal_on n l, λ z. refl))
+    (lt_or_le n 10)
+
 -- Of the digits of n, which old has room for, those behind the first `at` are written; the first are the digits of rest.
 pub record Backwards (n : ℕ) (old : List ℕ) (at rest : ℕ) (out : List ℕ) : Type 0 where
   pub room : length (decimal n) ≤ length old
-  pub place : at ≡ length (decimal rest)
-  pub behind : List ℕ
-  pub split : decimal n ≡ decimal rest ++ behind
-  pub so_far : out ≡ take at old ++ (behind ++ drop (length (decimal n)) old)
+  pub place : at ≤ length (decimal n)
+  pub so_far : out ≡ take at old ++ (drop at (decimal n) ++ drop (length (decimal n)) old)
+  pub left : 0 < at → decimal rest ≡ take at (decimal n)
 
 pub backwards_none : (n at : ℕ) (old : List ℕ) → length (decimal n) ≤ length old → at ≡ length (decimal n) → Backwards n old at n old
 backwards_none n at old room e =
     record {
       room = room;
-      place = e;
-      behind = [];
-      split = sym (append-nil (decimal n));
-      so_far = rw e (sym (take-append-drop (length (decimal n)) old));
+      place = omega arith;
+      so_far = rw (e, drop_of_length-le (decimal n) {i = length (decimal n)} (omega arith)) (sym (take-append-drop (length (decimal n)) old));
+      left = λ h. sym (take_all at (decimal n) (omega arith));
     }
 
 -- one byte more, in front of those that are written
@@ -100,46 +105,34 @@ stored old behind at b h =
     ∙ ap (λ (l : List ℕ). set l at b) (append_snoc (take at old) (get_or old at 0) behind)
     ∙ set_at (take at old) (get_or old at 0) behind b at (length-take-le at old (omega arith))
 
-module _ {n : ℕ} {old : List ℕ} {at rest : ℕ} {out : List ℕ} (p : Backwards n old at rest out) where
-  fits : at ≤ length old
-  fits = omega (arith, p.room, p.place, ap length p.split, length-append (decimal rest) p.behind)
-
-  pub backwards_length : length out ≡ length old
-  backwards_length =
-      rw p.so_far
-      (simp (length-append, length-take, length-drop)
-      (omega (arith, fits, p.room, p.place, ap length p.split, length-append (decimal rest) p.behind)))
-
-  pub backwards_place : 1 ≤ at
-  backwards_place = omega (arith, p.place, decimal_some rest)
-
-  pub backwards_fits : at ≤ length out
-  backwards_fits = omega (arith, fits, backwards_length)
-
-  pub backwards_on : 10 ≤ rest → Backwards n old (at - 1) (rest / 10) (set out (at - 1) (glyph (rest % 10)))
-  backwards_on h =
-      let one : at ≡ suc (at - 1) = omega (arith, backwards_place) in
+module _ {n : ℕ} {old : List ℕ} {rest : ℕ} {out : List ℕ} where
+  -- one digit more
+  stored_on : (k : ℕ) → Backwards n old (suc k) rest out → Backwards n old k (rest / 10) (set out k (glyph (rest % 10)))
+  stored_on k p =
+      let last = glyph (rest % 10) in
+      let e = ends rest in
+      let behind = drop (suc k) (decimal n) in
+      let these : decimal rest ≡ take (suc k) (decimal n) = p.left (omega arith) in
+      let long : length e.0 ≡ k = omega (arith, ap length e.1, length-append e.0 (last ∷ []), ap length these, length-take (suc k) (decimal n), p.place) in
+      let split : decimal n ≡ e.0 ++ (last ∷ behind) =
+      sym (take-append-drop (suc k) (decimal n)) ∙ ap (λ (l : List ℕ). l ++ behind) (sym these ∙ e.1) ∙ append_snoc e.0 last behind in
+      let front : take k (decimal n) ≡ e.0 = ap (take k) split ∙ take_at e.0 (last ∷ behind) k long in
+      let next : drop k (decimal n) ≡ last ∷ behind = ap (drop k) split ∙ drop_at e.0 (last ∷ behind) k long in
       record {
         room = p.room;
-        place = omega (arith, p.place, length_on rest h);
-        behind = glyph (rest % 10) ∷ p.behind;
-        split =
-            p.split
-            ∙ ap (λ (l : List ℕ). l ++ p.behind) (decimal_on rest h)
-            ∙ append_snoc (decimal (rest / 10)) (glyph (rest % 10)) p.behind;
+        place = omega (arith, p.place);
         so_far =
-            ap (λ (l : List ℕ). set l (at - 1) (glyph (rest % 10))) (p.so_far ∙ ap (λ (k : ℕ). take k old ++ (p.behind ++ drop (length (decimal n)) old)) one)
-            ∙ stored old (p.behind ++ drop (length (decimal n)) old) (at - 1) (glyph (rest % 10)) (omega (arith, fits, backwards_place));
+            ap (λ (l : List ℕ). set l k last) p.so_far
+            ∙ stored old (behind ++ drop (length (decimal n)) old) k last (omega (arith, p.room, p.place))
+            ∙ ap (λ (l : List ℕ). take k old ++ (l ++ drop (length (decimal n)) old)) (sym next);
+        left = λ h. e.2 (omega (arith, long)) ∙ sym front;
       }
 
-  -- the first digit is the last that is written
-  pub backwards_all : (len : ℕ) → len ≡ length (decimal n) → rest < 10 → Puts (written (decimal n)) len old (set out 0 (glyph rest))
-  backwards_all len e h =
-      let one : at ≡ 1 = p.place ∙ length_last rest h in
-      record {
-        counts = e;
-        holds =
-            ap (λ (l : List ℕ). set l 0 (glyph rest)) (p.so_far ∙ ap (λ (k : ℕ). take k old ++ (p.behind ++ drop (length (decimal n)) old)) one)
-            ∙ stored old (p.behind ++ drop (length (decimal n)) old) 0 (glyph rest) (omega (arith, fits))
-            ∙ ap (λ (l : List ℕ). l ++ drop (length (decimal n)) old) (sym (p.split ∙ ap (λ (l : List ℕ). l ++ p.behind) (decimal_last rest h)));
-      }
+  pub backwards_on : (at : ℕ) → Backwards n old at rest out → 0 < at → Backwards n old (at - 1) (rest / 10) (set out (at - 1) (glyph (rest % 10)))
+  backwards_on zero p h = absurd (omega arith)
+  backwards_on (suc k) p h = let e : suc k - 1 ≡ k = omega arith in rw e (stored_on k p)
+
+  -- all are written
+  pub backwards_all : (at len : ℕ) → Backwards n old at rest out → len ≡ length (decimal n) → at ≤ 0 → Puts (written (decimal n)) len old out
+  backwards_all zero len p e h = record { counts = e; holds = p.so_far }
+  backwards_all (suc k) len p e h = absurd (omega arith)

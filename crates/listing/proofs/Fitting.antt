@@ -9,8 +9,7 @@ use lib.Dec.{ltb}
 use lib.ListN.{length, length-append}
 use borrow.Author.Tests.{le-leb, ltb-true}
 use Rattle.answer.specs.declared.Refusal.{Refusal}
-use Rattle.answer.specs.declared.Written.{Written}
-use Rattle.answer.specs.declared.Written.TheVariants as w
+use Rattle.std.specs.Prelude.{Result, Ok, Err, Option, None}
 use Rattle.answer.specs.Answer.{Answer, done, written}
 use Rattle.answer.specs.Table.{joined}
 use Rattle.answer.specs.Writes.{said, Writes}
@@ -26,8 +25,7 @@ use Rattle.payload.specs.declared.Counts.{Counts}
 use Rattle.payload.specs.Payload.{Contents}
 use Rattle.parser.specs.Frame.{framed}
 use Rattle.listing.specs.declared.Place.{Place}
-use Rattle.listing.specs.declared.Step.{Step}
-use Rattle.listing.specs.declared.Step.TheVariants as s
+use Rattle.listing.specs.declared.Line.{Line}
 use Rattle.listing.specs.Digits.{decimal}
 use Rattle.listing.specs.Lines.{filled, message_line, pair_line, action_line, frame_line, end_line}
 use Rattle.listing.specs.Check.{message_answer, pair_answer, action_answer}
@@ -46,18 +44,18 @@ pub record Fits (room : ℕ) (a : Answer (List ℕ)) : Type 0 where
   pub most : length bytes ≤ room
 
 -- Law: its writer does not refuse it.
-pub fits_done : {a : Answer (List ℕ)} {r : Written} {old new : List ℕ} → Fits (length old) a → Writes a r old new → (n : ℕ) × (r ≡ w.Done n) × (n ≤ length old)
+pub fits_done : {a : Answer (List ℕ)} {r : Result ℕ Refusal} {old new : List ℕ} → Fits (length old) a → Writes a r old new → (n : ℕ) × (r ≡ Ok n) × (n ≤ length old)
 fits_done {a} {r} {old} g x = by_answer r (x.says ∙ rw (g.is, le-leb (length g.bytes) (length old) g.most))
   where
-    by_answer : (q : Written) → said q ≡ done tt (length g.bytes) → (n : ℕ) × (q ≡ w.Done n) × (n ≤ length old)
-    by_answer (w.Done n) e = let o = done_same e in (n, refl, omega (arith, o.1, g.most))
-    by_answer (w.Refused y) e = not_both e refl
+    by_answer : (q : Result ℕ Refusal) → said q ≡ done tt (length g.bytes) → (n : ℕ) × (q ≡ Ok n) × (n ≤ length old)
+    by_answer (Ok n) e = let o = done_same e in (n, refl, omega (arith, o.1, g.most))
+    by_answer (Err y) e = not_both e refl
 
 -- Law: where each of so many messages and pairs has a line that fits, no place has one that is refused.
-pub coming_fits : (f messages : List ℕ) (count : ℕ) (pairs : List ℕ) (total : ℕ) (p : Place) {r : Step} (old new : List ℕ) (y : Refusal)
+pub coming_fits : (f messages : List ℕ) (count : ℕ) (pairs : List ℕ) (total : ℕ) (p : Place) {r : Result (Option Line) Refusal} (old new : List ℕ) (y : Refusal)
     → ((i : ℕ) → i < count → Fits (length old) (in_table message_width message_at message_answer f messages i))
     → ((k : ℕ) → k < total → Fits (length old) (in_table pair_width pair_at pair_answer f pairs k))
-    → Comes (coming f messages count pairs total p) r old new → r ≡ s.Refused y → ⊥
+    → Comes (coming f messages count pairs total p) r old new → r ≡ Err y → ⊥
 coming_fits f messages count pairs total p {r} old new y named paired e is =
     bool_cases (pair_next count total p)
     (λ t. no (paired p.pairs (ltb-true p.pairs total (both_true (ltb p.pairs total) _ t).0)) (rw (coming_pair f messages count pairs total p t) at e))
@@ -66,17 +64,15 @@ coming_fits f messages count pairs total p {r} old new y named paired e is =
     (λ h. no (named p.messages h) (rw (coming_message f messages count pairs total p t h) at e))
     (λ h.
     let g = rw (coming_none f messages count pairs total p t h) at e in
-    let o : s.End ≡ s.Refused y = sym g.0 ∙ is in
-    let z : ◌≡◌ {A = ℕ} 0 1 = cc in
-    absurd (omega arith))
+    let o : ◌≡◌ {A = Result (Option Line) Refusal} (Ok None) (Err y) = sym g.0 ∙ is in
+    absurd (cc o))
     (lt_or_le p.messages count))
   where
     no : {a : Answer (List ℕ)} {q : Place} → Fits (length old) a → Comes (line a q) r old new → ⊥
     no {a} {q} g (answer, told, x) =
         let d = fits_done g x in
-        let o : s.Line d.0 q ≡ s.Refused y = sym (told ∙ ap (λ (b : Written). step_of b q) d.1) ∙ is in
-        let z : ◌≡◌ {A = ℕ} 0 1 = cc in
-        absurd (omega arith)
+        let o : step_of (Ok d.0) q ≡ Err y = sym (told ∙ ap (λ (b : Result ℕ Refusal). step_of b q) d.1) ∙ is in
+        absurd (cc o)
 
 -- ---- lines of an accepted frame
 

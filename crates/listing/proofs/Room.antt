@@ -1,13 +1,13 @@
 -- Laws about how long lines are: of a frame of n bytes none has more than 2n and 128 besides.
-use mathlib.Core.Path.{◌≡◌, refl, ap, ◌∙◌}
+use mathlib.Core.Path.{◌≡◌, ap}
 use mathlib.Core.Bool.{true, ◌||◌}
 use mathlib.Core.Logic.{◌⊎◌, inl, inr, ⊎_elim}
-use mathlib.Core.List.{List, [], ◌∷◌}
+use mathlib.Core.List.{List}
 use Prim.Native.Nat.{ℕ, ◌+◌, ◌*◌, ◌^◌, ◌≤◌, ◌<◌}
 use native.Mathlib.Omega.{arith}
 use lib.Dec.{eqb}
 use lib.ListN.{length, drop, length-append, length-take}
-use borrow.Author.Tests.{ne_eqb, eqb-true, eqb-false}
+use borrow.Author.Tests.{eq-eqb, ne_eqb, eqb-true, eqb-false}
 use Rattle.answer.specs.Answer.{done}
 use Rattle.answer.proofs.Cases.{bool_cases}
 use Rattle.answer.proofs.Each.{Each, each_on}
@@ -28,40 +28,31 @@ use Rattle.listing.specs.Digits.{decimal, shown}
 use Rattle.listing.specs.Lines.{filled, value_text, message_line, pair_line, action_line}
 use Rattle.listing.proofs.Decimal.{decimal_most}
 use Rattle.listing.proofs.Text.{signed_most, hex_length, shown_none, shown_some}
-use Rattle.listing.proofs.Pieces.{text_null, text_number, text_bytes, message_front, message_back, pair_front, set_front_lem, unset_front, named_length, valued_length, message_parts, pair_parts, action_set, action_unset}
-use Rattle.listing.specs.Inner.{kind_form}
+use Rattle.listing.proofs.Pieces.{text_null, text_number, text_bytes}
 use Rattle.listing.proofs.Accepted.{Named, Whole, whole_held}
 use Rattle.listing.proofs.Distinct.{below}
 
 -- ---- words and texts
 
-message_front_lem : (t : List ℕ) → length (filled message_front (t ∷ [])) ≡ 14 + length t
-unfolding filled
-message_front_lem t = simp length-append (omega arith)
+message_words : (i : ℕ) (f : List ℕ) (m : Message)
+    → length (message_line i f m) ≡ 21 + length (decimal i) + length (shown (part f m.start m.len)) + length (decimal m.count)
+unfolding message_line filled
+message_words i f m = simp length-append (omega arith)
 
-message_back_lem : (t : List ℕ) → length (filled message_back (t ∷ [])) ≡ 7 + length t
-unfolding filled
-message_back_lem t = simp length-append (omega arith)
+pair_words : (k : ℕ) (f : List ℕ) (p : Pair)
+    → length (pair_line k f p) ≡ 24 + length (decimal k) + length (shown (key_of f p)) + length (decimal p.value.kind) + length (value_text f (record_of p.value))
+unfolding pair_line filled
+pair_words k f p = simp length-append (omega arith)
 
-pair_front_lem : (t : List ℕ) → length (filled pair_front (t ∷ [])) ≡ 10 + length t
-unfolding filled
-pair_front_lem t = simp length-append (omega arith)
+set_words : (k : ℕ) (f : List ℕ) (x : Action) → x.verb ≡ 1
+    → length (action_line k f x) ≡ 38 + length (decimal k) + length (decimal x.scope) + length (shown (key_of f x.pair)) + length (decimal x.pair.value.kind) + length (value_text f (record_of x.pair.value))
+unfolding action_line filled
+set_words k f x e = rw (eq-eqb x.verb 1 e) (simp length-append (omega arith))
 
-pair_back : (t : List ℕ) → length (filled kind_form (t ∷ [])) ≡ 13 + length t
-unfolding filled
-pair_back t = simp length-append (omega arith)
-
-set_front : (t u : List ℕ) → length (filled set_front_lem (t ∷ u ∷ [])) ≡ 24 + length t + length u
-unfolding filled
-set_front t u = simp length-append (omega arith)
-
-unset_front_lem : (t u : List ℕ) → length (filled unset_front (t ∷ u ∷ [])) ≡ 26 + length t + length u
-unfolding filled
-unset_front_lem t u = simp length-append (omega arith)
-
-unset_back : length (filled (10 ∷ []) []) ≡ 1
-unfolding filled
-unset_back = refl
+unset_words : (k : ℕ) (f : List ℕ) (x : Action) → (x.verb ≡ 1 → ⊥)
+    → length (action_line k f x) ≡ 27 + length (decimal k) + length (decimal x.scope) + length (shown (key_of f x.pair))
+unfolding action_line filled
+unset_words k f x ne = rw (ne_eqb x.verb 1 ne) (simp length-append (omega arith))
 
 shown_most : (s : List ℕ) → length (shown s) ≤ 2 * length s + 1
 shown_most s =
@@ -102,33 +93,20 @@ value_most f k a b flags h =
 -- Law: of a frame of n bytes.
 pub message_room : (i : ℕ) (f : List ℕ) (m : Message) (n : ℕ) → i < 2 ^ 64 → m.count < 2 ^ 64 → Named n m → length (message_line i f m) ≤ 2 * n + 128
 message_room i f m n h c in_frame =
-    let name = part f m.start m.len in
-    omega (
-      arith,
-      ap length (message_parts i f m) ∙ named_length (filled message_front (decimal i ∷ [])) (shown name) (filled message_back (decimal m.count ∷ [])),
-      message_front_lem (decimal i),
-      message_back_lem (decimal m.count),
-      decimal_most i h,
-      decimal_most m.count c,
-      shown_most name,
-      part_most f m.start m.len,
-      in_frame,
-    )
+    omega (arith, message_words i f m, decimal_most i h, decimal_most m.count c, shown_most (part f m.start m.len), part_most f m.start m.len, in_frame)
 
 pub pair_room : (k : ℕ) (f : List ℕ) (p : Pair) (n : ℕ) → k < 2 ^ 64 → Whole n p → length (pair_line k f p) ≤ 2 * n + 128
 pair_room k f p n h w =
     let v = p.value in
     let kind = writable_kind v.kind v.a v.b v.flags w.fields in
-    let all = ap length (pair_parts k f p) ∙ valued_length (filled pair_front (decimal k ∷ [])) (shown (key_of f p)) (filled kind_form (decimal v.kind ∷ [])) (value_text f (record_of v)) in
-    let words = pair_front_lem (decimal k) in
-    let more = pair_back (decimal v.kind) in
+    let all = pair_words k f p in
     let digits = decimal_most k h in
     let few = decimal_most v.kind (omega arith) in
     let key = shown_most (key_of f p) in
     let short = part_most f p.start p.len in
     ⊎_elim
-    (λ o. omega (arith, all, words, more, digits, few, key, short, o.1, w.both o.0))
-    (λ o. omega (arith, all, words, more, digits, few, key, short, o, w.key))
+    (λ o. omega (arith, all, digits, few, key, short, o.1, w.both o.0))
+    (λ o. omega (arith, all, digits, few, key, short, o, w.key))
     (value_most f v.kind v.a v.b v.flags w.fields)
 
 -- an action's number, scope and kind have at most 20 digits each, and its words 38 letters
@@ -137,8 +115,6 @@ action_room k f x n h scope w =
     let p = x.pair in
     let v = p.value in
     let kind = writable_kind v.kind v.a v.b v.flags w.fields in
-    let name = shown (key_of f p) in
-    let numbers = decimal k ∷ decimal x.scope ∷ [] in
     let digits = decimal_most k h in
     let more = decimal_most x.scope (omega arith) in
     let few = decimal_most v.kind (omega arith) in
@@ -146,16 +122,12 @@ action_room k f x n h scope w =
     let short = part_most f p.start p.len in
     bool_cases (eqb x.verb 1)
     (λ t.
-    let all = ap length (action_set k f x (eqb-true x.verb 1 t)) ∙ valued_length (filled set_front_lem numbers) name (filled kind_form (decimal v.kind ∷ [])) (value_text f (record_of v)) in
-    let words = set_front (decimal k) (decimal x.scope) in
-    let back = pair_back (decimal v.kind) in
+    let all = set_words k f x (eqb-true x.verb 1 t) in
     ⊎_elim
-    (λ o. omega (arith, all, words, back, digits, more, few, key, short, o.1, w.both o.0))
-    (λ o. omega (arith, all, words, back, digits, more, few, key, short, o, w.key))
+    (λ o. omega (arith, all, digits, more, few, key, short, o.1, w.both o.0))
+    (λ o. omega (arith, all, digits, more, few, key, short, o, w.key))
     (value_most f v.kind v.a v.b v.flags w.fields))
-    (λ t.
-    let all = ap length (action_unset k f x (eqb-false x.verb 1 t)) ∙ named_length (filled unset_front numbers) name (filled (10 ∷ []) []) in
-    omega (arith, all, unset_front_lem (decimal k) (decimal x.scope), unset_back, digits, more, key, short, w.key))
+    (λ t. omega (arith, unset_words k f x (eqb-false x.verb 1 t), digits, more, key, short, w.key))
 
 -- Law: so no line of an accepted frame is refused where 2n + 128 bytes are lent.
 pub accepted_room : (sent : Sender) (rooms : Counts) (f : List ℕ) (m : Head) (c : Contents) (used k : ℕ) → framed sent rooms f ≡ done (m, c) used → k < 2 ^ 64

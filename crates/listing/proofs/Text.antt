@@ -1,23 +1,22 @@
--- Laws about the other texts: numbers with a sign, bytes, and forms; and about what is written in parts.
-use mathlib.Core.Path.{◌≡◌, refl, sym, ap, ◌∙◌}
-use mathlib.Core.List.{List, [], ◌∷◌, ◌++◌, map}
+-- Laws about the other texts: numbers with a sign, and bytes; and about what is written in parts.
+use mathlib.Core.Path.{◌≡◌, refl, ap, ◌∙◌}
+use mathlib.Core.List.{List, [], ◌∷◌, ◌++◌}
 use mathlib.Core.Logic.{⊎_elim}
 use Prim.Native.Nat.{ℕ, suc, ◌+◌, ◌-◌, ◌*◌, ◌/◌, ◌%◌, ◌^◌, ◌≤◌, ◌<◌}
 use native.Mathlib.Numerals.{add-one}
 use native.Mathlib.Omega.{arith}
-use lib.ListN.{length, take, drop, get_or, length-append, drop_of_length-le}
-use lib.Seq.{drop-cons, take_at, drop_at}
-use borrow.Author.Tests.{lt-ltb, le-ltb, ne_eqb, eq-eqb}
+use lib.ListN.{length, take, drop, get_or, drop_of_length-le}
+use lib.Seq.{drop-cons}
+use borrow.Author.Tests.{lt-ltb, le-ltb}
 use borrow.Rule.Slice.PartMut.{put_mid}
 use Rattle.answer.specs.Answer.{written}
 use Rattle.answer.specs.Table.{joined}
 use Rattle.answer.proofs.Cases.{lt_or_le}
 use Rattle.answer.proofs.Records.{joined_none, joined_on}
 use Rattle.answer.proofs.Output.{Partly, partly_count, partly_all}
-use Rattle.answer.proofs.Parts.{part_start, part_room, part_most, partly_part}
+use Rattle.answer.proofs.Parts.{part_start, part_room, partly_part}
 use Rattle.types.specs.Inner.{Puts}
 use Rattle.listing.specs.Digits.{dash, glyph, decimal, signed, hex_pair, shown}
-use Rattle.listing.specs.Lines.{filled}
 use Rattle.listing.proofs.Decimal.{decimal_most}
 
 -- ---- a sign
@@ -29,12 +28,6 @@ signed_plus n h = simp (lt-ltb n (2 ^ 63) h)
 pub signed_minus : (n : ℕ) → 2 ^ 63 ≤ n → signed n ≡ dash ∷ decimal (2 ^ 64 - n)
 unfolding signed
 signed_minus n h = simp (le-ltb n (2 ^ 63) h)
-
--- as the code subtracts
-pub signed_code : (n : ℕ) → 2 ^ 63 ≤ n → n < 2 ^ 64 → signed n ≡ dash ∷ decimal (18446744073709551615 - n + 1)
-signed_code n h l =
-    let e : 2 ^ 64 - n ≡ 18446744073709551615 - n + 1 = omega arith in
-    signed_minus n h ∙ ap (λ (k : ℕ). dash ∷ decimal k) e
 
 pub signed_most : (n : ℕ) → n < 2 ^ 64 → length (signed n) ≤ 21
 signed_most n h =
@@ -71,43 +64,7 @@ shown_some (b ∷ s) h = refl
 abbrev pub gap : ℕ
 gap = 35
 
--- what is left of a form with its numbers, from byte i and number k on
-abbrev pub filled_from : List ℕ → List ℕ → ℕ → ℕ → List ℕ
-filled_from form numbers i k = filled (drop i form) (map decimal (drop k numbers))
-
-module _ (form numbers : List ℕ) (i k : ℕ) where
-  pub from_end : length form ≤ i → filled_from form numbers i k ≡ []
-  unfolding filled
-  from_end h = rw (drop_of_length-le form h)
-
-  module _ (h : i < length form) where
-    pub from_plain : (get_or form i 0 ≡ gap → ⊥) → filled_from form numbers i k ≡ get_or form i 0 ∷ filled_from form numbers (i + 1) k
-    unfolding filled
-    from_plain ne = rw (add-one i, drop-cons form i 0 h) (simp (ne_eqb (get_or form i 0) gap ne))
-
-    pub from_mark : get_or form i 0 ≡ gap → k < length numbers
-        → filled_from form numbers i k ≡ decimal (get_or numbers k 0) ++ filled_from form numbers (i + 1) (k + 1)
-    unfolding filled
-    from_mark e l =
-        rw (add-one i, add-one k, drop-cons form i 0 h, drop-cons numbers k 0 l) (simp (eq-eqb (get_or form i 0) gap e))
-
-    pub from_out : get_or form i 0 ≡ gap → length numbers ≤ k → filled_from form numbers i k ≡ filled_from form numbers (i + 1) k
-    unfolding filled
-    from_out e l =
-        rw (add-one i, drop-cons form i 0 h, drop_of_length-le numbers l) (simp (eq-eqb (get_or form i 0) gap e))
-
 -- ---- parts
-
--- the first part is written
-pub begin : {front rest old out : List ℕ} {n : ℕ} → Puts (written front) n old out → length (front ++ rest) ≤ length old
-    → Partly (front ++ rest) old n rest out
-begin {front} {rest} {old} {out} {n} p room =
-    record {
-      room = room;
-      so_far = rw p.counts (p.holds ∙ ap (λ (l : List ℕ). l ++ drop (length front) old) (sym (take_at front rest (length front) refl)));
-      to_do = drop_at front rest n (sym p.counts);
-      at_most = omega (arith, p.counts, length-append front rest);
-    }
 
 -- Of what is left to write the next part is `front`. It goes into the tail behind those before it, `&mut out[at..]`.
 pub record Next (bytes old : List ℕ) (at : ℕ) (front rest out : List ℕ) : Type 0 where
@@ -121,9 +78,6 @@ module _ {bytes old front rest out : List ℕ} {at : ℕ} (p : Next bytes old at
   next_room = part_room front rest p.left
 
   module _ {k : ℕ} {tail : List ℕ} (q : Puts (written front) k (take (length out - at) (drop at out)) tail) where
-    pub next_most : at + k ≤ length old
-    next_most = omega (arith, q.counts, part_most front rest p.left)
-
     pub next_on : Partly bytes old (at + k) rest (put_mid at (length out - at) out tail)
     next_on = rw q.counts (partly_part front rest p.left tail q.holds)
 

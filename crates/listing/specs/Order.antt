@@ -1,14 +1,12 @@
 -- A frame's lines one by one: which comes next, where its records stand in two tables; and what is said of it.
-use Rattle.std.specs.Prelude.{◌≡◌, Bool, cond, ◌&&◌, ◌||◌, List, ℕ, ◌+◌, ◌-◌, ltb, leb}
-use Rattle.answer.specs.declared.Written.{Written}
-use Rattle.answer.specs.declared.Written.TheVariants as w
+use Rattle.std.specs.Prelude.{◌≡◌, Bool, cond, ◌&&◌, ◌||◌, List, ℕ, ◌+◌, ◌-◌, ltb, leb, Result, Ok, Err, Option, Some, None}
+use Rattle.answer.specs.declared.Refusal.{Refusal}
 use Rattle.answer.specs.Answer.{Answer, refused}
 use Rattle.answer.specs.Writes.{Writes}
 use Rattle.answer.specs.Table.{holds}
 use Rattle.frame.specs.Records.{message_width, pair_width, message_at, pair_at}
 use Rattle.listing.specs.declared.Place.{Place}
-use Rattle.listing.specs.declared.Step.{Step}
-use Rattle.listing.specs.declared.Step.TheVariants as s
+use Rattle.listing.specs.declared.Line.{Line}
 use Rattle.listing.specs.Check.{message_answer, pair_answer}
 
 -- ---- which
@@ -46,11 +44,11 @@ coming f messages count pairs total p =
 -- ---- what is said of it
 
 -- a writer's answer as a step to a place
-abbrev pub step_of : Written → Place → Step
-step_of (w.Done n) p = s.Line n p
-step_of (w.Refused r) p = s.Refused r
+abbrev pub step_of : Result ℕ Refusal → Place → Result (Option Line) Refusal
+step_of (Ok n) p = Ok (Some (record { len = n; place = p }))
+step_of (Err r) p = Err r
 
 -- A line that comes is written, and the step says what its writer does. Where none does, nothing is.
-abbrev pub Comes : Coming → Step → List ℕ → List ℕ → Type 0
-Comes (line a p) r old new = (answer : Written) × (r ≡ step_of answer p) × Writes a answer old new
-Comes none r old new = (r ≡ s.End) × (new ≡ old)
+abbrev pub Comes : Coming → Result (Option Line) Refusal → List ℕ → List ℕ → Type 0
+Comes (line a p) r old new = (answer : Result ℕ Refusal) × (r ≡ step_of answer p) × Writes a answer old new
+Comes none r old new = (r ≡ Ok None) × (new ≡ old)

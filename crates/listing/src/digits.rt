@@ -1,18 +1,15 @@
 // Numbers and bytes as text: measured, and written at the front of some bytes where there is room.
-ghost use Rattle.std.specs.Prelude.{◌≡◌, List, map, ℕ, ◌≤◌, ◌<◌, ◌^◌, length};
+ghost use Rattle.std.specs.Prelude.{◌≡◌, ◌≤◌, ◌<◌, ◌^◌, length};
 ghost use Rattle.answer.specs.Answer.{written};
 ghost use Rattle.types.specs.Inner.{Puts};
 ghost use Rattle.listing.specs.Digits.{decimal, signed, shown, glyph as glyph_of};
-ghost use Rattle.listing.specs.Lines.{filled};
 
-pub(crate) const DASH: u8 = b'-';
-
-const MARK: u8 = b'#';
+const DASH: u8 = b'-';
 
 // The first number of 64 bits that is negative.
 const NEGATIVE: u64 = 0x8000_0000_0000_0000;
 
-// How many decimal digits n has.
+// How many decimal digits n has. It goes on by what is left of the number, so there is no range to go over.
 pub(crate) fn digits_len(n: u64) -> usize
     ensures { result ≡ length (decimal n) }
 {
@@ -26,6 +23,7 @@ pub(crate) fn digits_len(n: u64) -> usize
 }
 
 // How many bytes a number has that may be negative.
+#[tactic(auto, using(crate::proofs::Decimal::decimal_most), unfolding(crate::specs::Digits::signed))]
 pub(crate) fn signed_len(n: u64) -> usize
     ensures { result ≡ length (signed n) }
 {
@@ -35,36 +33,15 @@ pub(crate) fn signed_len(n: u64) -> usize
     1 + digits_len(u64::MAX - n + 1)
 }
 
-// How many bytes stand for so many.
-pub(crate) fn shown_len(len: usize) -> u64
-    requires { len < 2 ^ 63 }
-    ensures { (bytes : List ℕ) → length bytes ≡ len → result ≡ length (shown bytes) }
+// How many bytes stand for bytes.
+#[tactic(auto, using(crate::proofs::Text::hex_length, crate::proofs::Text::shown_none, crate::proofs::Text::shown_some))]
+pub(crate) fn shown_len(bytes: &[u8]) -> u64
+    ensures { result ≡ length (shown bytes.now) }
 {
-    if len == 0 {
+    if bytes.is_empty() {
         return 1;
     }
-    2 * len as u64
-}
-
-// How many bytes a form has with these numbers.
-pub(crate) fn filled_len(form: &[u8], numbers: &[u64]) -> usize
-    requires { length form.now ≤ 64 }
-    ensures value { result ≡ length (filled form.now (map decimal numbers.now)) }
-    ensures upper_bound { result ≤ 1280 }
-{
-    let mut len = 0;
-    let mut used = 0;
-    let mut i = 0;
-    while i < form.len() {
-        if form[i] != MARK {
-            len += 1;
-        } else if used < numbers.len() {
-            len += digits_len(numbers[used]);
-            used += 1;
-        }
-        i += 1;
-    }
-    len
+    2 * bytes.len() as u64
 }
 
 // A digit below 16.
@@ -81,18 +58,16 @@ pub(crate) fn put_digits(n: u64, out: &mut [u8]) -> usize
     ensures { Puts (written (decimal n)) result out.old out.new }
 {
     let len = digits_len(n);
-    let mut at = len;
     let mut rest = n;
-    while 10 <= rest {
-        at -= 1;
+    for at in (0..len).rev() {
         out[at] = glyph((rest % 10) as u8);
         rest /= 10;
     }
-    out[0] = glyph(rest as u8);
     len
 }
 
 // Writes a number that may be negative.
+#[tactic(auto, unfolding(crate::specs::Digits::signed))]
 pub(crate) fn put_signed(n: u64, out: &mut [u8]) -> usize
     requires { length (signed n) ≤ length out.old }
     ensures { Puts (written (signed n)) result out.old out.new }
@@ -109,40 +84,15 @@ pub(crate) fn put_shown(bytes: &[u8], out: &mut [u8]) -> usize
     requires { length (shown bytes.now) ≤ length out.old }
     ensures { Puts (written (shown bytes.now)) result out.old out.new }
 {
-    if bytes.len() == 0 {
+    if bytes.is_empty() {
         out[0] = DASH;
         return 1;
     }
     let mut at = 0;
-    let mut i = 0;
-    while i < bytes.len() {
-        let byte = bytes[i];
+    for byte in bytes {
         out[at] = glyph(byte / 16);
         out[at + 1] = glyph(byte % 16);
         at += 2;
-        i += 1;
-    }
-    at
-}
-
-// Writes a form with these numbers.
-pub(crate) fn put_filled(form: &[u8], numbers: &[u64], out: &mut [u8]) -> usize
-    requires { length (filled form.now (map decimal numbers.now)) ≤ length out.old }
-    ensures { Puts (written (filled form.now (map decimal numbers.now))) result out.old out.new }
-{
-    let mut at = 0;
-    let mut used = 0;
-    let mut i = 0;
-    while i < form.len() {
-        let byte = form[i];
-        if byte != MARK {
-            out[at] = byte;
-            at += 1;
-        } else if used < numbers.len() {
-            at += put_digits(numbers[used], &mut out[at..]);
-            used += 1;
-        }
-        i += 1;
     }
     at
 }

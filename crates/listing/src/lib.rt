@@ -5,27 +5,26 @@
 #![tactic(auto)]
 
 mod digits;
-mod line;
+mod lines;
 mod order;
+mod parts;
 
-use answer::Refusal;
-pub use line::{
+pub use lines::{
     write_action_line, write_end_line, write_frame_line, write_message_line, write_pair_line,
 };
 pub use order::{write_action_at, write_next_line};
 
 // Behind which lines of a frame: how many of its messages and pairs have theirs, and how many arguments of the last message are to come.
-#[derive(Clone, Copy)]
+#[derive(Clone, Copy, Debug, Default, PartialEq, Eq)]
 pub struct Place {
     pub messages: usize,
     pub pairs: usize,
     pub left: u64,
 }
 
-// What the next line is: its bytes and the place behind it, or none, or why it is refused.
-#[derive(Clone, Copy)]
-pub enum Step {
-    Line { len: usize, place: Place },
-    End,
-    Refused(Refusal),
+// A line that was written: its bytes, and the place behind it.
+#[derive(Clone, Copy, Debug, PartialEq, Eq)]
+pub struct Line {
+    pub len: usize,
+    pub place: Place,
 }

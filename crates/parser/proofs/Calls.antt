@@ -2,33 +2,52 @@
 use mathlib.Core.Path.{◌≡◌, refl, sym, ap, ◌∙◌}
 use mathlib.Core.List.{List, []}
 use Prim.Native.Nat.{ℕ}
-use Rattle.answer.specs.Answer.{Answer, done, refused, written, leaves}
+use Rattle.answer.specs.Answer.{Answer, done, refused, next, written, leaves}
 use Rattle.answer.specs.Table.{joined}
 use Rattle.frame.specs.declared.Head.{Head}
 use Rattle.frame.specs.declared.Side.TheVariants as side
-use Rattle.frame.specs.Read.{Reading, wait, answered, Sender, head}
+use Rattle.frame.specs.Read.{Reading, wait, answered, onward, Sender, head}
 use Rattle.frame.specs.Records.{message_numbers, action_numbers}
 use Rattle.payload.specs.declared.Counts.{Counts}
 use Rattle.payload.specs.declared.Payload.{Payload}
-use Rattle.payload.specs.declared.PayloadRead.{PayloadRead}
 use Rattle.payload.specs.Payload.{Contents, payload}
-use Rattle.payload.specs.Promise.{payload_said, payload_tells, rooms_of, table_left, ReadPayload}
-use Rattle.parser.specs.declared.FrameRead.{FrameRead}
+use Rattle.payload.specs.Promise.{payload_tells, rooms_of, table_left, ReadPayload}
+use Rattle.std.specs.Prelude.{Result}
+use Rattle.answer.specs.declared.Read.{Read}
+use Rattle.answer.specs.declared.Refusal.{Refusal}
+use Rattle.answer.specs.Writes.{read_said}
+use Rattle.frame.specs.declared.Stop.{Stop}
+use Rattle.frame.specs.declared.Stop.TheVariants as stop
+use Rattle.frame.specs.Promise.{stop_said}
+use Rattle.parser.specs.declared.Frame.{Frame}
 use Rattle.parser.specs.Frame.{payload_of, framed, frame_read}
 use Rattle.parser.specs.Promise.{frame_said, frame_tells, contents_read, FrameFills}
-use Rattle.parser.specs.Inner.{headed}
 use Rattle.parser.proofs.Frames.{in_frame_lem, framed_payload, frame_cut, haproxy_actions, agent_messages}
+
+-- what is said of a payload, with the head before it
+abbrev headed : Head → Answer Counts → Answer (Head × Counts)
+headed h a = next a (λ counts used. done (h, counts) used)
 
 -- ---- what is not accepted fills nothing
 
 abbrev pub Unread : Reading (Head × Contents) → Type 0
 Unread x = (number : ℕ) × (place : ℕ) × (contents_read x ≡ refused number place)
 
-pub unread : (x y : Reading (Head × Contents)) (r : FrameRead) (messages pairs actions : List ℕ) → x ≡ y → Unread y → frame_said r ≡ frame_tells y
+pub unread : (x y : Reading (Head × Contents)) (r : Result (Read Frame) Stop) (messages pairs actions : List ℕ) → x ≡ y → Unread y → frame_said r ≡ frame_tells y
     → FrameFills x r messages messages pairs pairs actions actions
 unread x y r messages pairs actions e none says =
     let is : contents_read x ≡ refused none.0 none.1 = ap contents_read e ∙ none.2 in
     record { says = says ∙ ap frame_tells (sym e); fills = rw is (record { messages = refl; pairs = refl; actions = refl }) }
+
+-- A frame that was not cut out: its answer is the cut's, and it holds nothing.
+module _ (f : List ℕ → Answer (Head × Contents)) where
+  pub stop_tells : (e : Stop) → stop_said e ≡ frame_tells (onward (stop_said e) f)
+  stop_tells (stop.Wait missing) = refl
+  stop_tells (stop.Refused r) = refl
+
+  pub stop_unread : (e : Stop) → Unread (onward (stop_said e) f)
+  stop_unread (stop.Wait missing) = (_, _, refl)
+  stop_unread (stop.Refused r) = (_, _, refl)
 
 -- ---- a payload in its frame
 
@@ -42,11 +61,11 @@ holds_in h (refused number place) = refl
 
 -- A frame with this head, of which the payload came to this: what is said of it, and what is filled.
 module _ (sent : Sender) (rooms : Counts) (f : List ℕ) (h : Head) (start : ℕ) (e : head sent f ≡ done h start) (kind : Payload) (is : kind ≡ payload_of h.frame_type)
-    (r : FrameRead) (found : PayloadRead) (said : frame_said r ≡ answered (headed h (payload_said found))) where
+    (r : Result (Read Frame) Stop) (found : Result (Read Counts) Refusal) (said : frame_said r ≡ answered (headed h (read_said found))) where
   whole : framed sent rooms f ≡ in_frame_lem h (payload kind rooms start f)
   whole = framed_payload sent rooms f h start e ∙ ap (λ (y : Payload). in_frame_lem h (payload y rooms start f)) (sym is)
 
-  pub whole_says : payload_said found ≡ payload_tells (payload kind rooms start f) → frame_said r ≡ frame_tells (answered (framed sent rooms f))
+  pub whole_says : read_said found ≡ payload_tells (payload kind rooms start f) → frame_said r ≡ frame_tells (answered (framed sent rooms f))
   whole_says p =
       said
       ∙ ap (λ (a : Answer Counts). answered (headed h a)) p

@@ -18,12 +18,14 @@ use Rattle.payload.specs.Payload.{Contents}
 use Rattle.payload.specs.Promise.{counts_of, table_left}
 use Rattle.payload.proofs.Filling.{joined_width}
 use Rattle.payload.proofs.Kept.{Within}
-use Rattle.parser.specs.declared.FrameRead.{FrameRead}
-use Rattle.parser.specs.declared.FrameRead.TheVariants as f
+use Rattle.std.specs.Prelude.{Result}
+use Rattle.answer.specs.declared.Read.{Read}
+use Rattle.frame.specs.declared.Stop.{Stop}
+use Rattle.parser.specs.declared.Frame.{Frame}
 use Rattle.parser.specs.Frame.{frame_read}
 use Rattle.parser.specs.Promise.{frame_said, frame_tells, contents_read, FrameFills}
 use Rattle.parser.proofs.Kept.{accepted_kept}
-use Rattle.parser.proofs.Unique.{frame_same}
+use Rattle.parser.proofs.Unique.{frame_done, frame_same}
 
 -- what a frame is that is said to be accepted
 pub said_done : (x : Reading (Head × Contents)) (h : Head) (k : Counts) (used : ℕ) → answered (done (h, k) used) ≡ frame_tells x
@@ -51,11 +53,11 @@ same_left numbers width each xs n is a table b new e g =
     }
 
 -- A call that is done with some counts, and the same call with bytes appended, under a limit no lower and with rooms no smaller.
-module _ (side : Side) (limit higher : ℕ) (up : limit ≤ higher) (rooms others : Counts) (larger : Within rooms others) (s t : List ℕ) (r q : FrameRead)
+module _ (side : Side) (limit higher : ℕ) (up : limit ≤ higher) (rooms others : Counts) (larger : Within rooms others) (s t : List ℕ) (r q : Result (Read Frame) Stop)
     (messages new_messages pairs new_pairs actions new_actions more_messages next_messages more_pairs next_pairs more_actions next_actions : List ℕ)
     (one : FrameFills (frame_read side limit rooms s) r messages new_messages pairs new_pairs actions new_actions)
     (two : FrameFills (frame_read side higher others (s ++ t)) q more_messages next_messages more_pairs next_pairs more_actions next_actions)
-    (h : Head) (n : Counts) (used : ℕ) (is : r ≡ f.Done h n used) where
+    (h : Head) (n : Counts) (used : ℕ) (is : r ≡ frame_done h n used) where
   found : (c : Contents) × (frame_read side limit rooms s ≡ answered (done (h, c) used)) × (counts_of c ≡ n)
   found = said_done (frame_read side limit rooms s) h n used (ap frame_said (sym is) ∙ one.says)
 
@@ -72,13 +74,13 @@ module _ (side : Side) (limit higher : ℕ) (up : limit ≤ higher) (rooms other
       (g ∙ ap (λ (x : Reading (Head × Contents)). table_left numbers records (contents_read x) b) again)
 
   -- Kept, the entries: it says the same, the tables have the same entries in front, and behind them they are as they were.
-  pub entries_kept : (q ≡ f.Done h n used)
+  pub entries_kept : (q ≡ frame_done h n used)
       × SameEntries message_width n.messages new_messages more_messages next_messages
       × SameEntries pair_width n.pairs new_pairs more_pairs next_pairs
       × SameEntries action_width n.actions new_actions more_actions next_actions
   entries_kept =
       let k = found.2 in (
-        frame_same q (f.Done h n used) (two.says ∙ ap frame_tells again ∙ ap (λ (m : Counts). answered (done (h, m) used)) k),
+        frame_same q (frame_done h n used) (two.says ∙ ap frame_tells again ∙ ap (λ (m : Counts). answered (done (h, m) used)) k),
         entries message_numbers message_width (λ x. refl) (λ c. c.messages) n.messages (ap (λ (m : Counts). m.messages) k) _ _ _ _ one.fills.messages two.fills.messages,
         entries pair_numbers pair_width (λ x. refl) (λ c. c.pairs) n.pairs (ap (λ (m : Counts). m.pairs) k) _ _ _ _ one.fills.pairs two.fills.pairs,
         entries action_numbers action_width (λ x. refl) (λ c. c.actions) n.actions (ap (λ (m : Counts). m.actions) k) _ _ _ _ one.fills.actions two.fills.actions,

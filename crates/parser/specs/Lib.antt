@@ -1,4 +1,3 @@
--- A whole frame, read; what the calls promise; and what only private contracts cite.
+-- A whole frame, read; and what the calls promise.
 pub mod Frame
 pub mod Promise
-pub mod Inner

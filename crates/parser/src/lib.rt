@@ -8,58 +8,32 @@
 
 ghost use Rattle.std.specs.Prelude.{◌≡◌};
 ghost use Rattle.frame.specs.Read.{sender, answered};
-ghost use Rattle.payload.specs.Promise.{payload_said, rooms_of};
+ghost use Rattle.payload.specs.Promise.{rooms_of};
 ghost use Rattle.parser.specs.Frame.{payload_of, framed, frame_read};
 ghost use Rattle.parser.specs.Promise.{frame_said, frame_tells, FrameFills, ReadFrame, ReadAgentFrame, LookFrame};
-ghost use Rattle.parser.specs.Inner.{headed};
 
-use answer::{OVERSIZE, Refusal};
-use frame::{ACK, FrameCut, Head, HeadRead, NOTIFY, Side};
-use payload::{Counts, Payload, PayloadRead};
+use answer::Read;
+use frame::{FrameType, Head, Side, Stop};
+use payload::{Counts, Payload};
 
-// What the frame readers answer: the head, how many records of each sort the frame has, and its bytes; or how many bytes are missing.
-#[derive(Clone, Copy)]
-pub enum FrameRead {
-    Done {
-        head: Head,
-        counts: Counts,
-        used: usize,
-    },
-    Wait(usize),
-    Refused(Refusal),
+// A frame that was read: its head, and how many records of each sort it has.
+#[derive(Clone, Copy, Debug, PartialEq, Eq)]
+pub struct Frame {
+    pub head: Head,
+    pub counts: Counts,
 }
 
 // What the payload of a frame of this type is a list of.
-fn payload_of(frame_type: u8) -> Payload
+pub fn payload_of(frame_type: u8) -> Payload
     ensures { result ≡ payload_of frame_type }
 {
-    if frame_type == NOTIFY {
+    if frame_type == FrameType::Notify as u8 {
         return Payload::Messages;
     }
-    if frame_type == ACK {
+    if frame_type == FrameType::Ack as u8 {
         return Payload::Actions;
     }
     Payload::KvList
-}
-
-// What is said of a frame with this head, whose payload came to this.
-fn with_head(head: Head, found: PayloadRead) -> FrameRead
-    ensures { frame_said result ≡ answered (headed head (payload_said found)) }
-{
-    match found {
-        PayloadRead::Refused(r) => FrameRead::Refused(r),
-        PayloadRead::Done { counts, used } => FrameRead::Done { head, counts, used },
-    }
-}
-
-// What is said of a frame whose length is over the limit.
-fn oversize() -> FrameRead
-    ensures { result ≡ FrameRead.Refused (record { number = 2; place = 4 }) }
-{
-    FrameRead::Refused(Refusal {
-        number: OVERSIZE,
-        place: 4,
-    })
 }
 
 // Reads a frame that was cut out, with its length bytes, and fills the tables with what it holds.
@@ -69,21 +43,22 @@ fn read_whole(
     messages: &mut [u64],
     pairs: &mut [u64],
     actions: &mut [u64],
-) -> FrameRead
+) -> Result<Read<Frame>, Stop>
     ensures { FrameFills (answered (framed (sender side) (rooms_of messages.old pairs.old actions.old) f.now)) result messages.old messages.new pairs.old pairs.new actions.old actions.new }
 {
-    match frame::read_head(f, side) {
-        HeadRead::Refused(r) => {
-            return FrameRead::Refused(r);
-        },
-        HeadRead::Done { head, start } => {
-            let kind = payload_of(head.frame_type);
-            return with_head(
-                head,
-                payload::read_payload(f, start, kind, messages, pairs, actions),
-            );
-        },
-    }
+    let Read {
+        value: head,
+        used: start,
+    } = frame::read_head(f, side)?;
+    let kind = payload_of(head.frame_type);
+    let Read {
+        value: counts,
+        used,
+    } = payload::read_payload(f, start, kind, messages, pairs, actions)?;
+    Ok(Read {
+        value: Frame { head, counts },
+        used,
+    })
 }
 
 // Reads the frame at the front of `input`, of a length within the limit, that this side sends.
@@ -94,28 +69,23 @@ fn read_side(
     messages: &mut [u64],
     pairs: &mut [u64],
     actions: &mut [u64],
-) -> FrameRead
+) -> Result<Read<Frame>, Stop>
     ensures { FrameFills (frame_read side limit (rooms_of messages.old pairs.old actions.old) input.now) result messages.old messages.new pairs.old pairs.new actions.old actions.new }
 {
-    match frame::cut(input, limit) {
-        FrameCut::Wait(missing) => {
-            return FrameRead::Wait(missing);
-        },
-        FrameCut::Oversize => {
-            return oversize();
-        },
-        FrameCut::Whole(end) => {
-            return read_whole(&input[..end], side, messages, pairs, actions);
-        },
-    }
+    let end = frame::cut(input, limit)?;
+    read_whole(&input[..end], side, messages, pairs, actions)
 }
 
 // Reads the frame at the front of `input`, of a length within the limit, that HAProxy sends. Such a frame has no actions.
-pub fn read_frame(input: &[u8], limit: u32, messages: &mut [u64], pairs: &mut [u64]) -> FrameRead
+pub fn read_frame(
+    input: &[u8],
+    limit: u32,
+    messages: &mut [u64],
+    pairs: &mut [u64],
+) -> Result<Read<Frame>, Stop>
     ensures { ReadFrame input.now limit result messages.old messages.new pairs.old pairs.new }
 {
-    let mut actions = [0; 1];
-    read_side(input, limit, Side::HAProxy, messages, pairs, &mut actions)
+    read_side(input, limit, Side::HAProxy, messages, pairs, &mut [])
 }
 
 // Reads the frame at the front of `input`, of a length within the limit, that an agent sends. Such a frame has no messages.
@@ -124,41 +94,35 @@ pub fn read_agent_frame(
     limit: u32,
     pairs: &mut [u64],
     actions: &mut [u64],
-) -> FrameRead
+) -> Result<Read<Frame>, Stop>
     ensures { ReadAgentFrame input.now limit result pairs.old pairs.new actions.old actions.new }
 {
-    let mut messages = [0; 1];
-    read_side(input, limit, Side::Agents, &mut messages, pairs, actions)
+    read_side(input, limit, Side::Agents, &mut [], pairs, actions)
 }
 
 // What reading a frame that was cut out comes to, with tables of such rooms.
-fn look_whole(f: &[u8], side: Side, rooms: Counts) -> FrameRead
+fn look_whole(f: &[u8], side: Side, rooms: Counts) -> Result<Read<Frame>, Stop>
     ensures { frame_said result ≡ frame_tells (answered (framed (sender side) rooms f.now)) }
 {
-    match frame::read_head(f, side) {
-        HeadRead::Refused(r) => {
-            return FrameRead::Refused(r);
-        },
-        HeadRead::Done { head, start } => {
-            let kind = payload_of(head.frame_type);
-            return with_head(head, payload::look_payload(f, start, kind, rooms));
-        },
-    }
+    let Read {
+        value: head,
+        used: start,
+    } = frame::read_head(f, side)?;
+    let kind = payload_of(head.frame_type);
+    let Read {
+        value: counts,
+        used,
+    } = payload::look_payload(f, start, kind, rooms)?;
+    Ok(Read {
+        value: Frame { head, counts },
+        used,
+    })
 }
 
 // What reading the frame at the front of `input` comes to, that HAProxy sends, with tables of such rooms. It writes nothing.
-pub fn look_frame(input: &[u8], limit: u32, rooms: Counts) -> FrameRead
+pub fn look_frame(input: &[u8], limit: u32, rooms: Counts) -> Result<Read<Frame>, Stop>
     ensures { LookFrame input.now limit rooms result }
 {
-    match frame::cut(input, limit) {
-        FrameCut::Wait(missing) => {
-            return FrameRead::Wait(missing);
-        },
-        FrameCut::Oversize => {
-            return oversize();
-        },
-        FrameCut::Whole(end) => {
-            return look_whole(&input[..end], Side::HAProxy, rooms);
-        },
-    }
+    let end = frame::cut(input, limit)?;
+    look_whole(&input[..end], Side::HAProxy, rooms)
 }

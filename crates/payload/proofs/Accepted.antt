@@ -16,7 +16,8 @@ use Rattle.answer.specs.Row.{to_end}
 use Rattle.answer.specs.Inner.{InRow}
 use Rattle.answer.proofs.Cases.{lt_or_le}
 use Rattle.answer.proofs.Each.{Each}
-use Rattle.types.specs.Value.{Span, span, string}
+use Rattle.types.specs.Value.{string}
+use Rattle.types.specs.declared.Span.{Span}
 use Rattle.types.proofs.Reading.{string_accepted, string_place}
 use Rattle.frame.specs.declared.Pair.{Pair}
 use Rattle.frame.specs.declared.Message.{Message}
@@ -35,7 +36,8 @@ use Rattle.payload.proofs.Rows.{from_next, run_on}
 use Rattle.payload.proofs.Actions.{action_inside, action_place, action_next}
 use Rattle.payload.proofs.Steps.{string_next, message_says, message_next}
 use Rattle.payload.proofs.Kept.{Within}
-use Rattle.answer.proofs.Row.{Row, row_as, Found, found_row, puts, many_read, end_read, many_holds, end_holds, ends, next_ends, line_ends, many_ends, end_ends, end_all}
+use Rattle.answer.proofs.Answers.{ends}
+use Rattle.answer.proofs.Row.{Row, row_as, Found, found_row, puts, many_read, end_read, many_holds, end_holds, next_ends, line_ends, many_ends, end_ends, end_all}
 
 -- ---- one more of each sort
 
@@ -261,7 +263,7 @@ module _ (rooms : Counts) (s : List ℕ) where
   string_within t = within (length t) (string t) by_span (string_place t)
     where
       by_span : (x : Span) (end : ℕ) → string t ≡ done x end → end ≤ length t
-      by_span (span start len) end e = (string_accepted t start len end e).1
+      by_span x end e = (string_accepted t x.start x.len end e).1
 
   pair_within : (once : Bool) (c : Contents) (at : ℕ) → at ≤ length s → ends (one_pair rooms s once c at) ≤ length s
   unfolding one_pair in_order
@@ -285,8 +287,8 @@ module _ (rooms : Counts) (s : List ℕ) where
       next_ends (length s) (string_from at s) _ (from_within moved_span (string (drop at s)) s at h (string_within (drop at s))) by_name
     where
       by_name : (name : Span) (end : ℕ) → string_from at s ≡ done name end → ends (in_order ((refused 3 end, ltb end (length s)) ∷ []) (done (message_of name first (get_or s end 0)) (end + 1))) ≤ length s
-      by_name (span start len) end e =
-          ⊎_elim (λ l. rw (lt-ltb end (length s) l) (omega arith)) (λ l. rw (le-ltb end (length s) l) (string_next s at start len end e).1) (lt_or_le end (length s))
+      by_name x end e =
+          ⊎_elim (λ l. rw (lt-ltb end (length s) l) (omega arith)) (λ l. rw (le-ltb end (length s) l) (string_next s at x.start x.len end e).1) (lt_or_le end (length s))
 
   message_within : (c : Contents) (at : ℕ) → at ≤ length s → ends (one_message rooms s c at) ≤ length s
   unfolding one_message in_order

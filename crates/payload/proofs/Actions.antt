@@ -1,4 +1,9 @@
 -- Laws about reading an action: each line of its order, what an accepted one says of the bytes, and where it is refused.
+use Rattle.std.specs.Prelude.{Result, Ok, Err}
+use Rattle.answer.specs.declared.Read.{Read}
+use Rattle.answer.specs.declared.Refusal.{Refusal}
+use Rattle.answer.specs.Writes.{read_said}
+use Rattle.payload.specs.Inner.{action_behind, variable_moved}
 use mathlib.Core.Path.{◌≡◌, refl, sym, ap, ◌∙◌}
 use mathlib.Core.Bool.{true, false, ◌||◌}
 use mathlib.Core.Logic.{⊎_elim}
@@ -11,14 +16,15 @@ use borrow.Author.Tests.{lt-ltb, le-ltb, le-leb, lt-leb, eq-eqb, ne_eqb, eqb-tru
 use Rattle.answer.specs.Answer.{Answer, done, refused, next, behind}
 use Rattle.answer.specs.Order.{in_order}
 use Rattle.answer.proofs.Cases.{lt_or_le, bool_cases, answer_cases, not_both}
-use Rattle.types.specs.Value.{Span, span, string, value}
+use Rattle.types.specs.Value.{span, string, value}
+use Rattle.types.specs.declared.Span.{Span}
 use Rattle.types.proofs.Reading.{string_accepted, string_place}
 use Rattle.types.proofs.Shapes.{points_yes}
 use Rattle.frame.specs.declared.Pair.{Pair}
 use Rattle.frame.specs.declared.Action.{Action}
 use Rattle.payload.specs.Pair.{pair_of, moved_pair, pair}
 use Rattle.payload.proofs.Pairs.{pair_accepted, pair_place}
-use Rattle.answer.proofs.Answers.{done_same, refused_same}
+use Rattle.answer.proofs.Answers.{ends, done_same, refused_same}
 use Rattle.payload.specs.Action.{argument_count, variable, action, moved_action, action_from}
 use Rattle.payload.specs.Inner.{Headed}
 
@@ -121,8 +127,8 @@ module _ (s : List ℕ) where
 
   named_inside : (x : Answer Span) (p : Pair) (used : ℕ) → string s ≡ x → named x ≡ done p used → Inside (length s) p used
   unfolding named
-  named_inside (done (span start len) n) p used e is =
-      let k = string_accepted s start len n e in
+  named_inside (done x n) p used e is =
+      let k = string_accepted s x.start x.len n e in
       let o = done_same is in
       rw (sym o.0, sym o.1)
       (record { some = omega (arith, k.0); most = omega (arith, k.1); name = omega (arith, k.3); value = λ h l. absurd (omega arith) })
@@ -130,7 +136,7 @@ module _ (s : List ℕ) where
 
   named_place : (x : Answer Span) (n place : ℕ) → string s ≡ x → named x ≡ refused n place → place ≤ length s
   unfolding named
-  named_place (done (span start len) k) n place e is = not_both refl is
+  named_place (done x k) n place e is = not_both refl is
   named_place (refused k p) n place e is = omega (arith, string_place s k p e, refused_same is)
 
   pub variable_inside : (verb : ℕ) (p : Pair) (used : ℕ) → variable verb s ≡ done p used → Inside (length s) p used
@@ -197,6 +203,17 @@ action_place s n place e =
     answer_cases (variable verb (drop 3 s))
     (λ p u d. not_both (headed_done s verb scope h p u d) e)
     (λ m p r. omega (arith, variable_place (drop 3 s) verb m p r, length-drop 3 s, h.long, refused_same (sym (headed_refused s verb scope h m p r) ∙ e))))
+
+pub action_ends : (s : List ℕ) → ends (action s) ≤ length s
+action_ends s =
+    answer_cases (action s)
+    (λ x used e. rw e (action_inside s x used e).most)
+    (λ n place e. rw e (action_place s n place e))
+
+-- What the reader of an action says is what it gives, with its variable counted from its first byte.
+pub action_moved : (r : Result (Read Action) Refusal) → action_behind r ≡ next (read_said r) (λ x used. done (variable_moved x) used)
+action_moved (Ok x) = refl
+action_moved (Err y) = refl
 
 -- ---- the action that stands at a place
 

@@ -1,4 +1,5 @@
 -- Laws about the numbers inside pairs, messages and actions: each that is accepted took exactly the bytes that it is written as, wherever it stands in an accepted payload.
+use Rattle.types.proofs.Reading.{span_same}
 use mathlib.Core.Path.{◌≡◌, refl, sym, ap, subst, ◌∙◌}
 use mathlib.Core.Bool.{Bool, true, false, cond}
 use mathlib.Core.List.{List, [], ◌∷◌, ◌++◌}
@@ -12,7 +13,8 @@ use Rattle.answer.proofs.Each.{Each, each_both}
 use Rattle.answer.proofs.Row.{Row, row_found}
 use Rattle.varint.specs.Number.{number_bytes}
 use Rattle.varint.proofs.Reading.{Bytes}
-use Rattle.types.specs.Value.{Span, span, string, value, points, shape, moved, typed}
+use Rattle.types.specs.declared.Span.{Span}
+use Rattle.types.specs.Value.{span, string, value, points, shape, moved, typed}
 use Rattle.types.proofs.Reading.{string_accepted, typed_accepted}
 use Rattle.types.proofs.Exact.{string_exact, DataExact, typed_exact}
 use Rattle.frame.specs.declared.Pair.{Pair}
@@ -104,12 +106,10 @@ pub string_from_exact : (s : List ℕ) (at start len end : ℕ) → Bytes s → 
 string_from_exact s at start len end small e = go (string (drop at s)) refl
   where
     go : (x : Answer Span) → string (drop at s) ≡ x → LengthExact s at start len
-    go (done (span a n) used) d =
-        let o = done_same (sym (ap (behind moved_span at) d) ∙ e) in
-        let begins : at + a ≡ start = cc in
-        let long : n ≡ len = cc in
-        let here : start - at ≡ a = omega arith in
-        rw here (string_exact (drop at s) a n used (bytes_drop at s small) d ∙ ap number_bytes long)
+    go (done x used) d =
+        let o = span_same (sym (ap (behind moved_span at) d) ∙ e) in
+        let here : start - at ≡ x.start = omega (arith, o.0) in
+        rw here (string_exact (drop at s) x.start x.len used (bytes_drop at s small) d ∙ ap number_bytes o.1)
     go (refused n place) r = not_both e (ap (behind moved_span at) r)
 
 -- ---- a payload

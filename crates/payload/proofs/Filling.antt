@@ -1,6 +1,8 @@
 -- Laws about filling tables: a table at whose front records stand takes one more behind them; and how far a pass is that fills three of them.
+use Rattle.std.specs.Prelude.{Option}
+use Rattle.payload.specs.Item.{one, no_more}
 use mathlib.Core.Path.{◌≡◌, refl, sym, ap, ap₂, subst, ◌∙◌}
-use mathlib.Core.Bool.{true, false, ◌&&◌}
+use mathlib.Core.Bool.{◌&&◌}
 use mathlib.Core.Logic.{⊎_elim}
 use mathlib.Core.List.{List, [], ◌∷◌, ◌++◌, append-nil, append_assoc}
 use Prim.Native.Nat.{ℕ, suc, ◌+◌, ◌*◌, ◌≤◌, ◌<◌}
@@ -10,11 +12,10 @@ use lib.Dec.{eqb}
 use lib.ListN.{length, take, drop, length-append}
 use lib.Seq.{take_at, drop_at, drop-drop}
 use borrow.Author.Tests.{lt-ltb, le-ltb}
-use Rattle.answer.specs.Answer.{Answer, done, written, leaves}
+use Rattle.answer.specs.Answer.{Answer, done, refused, written, leaves}
 use Rattle.answer.specs.Order.{in_order}
 use Rattle.answer.specs.Table.{joined}
-use Rattle.answer.specs.declared.Refusal.{Refusal}
-use Rattle.answer.proofs.Cases.{lt_or_le, bool_cases, true_false, not_both}
+use Rattle.answer.proofs.Cases.{lt_or_le, bool_cases, not_both}
 use Rattle.answer.proofs.Output.{leaves_length}
 use Rattle.answer.proofs.Records.{joined_none, joined_on, joined_both}
 use Rattle.frame.specs.Records.{message_width, message_numbers, pair_width, pair_numbers, action_width, action_numbers}
@@ -22,14 +23,12 @@ use Rattle.payload.specs.declared.Counts.{Counts}
 use Rattle.payload.specs.declared.Cursor.{Cursor}
 use Rattle.payload.specs.declared.Item.{Item}
 use Rattle.payload.specs.declared.Item.TheVariants as i
-use Rattle.payload.specs.declared.Step.{Step}
-use Rattle.payload.specs.declared.Step.TheVariants as v
 use Rattle.payload.specs.declared.Payload.{Payload}
 use Rattle.payload.specs.Payload.{Contents, empty, met, payload}
-use Rattle.payload.specs.Item.{item_at}
+use Rattle.payload.specs.Item.{one, no_more, item_at}
 use Rattle.payload.specs.Promise.{rooms_of}
-use Rattle.payload.specs.Inner.{began, after_item, follows, refused_at, tests, Stands, Goes, Fits, put_at, Stores, Accepted, Leaves}
-use Rattle.payload.proofs.Passing.{with_item, goes_start, stands_start, goes_then, Then}
+use Rattle.payload.specs.Inner.{began, after_item, tests, Stands, Fits, put_at, Stores, Accepted, Leaves}
+use Rattle.payload.proofs.Passing.{Goes, with_item, goes_start, stands_start, goes_then, Then}
 
 -- ---- records, one after the other
 
@@ -92,24 +91,15 @@ abbrev pub Roomy : Counts → Cursor → Item → Type 0
 Roomy rooms x (i.Pair p end) = x.pairs < rooms.pairs
 Roomy rooms x (i.Message m end) = x.messages < rooms.messages
 Roomy rooms x (i.Action a end) = x.actions < rooms.actions
-Roomy rooms x i.End = Unit
-Roomy rooms x (i.Refused q) = Unit
-
--- steps of two sorts are not the same
-pub on_end : {G : Type 0} {y : Cursor} → v.On y ≡ v.End → G
-on_end e = let z : ◌≡◌ {A = ℕ} 0 1 = cc in absurd (omega arith)
-
-pub on_refused : {G : Type 0} {y : Cursor} {q : Refusal} → v.On y ≡ v.Refused q → G
-on_refused e = let z : ◌≡◌ {A = ℕ} 0 1 = cc in absurd (omega arith)
 
 module _ (rooms : Counts) (s : List ℕ) (x : Cursor) (c : Contents) where
   -- Of a record that comes next the tests are passed, where there is room, or it is refused.
-  pub by_tests : {G : Type 0} (item : Item) → follows item ≡ true
-      → (tests rooms s x c item ≡ v.On (after_item x item) → Roomy rooms x item → G)
-      → ((n place : ℕ) → tests rooms s x c item ≡ refused_at n place → G)
+  pub by_tests : {G : Type 0} (item : Item)
+      → (tests rooms s x c (one item) ≡ one (after_item x item) → Roomy rooms x item → G)
+      → ((n place : ℕ) → tests rooms s x c (one item) ≡ refused n place → G)
       → G
   unfolding tests in_order
-  by_tests (i.Pair p end) t on stop =
+  by_tests (i.Pair p end) on stop =
       bool_cases (eqb x.left 0 && met s c.pairs p)
       (λ m. stop 9 end (rw m))
       (λ m.
@@ -117,27 +107,20 @@ module _ (rooms : Counts) (s : List ℕ) (x : Cursor) (c : Contents) where
       (λ h. on (rw (m, lt-ltb x.pairs rooms.pairs h)) h)
       (λ h. stop 10 end (rw (m, le-ltb x.pairs rooms.pairs h)))
       (lt_or_le x.pairs rooms.pairs))
-  by_tests (i.Message m end) t on stop =
+  by_tests (i.Message m end) on stop =
       ⊎_elim
       (λ h. on (rw (lt-ltb x.messages rooms.messages h)) h)
       (λ h. stop 10 end (rw (le-ltb x.messages rooms.messages h)))
       (lt_or_le x.messages rooms.messages)
-  by_tests (i.Action a end) t on stop =
+  by_tests (i.Action a end) on stop =
       ⊎_elim
       (λ h. on (rw (lt-ltb x.actions rooms.actions h)) h)
       (λ h. stop 10 end (rw (le-ltb x.actions rooms.actions h)))
       (lt_or_le x.actions rooms.actions)
-  by_tests i.End t on stop = true_false t refl
-  by_tests (i.Refused q) t on stop = true_false t refl
 
-  -- and where the pass goes on, it was a record, and they are passed
-  pub tests_room : (item : Item) (y : Cursor) → tests rooms s x c item ≡ v.On y → (follows item ≡ true) × Roomy rooms x item
-  unfolding tests
-  tests_room (i.Pair p end) y e = (refl, by_tests (i.Pair p end) refl (λ f r. r) (λ n place f. on_refused (sym e ∙ f)))
-  tests_room (i.Message m end) y e = (refl, by_tests (i.Message m end) refl (λ f r. r) (λ n place f. on_refused (sym e ∙ f)))
-  tests_room (i.Action a end) y e = (refl, by_tests (i.Action a end) refl (λ f r. r) (λ n place f. on_refused (sym e ∙ f)))
-  tests_room i.End y e = on_end (sym e)
-  tests_room (i.Refused q) y e = on_refused (sym e)
+  -- and where the pass goes on, they are passed
+  pub tests_room : (item : Item) (y : Cursor) → tests rooms s x c (one item) ≡ one y → Roomy rooms x item
+  tests_room item y e = by_tests item (λ f r. r) (λ n place f. not_both e f)
 
 -- ---- how far a pass is that fills
 
@@ -194,17 +177,15 @@ module _ (kind : Payload) (start : ℕ) (s old_messages old_pairs old_actions : 
     filling_fits (i.Pair p end) r = omega (arith, tables_length.1, r)
     filling_fits (i.Message m end) r = omega (arith, tables_length.0, r)
     filling_fits (i.Action a end) r = omega (arith, tables_length.2, r)
-    filling_fits i.End r = tt
-    filling_fits (i.Refused q) r = tt
 
     -- one more
-    pub filling_on : (item : Item) (y : Cursor) → item ≡ item_at kind s x → tests rooms s x f.met item ≡ v.On y
+    pub filling_on : (item : Item) (y : Cursor) → one item ≡ item_at kind s x → tests rooms s x f.met (one item) ≡ one y
         → (new_messages new_pairs new_actions : List ℕ) → Stores item x messages new_messages pairs new_pairs actions new_actions
         → (x.at < y.at) × Filling y new_messages new_pairs new_actions
-    filling_on item y is t new_messages new_pairs new_actions stored = (n.1, go item n.2 n.3 (tests_room rooms s x f.met item y t).1 stored)
+    filling_on item y is t new_messages new_pairs new_actions stored = (n.1, go item n.2 n.3 (tests_room rooms s x f.met item y t) stored)
       where
-        n : Then f.stands f.goes item (v.On y)
-        n = subst (λ (z : Step). Then f.stands f.goes item z) t (rw is (goes_then f.stands f.goes))
+        n : Then f.stands f.goes (one item) (one y)
+        n = subst (λ (z : Answer (Option Cursor)). Then f.stands f.goes (one item) z) t (rw is (goes_then f.stands f.goes))
 
         go : (item : Item) → Stands kind start s y (with_item f.met item) → Goes kind rooms s y (with_item f.met item) all → Roomy rooms x item
             → Stores item x messages new_messages pairs new_pairs actions new_actions → Filling y new_messages new_pairs new_actions
@@ -235,24 +216,6 @@ module _ (kind : Payload) (start : ℕ) (s old_messages old_pairs old_actions : 
               in_pairs = rw stored.1 f.in_pairs;
               in_actions_lem = rw stored.2 (filled_more f.in_actions_lem a (x.actions * action_width) action_count (omega (arith, room)));
             }
-        go i.End st g room stored =
-            record {
-              met = f.met;
-              stands = st;
-              goes = g;
-              in_messages_lem = rw stored.0 f.in_messages_lem;
-              in_pairs = rw stored.1 f.in_pairs;
-              in_actions_lem = rw stored.2 f.in_actions_lem;
-            }
-        go (i.Refused q) st g room stored =
-            record {
-              met = f.met;
-              stands = st;
-              goes = g;
-              in_messages_lem = rw stored.0 f.in_messages_lem;
-              in_pairs = rw stored.1 f.in_pairs;
-              in_actions_lem = rw stored.2 f.in_actions_lem;
-            }
 
     -- at the end all is filled in
     pub filling_fills : all ≡ done f.met x.at → Leaves kind start s old_messages messages old_pairs pairs old_actions actions
@@ -263,24 +226,24 @@ module _ (kind : Payload) (start : ℕ) (s old_messages old_pairs old_actions : 
       then_of : Then f.stands f.goes (item_at kind s x) (tests rooms s x f.met (item_at kind s x))
       then_of = goes_then f.stands f.goes
 
-      pub accepted_on : (item : Item) → item ≡ item_at kind s x → follows item ≡ true → (tests rooms s x f.met item ≡ v.On (after_item x item)) × Roomy rooms x item
-      accepted_on item is t =
-          by_tests rooms s x f.met item t (λ e r. (e, r))
-          (λ n place e. not_both ok.is (subst (λ (z : Step). Then f.stands f.goes item z) e (rw is then_of)))
+      pub accepted_on : (item : Item) → one item ≡ item_at kind s x → (tests rooms s x f.met (one item) ≡ one (after_item x item)) × Roomy rooms x item
+      accepted_on item is =
+          by_tests rooms s x f.met item (λ e r. (e, r))
+          (λ n place e. not_both ok.is (subst (λ (z : Answer (Option Cursor)). Then f.stands f.goes (one item) z) e (rw is then_of)))
 
-      pub accepted_fits : (item : Item) → item ≡ item_at kind s x → follows item ≡ true → Fits item x messages pairs actions
-      accepted_fits item is t = filling_fits item (accepted_on item is t).1
+      pub accepted_fits : (item : Item) → one item ≡ item_at kind s x → Fits item x messages pairs actions
+      accepted_fits item is = filling_fits item (accepted_on item is).1
 
-      pub accepted_more : (item : Item) → item ≡ item_at kind s x → follows item ≡ true → (y : Cursor) → y ≡ after_item x item
+      pub accepted_more : (item : Item) → one item ≡ item_at kind s x → (y : Cursor) → y ≡ after_item x item
           → (new_messages new_pairs new_actions : List ℕ) → Stores item x messages new_messages pairs new_pairs actions new_actions
           → (x.at < y.at) × Filling y new_messages new_pairs new_actions
-      accepted_more item is t y e new_messages new_pairs new_actions stored =
-          filling_on item y is ((accepted_on item is t).0 ∙ ap v.On (sym e)) new_messages new_pairs new_actions stored
+      accepted_more item is y e new_messages new_pairs new_actions stored =
+          filling_on item y is ((accepted_on item is).0 ∙ ap one (sym e)) new_messages new_pairs new_actions stored
 
-      pub accepted_end : (item : Item) → item ≡ item_at kind s x → follows item ≡ false → Leaves kind start s old_messages messages old_pairs pairs old_actions actions
+      pub accepted_end : no_more ≡ item_at kind s x → Leaves kind start s old_messages messages old_pairs pairs old_actions actions
       unfolding tests
-      accepted_end (i.Pair p end) is t = true_false refl t
-      accepted_end (i.Message m end) is t = true_false refl t
-      accepted_end (i.Action a end) is t = true_false refl t
-      accepted_end i.End is t = filling_fills (subst (λ (z : Item). Then f.stands f.goes z (tests rooms s x f.met z)) (sym is) then_of)
-      accepted_end (i.Refused q) is t = not_both ok.is (subst (λ (z : Item). Then f.stands f.goes z (tests rooms s x f.met z)) (sym is) then_of)
+      accepted_end is = filling_fills (subst (λ (z : Answer (Option Item)). Then f.stands f.goes z (tests rooms s x f.met z)) (sym is) then_of)
+
+      pub accepted_not : {G : Type 0} (n place : ℕ) → refused n place ≡ item_at kind s x → G
+      unfolding tests
+      accepted_not n place is = not_both ok.is (subst (λ (z : Answer (Option Item)). Then f.stands f.goes z (tests rooms s x f.met z)) (sym is) then_of)

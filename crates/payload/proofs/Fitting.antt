@@ -6,7 +6,6 @@ use native.Mathlib.Omega.{arith}
 use lib.ListN.{length, take, drop, length-append}
 use lib.Seq.{take_at}
 use borrow.Author.Tests.{lt-leb}
-use Rattle.answer.specs.declared.Refusal.{Refusal}
 use Rattle.answer.specs.Answer.{Answer, done, refused, written, leaves}
 use Rattle.answer.specs.Order.{in_order}
 use Rattle.answer.specs.Table.{joined}
@@ -14,8 +13,10 @@ use Rattle.answer.proofs.Cases.{not_both}
 use Rattle.frame.specs.Records.{message_width, message_numbers, pair_width, pair_numbers, action_width, action_numbers}
 use Rattle.payload.specs.declared.Counts.{Counts}
 use Rattle.payload.specs.declared.Cursor.{Cursor}
-use Rattle.payload.specs.declared.Passed.{Passed}
-use Rattle.payload.specs.declared.Passed.TheVariants as p
+use Rattle.std.specs.Prelude.{Result, Ok, Err}
+use Rattle.answer.specs.Writes.{refusal_said}
+use Rattle.payload.specs.declared.Cursor.{Cursor}
+use Rattle.payload.specs.declared.Halt.{Halt}
 use Rattle.payload.specs.declared.Payload.{Payload}
 use Rattle.payload.specs.Payload.{Contents, payload}
 use Rattle.payload.specs.Promise.{counts_of, payload_tells, rooms_of, Fills}
@@ -99,17 +100,17 @@ module _ (kind : Payload) (rooms : Counts) (start : ℕ) (s : List ℕ) (h : len
 
 -- ---- what a pass says of the payload
 
-module _ {kind : Payload} {rooms : Counts} {start : ℕ} {s : List ℕ} {r : Passed} (g : Passes kind rooms start s r) where
-  pub passed_accepted : {x : Cursor} → r ≡ p.Done x → Accepted kind rooms start s
+module _ {kind : Payload} {rooms : Counts} {start : ℕ} {s : List ℕ} {r : Result Cursor Halt} (g : Passes kind rooms start s r) where
+  pub passed_accepted : {x : Cursor} → r ≡ Ok x → Accepted kind rooms start s
   passed_accepted {x} e =
       let o = tells_done (payload kind rooms start s) (record { messages = x.messages; pairs = x.pairs; actions = x.actions }) x.at (ap passed_said (sym e) ∙ g.says) in
       record { contents = o.0; end = x.at; is = o.1 }
 
-  pub passed_nothing : {q : Refusal} {x : Cursor} → r ≡ p.Refused q x → (messages pairs actions : List ℕ) → Fills (payload kind rooms start s) messages messages pairs pairs actions actions
-  passed_nothing {q} e messages pairs actions =
-      let says : refused q.number q.place ≡ payload_tells (payload kind rooms start s) = ap passed_said (sym e) ∙ g.says in
+  pub passed_nothing : {h : Halt} → r ≡ Err h → (messages pairs actions : List ℕ) → Fills (payload kind rooms start s) messages messages pairs pairs actions actions
+  passed_nothing {h} e messages pairs actions =
+      let says : refusal_said h.refusal ≡ payload_tells (payload kind rooms start s) = ap passed_said (sym e) ∙ g.says in
       go (payload kind rooms start s) says
     where
-      go : (a : Answer Contents) → refused q.number q.place ≡ payload_tells a → Fills a messages messages pairs pairs actions actions
+      go : (a : Answer Contents) → refusal_said h.refusal ≡ payload_tells a → Fills a messages messages pairs pairs actions actions
       go (done c n) f = not_both refl (sym f)
       go (refused n place) f = record { messages = refl; pairs = refl; actions = refl }

@@ -7,6 +7,7 @@ pub mod Actions
 pub mod Steps
 pub mod Tests
 pub mod Passing
+pub mod Putting
 pub mod Filling
 pub mod Kept
 pub mod Accepted

@@ -1,4 +1,5 @@
 -- Laws about bytes behind: what was read at a place, and what stands in a row, is so with more bytes behind it.
+use Rattle.types.specs.declared.Span.{Span}
 use mathlib.Core.Path.{◌≡◌, sym, ap, ap₂, ◌∙◌}
 use mathlib.Core.List.{List, ◌++◌}
 use Prim.Native.Nat.{ℕ, ◌≤◌}
@@ -7,7 +8,7 @@ use lib.ListN.{length, drop, length-append, get_or-append}
 use lib.Seq.{drop-append-le}
 use Rattle.answer.specs.Answer.{Answer, done, behind}
 use Rattle.answer.proofs.Cases.{answer_cases, not_both}
-use Rattle.types.specs.Value.{Span, span, string, value, typed}
+use Rattle.types.specs.Value.{span, string, value, typed}
 use Rattle.types.proofs.Reading.{string_accepted, string_accepted_kept, typed_accepted_kept}
 use Rattle.frame.specs.declared.Pair.{Pair}
 use Rattle.frame.specs.declared.Message.{Message}
@@ -34,7 +35,7 @@ pair_longer s t p used e =
     ∙ e)
 
 pub string_longer : (s t : List ℕ) (x : Span) (used : ℕ) → string s ≡ done x used → string (s ++ t) ≡ done x used
-string_longer s t (span start len) used e = string_accepted_kept s t start len used e
+string_longer s t x used e = string_accepted_kept s t x.start x.len used e
 
 -- Law: what a reader finds at a place, where it does so at the front.
 pub from_longer : {A : Type 0} (moved : ℕ → A → A) (reader : List ℕ → Answer A)

@@ -1,5 +1,6 @@
 -- Laws about reading a pair: how it unrolls, what an accepted one says of the bytes, where it is refused, and the same of a pair that
 -- stands at a place.
+use Rattle.types.specs.declared.Span.{Span}
 use mathlib.Core.Path.{◌≡◌, refl, sym, ap, ap₂, ◌∙◌}
 use mathlib.Core.Bool.{Bool, true, false, cond}
 use mathlib.Core.List.{List, []}
@@ -9,9 +10,9 @@ use native.Mathlib.Omega.{arith}
 use lib.ListN.{length, drop, length-drop, drop_of_length-le}
 use Rattle.answer.specs.Answer.{Answer, done, refused, behind}
 use Rattle.answer.proofs.Cases.{not_both, answer_cases}
-use Rattle.answer.proofs.Answers.{done_same, refused_same}
+use Rattle.answer.proofs.Answers.{ends, done_same, refused_same}
 use Rattle.varint.proofs.Reading.{number_none}
-use Rattle.types.specs.Value.{Span, span, string, Record, value, points, shape, moved, typed}
+use Rattle.types.specs.Value.{span, string, Record, value, points, shape, moved, typed}
 use Rattle.types.proofs.Reading.{string_refused, string_accepted, string_place, typed_accepted, typed_place}
 use Rattle.types.proofs.Shapes.{points_yes}
 use Rattle.frame.specs.declared.Pair.{Pair}
@@ -46,7 +47,7 @@ module _ (s : List ℕ) where
       after_key start len used key (refused n place) e = bad-value start len used key n place e
 
       go : (x : Answer Span) → string s ≡ x → G
-      go (done (span start len) used) key = after_key start len used key (typed (drop used s)) refl
+      go (done x used) key = after_key x.start x.len used key (typed (drop used s)) refl
       go (refused n place) e = bad-key n place e
 
 -- ---- what an accepted pair says of the bytes
@@ -92,6 +93,12 @@ pair_place s n place e =
     let one = refused_same (sym (pair_value s start len u key m q r) ∙ e) in
     omega (arith, typed_place (drop u s) m q r, string_accepted s start len u key, length-drop u s))
     (λ start len u key kind a b f m d. not_both (pair_whole s start len u key (value kind a b f) m d) e)
+
+pub pair_ends : (s : List ℕ) → ends (pair s) ≤ length s
+pair_ends s =
+    answer_cases (pair s)
+    (λ p used e. rw e (pair_accepted s p used e).most)
+    (λ n place e. rw e (pair_place s n place e))
 
 -- ---- the pair that stands at a place
 

@@ -20,20 +20,25 @@ use Rattle.payload.specs.declared.Counts.{Counts}
 use Rattle.payload.specs.declared.Cursor.{Cursor}
 use Rattle.payload.specs.declared.Item.{Item}
 use Rattle.payload.specs.declared.Item.TheVariants as i
-use Rattle.payload.specs.declared.Step.{Step}
-use Rattle.payload.specs.declared.Step.TheVariants as v
-use Rattle.payload.specs.declared.Passed.TheVariants as p
+use Rattle.std.specs.Prelude.{Option, Some, None, Ok, Err}
+use Rattle.answer.specs.Writes.{refusal_said}
 use Rattle.payload.specs.declared.Payload.{Payload}
 use Rattle.payload.specs.declared.Payload.TheVariants as k
 use Rattle.payload.specs.Pair.{pair_from}
 use Rattle.payload.specs.Action.{action_from}
 use Rattle.payload.specs.Payload.{Contents, empty, with_pair, with_message, with_action, message_from, met, one_pair, one_of, payload}
-use Rattle.payload.specs.Item.{item_of, listed, item_at}
-use Rattle.payload.specs.Inner.{began, after_item, tests, Low, KeyInside, Run, Stands, Goes, Passes}
+use Rattle.payload.specs.Item.{one, no_more, item_of, listed, item_at}
+use Rattle.payload.specs.Inner.{began, after_item, tests, Low, KeyInside, Run, Stands, Passes}
 use Rattle.payload.proofs.Pairs.{from_lies}
 use Rattle.payload.proofs.Rows.{from_next, run_more}
 use Rattle.payload.proofs.Actions.{action_next}
 use Rattle.payload.proofs.Steps.{message_next, pair_refused, pair_met, pair_full, pair_taken, message_refused, message_full, message_taken, action_refused, action_full, action_taken}
+
+-- What is left from there on comes to a.
+pub record Goes (kind : Payload) (rooms : Counts) (s : List ℕ) (x : Cursor) (c : Contents) (a : Answer Contents) : Type 0 where
+  pub fuel : ℕ
+  pub enough : length s ≤ x.at + fuel
+  pub is : next (so_many (one_pair rooms s false) x.left c x.at) (λ d end. to_end (one_of rooms s kind) (length s) fuel d end) ≡ a
 
 -- ---- where it begins
 
@@ -104,17 +109,30 @@ module _ (kind : Payload) (s : List ℕ) (x : Cursor) where
     unfolding item_at
     item_listed h = rw (none, lt-ltb x.at (length s) h)
 
-    pub item_end : length s ≤ x.at → item_at kind s x ≡ i.End
+    pub item_end : length s ≤ x.at → item_at kind s x ≡ no_more
     unfolding item_at
     item_end h = rw (none, le-ltb x.at (length s) h)
+
+-- what comes next, as the code took it apart
+pub comes : {a : Answer (Option Item)} {o q : Option Item} → o ≡ q → done o 0 ≡ a → done q 0 ≡ a
+comes e is = ap (λ (z : Option Item). done z 0) (sym e) ∙ is
 
 -- what was met behind what comes next
 abbrev pub with_item : Contents → Item → Contents
 with_item c (i.Pair p end) = with_pair c p
 with_item c (i.Message m end) = with_message c m
 with_item c (i.Action a end) = with_action c a
-with_item c i.End = c
-with_item c (i.Refused q) = c
+
+abbrev pub with_next : Contents → Answer (Option Item) → Contents
+with_next c (done (Some item) n) = with_item c item
+with_next c (done None n) = c
+with_next c (refused number place) = c
+
+-- and where the pass goes on
+abbrev pub after_next : Cursor → Answer (Option Item) → Cursor
+after_next x (done (Some item) n) = after_item x item
+after_next x (done None n) = x
+after_next x (refused number place) = x
 
 one_more : {A : Type 0} (xs : List A) (y : A) → length (xs ++ (y ∷ [])) ≡ length xs + 1
 one_more xs y = length-append xs (y ∷ [])
@@ -122,17 +140,17 @@ one_more xs y = length-append xs (y ∷ [])
 module _ {kind : Payload} {start : ℕ} {rooms : Counts} {s : List ℕ} {x : Cursor} {c : Contents} {a : Answer Contents}
     (st : Stands kind start s x c) (g : Goes kind rooms s x c a) where
   -- What is left where the tests of an item come out so: the pass goes on behind it, has ended, or is refused.
-  abbrev pub Then : Item → Step → Type 0
-  Then item (v.On y) =
-      (y ≡ after_item x item) × (x.at < y.at) × Stands kind start s y (with_item c item) × Goes kind rooms s y (with_item c item) a
-  Then item v.End = a ≡ done c x.at
-  Then item (v.Refused r) = a ≡ refused r.number r.place
+  abbrev pub Then : Answer (Option Item) → Answer (Option Cursor) → Type 0
+  Then item (done (Some y) n) =
+      (y ≡ after_next x item) × (x.at < y.at) × Stands kind start s y (with_next c item) × Goes kind rooms s y (with_next c item) a
+  Then item (done None n) = a ≡ done c x.at
+  Then item (refused number place) = a ≡ refused number place
 
   -- a pair, by what is known of reading one more
   module _ (once : Bool) (is : once ≡ eqb x.left 0) (stop : (n place : ℕ) → one_pair rooms s once c x.at ≡ refused n place → a ≡ refused n place) where
     then_pair : (p : Pair) (end : ℕ) → pair_from x.at s ≡ done p end
         → (one_pair rooms s once c x.at ≡ done (with_pair c p) end → Goes kind rooms s (after_item x (i.Pair p end)) (with_pair c p) a)
-        → Then (i.Pair p end) (tests rooms s x c (i.Pair p end))
+        → Then (one (i.Pair p end)) (tests rooms s x c (one (i.Pair p end)))
     unfolding tests in_order
     then_pair p end f on =
         bool_cases (once && met s c.pairs p)
@@ -257,31 +275,52 @@ module _ {kind : Payload} {start : ℕ} {rooms : Counts} {s : List ℕ} {x : Cur
           (lt_or_le x.at (length s))
       go (suc l) is = rw (item_due kind s x l is) (then_due l is (pair_from x.at s) refl)
 
+  -- The same by what comes next: a record, of which the tests come out so; the end; or a refusal.
+  pub then_on : (item : Item) → one item ≡ item_at kind s x → {t : Answer (Option Cursor)} → t ≡ tests rooms s x c (one item) → Then (one item) t
+  then_on item is e = subst (λ (z : Answer (Option Cursor)). Then (one item) z) (sym e) (rw is goes_then)
+
+  pub then_end : no_more ≡ item_at kind s x → a ≡ done c x.at
+  unfolding tests
+  then_end is = subst (λ (z : Answer (Option Item)). Then z (tests rooms s x c z)) (sym is) goes_then
+
+  pub then_not : (n place : ℕ) → refused n place ≡ item_at kind s x → a ≡ refused n place
+  unfolding tests
+  then_not n place is = subst (λ (z : Answer (Option Item)). Then z (tests rooms s x c z)) (sym is) goes_then
+
+pub tests_not : (rooms : Counts) (s : List ℕ) (x : Cursor) (c : Contents) (n place : ℕ) → tests rooms s x c (refused n place) ≡ refused n place
+unfolding tests
+tests_not rooms s x c n place = refl
+
 -- ---- what the tests ask
 
 module _ (kind : Payload) (s : List ℕ) (x : Cursor) where
-  pair_key_in : (r : Answer Pair) → pair_from x.at s ≡ r → KeyInside s (item_of i.Pair r)
+  -- the key of a pair lies in the bytes
+  abbrev KeyIn : Answer (Option Item) → Type 0
+  KeyIn (done (Some item) n) = KeyInside s item
+  KeyIn (done None n) = Unit
+  KeyIn (refused number place) = Unit
+
+  pair_key_in : (r : Answer Pair) → pair_from x.at s ≡ r → KeyIn (item_of i.Pair r)
   pair_key_in (done p end) f = let l = from_lies s x.at p end f in omega (arith, l.key, l.most)
   pair_key_in (refused n place) f = tt
 
-  message_key_in : (r : Answer Message) → KeyInside s (item_of i.Message r)
+  message_key_in : (r : Answer Message) → KeyIn (item_of i.Message r)
   message_key_in (done m end) = tt
   message_key_in (refused n place) = tt
 
-  action_key_in : (r : Answer Action) → KeyInside s (item_of i.Action r)
+  action_key_in : (r : Answer Action) → KeyIn (item_of i.Action r)
   action_key_in (done a end) = tt
   action_key_in (refused n place) = tt
 
-  listed_key_in : (q : Payload) → KeyInside s (listed q s x)
+  listed_key_in : (q : Payload) → KeyIn (listed q s x)
   listed_key_in k.KvList = pair_key_in (pair_from x.at s) refl
   listed_key_in k.Messages = message_key_in (message_from x.pairs x.at s)
   listed_key_in k.Actions = action_key_in (action_from x.at s)
 
-  -- the key of a pair lies in the bytes
-  pub key_inside : (item : Item) → item ≡ item_at kind s x → KeyInside s item
-  key_inside item is = subst (λ (z : Item). KeyInside s z) (sym is) (go x.left refl)
+  pub key_inside : (item : Item) → one item ≡ item_at kind s x → KeyInside s item
+  key_inside item is = subst (λ (z : Answer (Option Item)). KeyIn z) (sym is) (go x.left refl)
     where
-      go : (l : ℕ) → x.left ≡ l → KeyInside s (item_at kind s x)
+      go : (l : ℕ) → x.left ≡ l → KeyIn (item_at kind s x)
       go zero none =
           ⊎_elim
           (λ h. rw (item_listed kind s x none h) (listed_key_in kind))
@@ -289,23 +328,23 @@ module _ (kind : Payload) (s : List ℕ) (x : Cursor) where
           (lt_or_le x.at (length s))
       go (suc l) is = rw (item_due kind s x l is) (pair_key_in (pair_from x.at s) refl)
 
-  message_no_pair : {G : Type 0} (r : Answer Message) (p : Pair) (end : ℕ) → item_of i.Message r ≡ i.Pair p end → G
+  message_no_pair : {G : Type 0} (r : Answer Message) (p : Pair) (end : ℕ) → item_of i.Message r ≡ one (i.Pair p end) → G
   message_no_pair (done m n) p end e = let z : ◌≡◌ {A = ℕ} 0 1 = cc in absurd (omega arith)
   message_no_pair (refused m n) p end e = let z : ◌≡◌ {A = ℕ} 0 1 = cc in absurd (omega arith)
 
-  action_no_pair : {G : Type 0} (r : Answer Action) (p : Pair) (end : ℕ) → item_of i.Action r ≡ i.Pair p end → G
+  action_no_pair : {G : Type 0} (r : Answer Action) (p : Pair) (end : ℕ) → item_of i.Action r ≡ one (i.Pair p end) → G
   action_no_pair (done a n) p end e = let z : ◌≡◌ {A = ℕ} 0 1 = cc in absurd (omega arith)
   action_no_pair (refused m n) p end e = let z : ◌≡◌ {A = ℕ} 0 1 = cc in absurd (omega arith)
 
   -- where no argument is due, a pair is one of a KV list
-  pub pair_of_kv : (p : Pair) (end : ℕ) → item_at kind s x ≡ i.Pair p end → x.left ≡ 0 → kind ≡ k.KvList
+  pub pair_of_kv : (p : Pair) (end : ℕ) → item_at kind s x ≡ one (i.Pair p end) → x.left ≡ 0 → kind ≡ k.KvList
   pair_of_kv p end e none =
       ⊎_elim
       (λ h. go kind refl (sym (item_listed kind s x none h) ∙ e))
       (λ h. let f = sym (item_end kind s x none h) ∙ e in let z : ◌≡◌ {A = ℕ} 0 1 = cc f in absurd (omega arith))
       (lt_or_le x.at (length s))
     where
-      go : (q : Payload) → kind ≡ q → listed kind s x ≡ i.Pair p end → kind ≡ k.KvList
+      go : (q : Payload) → kind ≡ q → listed kind s x ≡ one (i.Pair p end) → kind ≡ k.KvList
       go k.KvList is f = is
       go k.Messages is f = message_no_pair (message_from x.pairs x.at s) p end (ap (λ (z : Payload). listed z s x) (sym is) ∙ f)
       go k.Actions is f = action_no_pair (action_from x.at s) p end (ap (λ (z : Payload). listed z s x) (sym is) ∙ f)
@@ -321,14 +360,14 @@ module _ {kind : Payload} {start : ℕ} {s : List ℕ} {x : Cursor} {c : Content
       }
 
   -- the pairs that a key is sought among
-  pub sought : (item : Item) → item ≡ item_at kind s x → (p : Pair) (end : ℕ) → item ≡ i.Pair p end → x.left ≡ 0 → Run s start c.pairs x.at
-  sought item is p end e none = st.run (pair_of_kv kind s x p end (sym is ∙ e) none)
+  pub sought : (item : Item) → one item ≡ item_at kind s x → (p : Pair) (end : ℕ) → item ≡ i.Pair p end → x.left ≡ 0 → Run s start c.pairs x.at
+  sought item is p end e none = st.run (pair_of_kv kind s x p end (sym is ∙ ap one e) none)
 
   -- ---- what a pass comes to
 
-  pub passes_done : {rooms : Counts} → payload kind rooms start s ≡ done c x.at → Passes kind rooms start s (p.Done x)
+  pub passes_done : {rooms : Counts} → payload kind rooms start s ≡ done c x.at → Passes kind rooms start s (Ok x)
   passes_done e = record { says = rw (e, st.messages, st.pairs, st.actions); stood = tt }
 
-  pub passes_refused : {rooms : Counts} (r : Refusal) → tests rooms s x c (item_at kind s x) ≡ v.Refused r → payload kind rooms start s ≡ refused r.number r.place
-      → Passes kind rooms start s (p.Refused r x)
+  pub passes_refused : {rooms : Counts} (r : Refusal) → tests rooms s x c (item_at kind s x) ≡ refusal_said r → payload kind rooms start s ≡ refusal_said r
+      → Passes kind rooms start s (Err (record { refusal = r; cursor = x }))
   passes_refused r t e = record { says = rw e; stood = (c, st, t) }

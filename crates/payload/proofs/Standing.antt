@@ -1,4 +1,5 @@
 -- Laws about an accepted action: which bytes it is read from.
+use Rattle.types.specs.declared.Span.{Span}
 use mathlib.Core.Path.{◌≡◌, refl, sym, ap, ap₂, ◌∙◌}
 use mathlib.Core.Bool.{true, ◌||◌}
 use mathlib.Core.Logic.{⊎_elim}
@@ -11,7 +12,7 @@ use lib.Seq.{drop-drop}
 use borrow.Author.Tests.{eqb-true, eqb-false}
 use Rattle.answer.specs.Answer.{Answer, done, refused, next, behind}
 use Rattle.answer.proofs.Cases.{lt_or_le, bool_cases, true_false, answer_cases, not_both}
-use Rattle.types.specs.Value.{Span, span, string, value, shape}
+use Rattle.types.specs.Value.{span, string, value, shape}
 use Rattle.frame.specs.declared.Pair.{Pair}
 use Rattle.frame.specs.declared.Action.{Action}
 use Rattle.answer.proofs.Answers.{done_same}
@@ -124,14 +125,14 @@ module _ (f : List ℕ) (at : ℕ) (x : Action) (next : ℕ) (e : action_from at
 
       go : (a : Answer Span) → string (drop 3 (drop at f)) ≡ a
           → (string_from (at + 3) f ≡ done (span x.pair.start x.pair.len) next) × (pair_of (span x.pair.start x.pair.len) (value 0 0 0 0) ≡ x.pair)
-      go (done (span start len) used) d =
-          let q = done_same (sym (ap (behind moved_pair 3) (unset_done (drop 3 (drop at f)) start len used d)) ∙ inner) in
-          let is : moved_pair at (moved_pair 3 (pair_of (span start len) (value 0 0 0 0))) ≡ x.pair = ap (moved_pair at) q.0 ∙ variable_there in
-          let named : pair_of (span (at + 3 + start) len) (value 0 0 0 0) ≡ x.pair = ap (λ (i : ℕ). pair_of (span i len) (value 0 0 0 0)) (omega arith) ∙ is in
-          let begins : at + 3 + start ≡ x.pair.start = ap (λ (p : Pair). p.start) named in
-          let long : len ≡ x.pair.len = ap (λ (p : Pair). p.len) named in
+      go (done y used) d =
+          let q = done_same (sym (ap (behind moved_pair 3) (unset_done (drop 3 (drop at f)) y.start y.len used d)) ∙ inner) in
+          let is : moved_pair at (moved_pair 3 (pair_of y (value 0 0 0 0))) ≡ x.pair = ap (moved_pair at) q.0 ∙ variable_there in
+          let named : pair_of (span (at + 3 + y.start) y.len) (value 0 0 0 0) ≡ x.pair = ap (λ (i : ℕ). pair_of (span i y.len) (value 0 0 0 0)) (omega arith) ∙ is in
+          let begins : at + 3 + y.start ≡ x.pair.start = ap (λ (p : Pair). p.start) named in
+          let long : y.len ≡ x.pair.len = ap (λ (p : Pair). p.len) named in
           let ends : at + 3 + used ≡ next = omega (arith, q.1, there.4) in (
-            string_moved f at 3 start len used d ∙ ap₂ (λ (i j : ℕ). done (span i j) (at + 3 + used)) begins long ∙ ap (done (span x.pair.start x.pair.len)) ends,
+            string_moved f at 3 y.start y.len used d ∙ ap₂ (λ (i j : ℕ). done (span i j) (at + 3 + used)) begins long ∙ ap (done (span x.pair.start x.pair.len)) ends,
             ap₂ (λ (i j : ℕ). pair_of (span i j) (value 0 0 0 0)) (sym begins) (sym long) ∙ named,
           )
       go (refused n place) r = not_both inner (ap (behind moved_pair 3) (unset_refused (drop 3 (drop at f)) n place r))

@@ -11,8 +11,9 @@ use Rattle.answer.specs.Answer.{Answer, done, refused, behind}
 use Rattle.answer.specs.Order.{in_order}
 use Rattle.answer.specs.Row.{so_many}
 use Rattle.answer.proofs.Cases.{lt_or_le, not_both}
-use Rattle.types.specs.Value.{Span, span, string}
-use Rattle.types.proofs.Reading.{string_accepted}
+use Rattle.types.specs.Value.{span, string}
+use Rattle.types.specs.declared.Span.{Span}
+use Rattle.types.proofs.Reading.{span_same, string_accepted}
 use Rattle.frame.specs.declared.Pair.{Pair}
 use Rattle.frame.specs.declared.Message.{Message}
 use Rattle.frame.specs.declared.Action.{Action}
@@ -42,15 +43,11 @@ module _ (first at : ℕ) (s : List ℕ) where
 pub string_next : (s : List ℕ) (at start len end : ℕ) → string_from at s ≡ done (span start len) end → (at < end) × (end ≤ length s) × (start + len ≡ end)
 string_next s at start len end e = go (string (drop at s)) refl
   where
-    spans : {a b m k : ℕ} → span a m ≡ span b k → (a ≡ b) × (m ≡ k)
-    spans e = ((cc), (cc))
-
     go : (x : Answer Span) → string (drop at s) ≡ x → (at < end) × (end ≤ length s) × (start + len ≡ end)
-    go (done (span a n) used) d =
-        let o = done_same (sym (ap (behind moved_span at) d) ∙ e) in
-        let q = spans o.0 in
-        let k = string_accepted (drop at s) a n used d in
-        omega (arith, o.1, length-drop at s)
+    go (done p used) d =
+        let o = span_same (sym (ap (behind moved_span at) d) ∙ e) in
+        let k = string_accepted (drop at s) p.start p.len used d in
+        omega (arith, o.0, o.1, o.2, length-drop at s)
     go (refused n place) r = not_both e (ap (behind moved_span at) r)
 
 -- What an accepted message says: its name stands at the place, and its count byte behind that.
@@ -66,12 +63,12 @@ pub message_says : (first at : ℕ) (s : List ℕ) (m : Message) (end : ℕ) →
 message_says first at s m end e = go (string_from at s) refl
   where
     go : (x : Answer Span) → string_from at s ≡ x → Named first at s m end
-    go (done (span start len) place) f =
+    go (done p place) f =
         ⊎_elim
         (λ h.
-        let o = done_same (sym (count_there first at s (span start len) place f h) ∙ e) in
+        let o = done_same (sym (count_there first at s p place f h) ∙ e) in
         rw (sym o.0, sym o.1) (record { place = place; name = f; byte = h; is_first = refl; count = refl; ends = refl }))
-        (λ h. not_both e (count_missing first at s (span start len) place f h))
+        (λ h. not_both e (count_missing first at s p place f h))
         (lt_or_le place (length s))
     go (refused n place) r = not_both e (name_refused first at s n place r)
 

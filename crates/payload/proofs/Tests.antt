@@ -10,9 +10,10 @@ use Rattle.frame.specs.declared.Pair.{Pair}
 use Rattle.payload.specs.declared.Counts.{Counts}
 use Rattle.payload.specs.declared.Cursor.{Cursor}
 use Rattle.payload.specs.declared.Item.TheVariants as i
-use Rattle.payload.specs.declared.Step.TheVariants as v
 use Rattle.payload.specs.Payload.{Contents, met}
-use Rattle.payload.specs.Inner.{after_item, refused_at, tests}
+use Rattle.payload.specs.Inner.{after_item, tests}
+use Rattle.payload.specs.Item.{one}
+use Rattle.answer.specs.Answer.{refused}
 
 -- The last test is for room: there is none for one more than n, or there is.
 module _ {A : Type 0} (full on : A) (n room : ℕ) where
@@ -26,15 +27,15 @@ module _ {A : Type 0} (full on : A) (n room : ℕ) where
 
 -- A pair's key is tested before.
 module _ (rooms : Counts) (s : List ℕ) (x : Cursor) (c : Contents) (p : Pair) (end : ℕ) where
-  pub pair_met : x.left ≡ 0 → met s c.pairs p ≡ true → tests rooms s x c (i.Pair p end) ≡ refused_at 9 end
+  pub pair_met : x.left ≡ 0 → met s c.pairs p ≡ true → tests rooms s x c (one (i.Pair p end)) ≡ refused 9 end
   unfolding tests in_order
   pair_met z m = simp (eq-eqb x.left 0 z, m)
 
   module _ (new : (eqb x.left 0 && met s c.pairs p) ≡ false) where
-    pub pair_full : rooms.pairs ≤ x.pairs → tests rooms s x c (i.Pair p end) ≡ refused_at 10 end
+    pub pair_full : rooms.pairs ≤ x.pairs → tests rooms s x c (one (i.Pair p end)) ≡ refused 10 end
     unfolding tests in_order
     pair_full h = rw new (no_room _ _ x.pairs rooms.pairs h)
 
-    pub pair_taken : x.pairs < rooms.pairs → tests rooms s x c (i.Pair p end) ≡ v.On (after_item x (i.Pair p end))
+    pub pair_taken : x.pairs < rooms.pairs → tests rooms s x c (one (i.Pair p end)) ≡ one (after_item x (i.Pair p end))
     unfolding tests in_order
     pair_taken h = rw new (has_room _ _ x.pairs rooms.pairs h)

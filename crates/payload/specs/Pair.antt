@@ -5,13 +5,14 @@
 --     KV-VALUE         : <TYPED-DATA>
 use Rattle.std.specs.Prelude.{List, ℕ, ◌+◌, drop}
 use Rattle.answer.specs.Answer.{Answer, done, next, behind}
-use Rattle.types.specs.Value.{Span, span, string, Record, value, moved, typed}
+use Rattle.types.specs.declared.Span.{Span}
+use Rattle.types.specs.Value.{span, string, Record, value, moved, typed}
 use Rattle.types.specs.Promise.{record_of}
 use Rattle.frame.specs.declared.Pair.{Pair}
 
 -- where a key stands and a value, as a record
 abbrev pub pair_of : Span → Record → Pair
-pair_of (span start len) (value kind a b flags) = record { start = start; len = len; value = record { kind = kind; a = a; b = b; flags = flags } }
+pair_of key (value kind a b flags) = record { start = key.start; len = key.len; value = record { kind = kind; a = a; b = b; flags = flags } }
 
 -- a pair behind n other bytes: its starts move
 abbrev pub moved_pair : ℕ → Pair → Pair

@@ -10,7 +10,8 @@ use Rattle.answer.specs.Answer.{Answer, done, refused, next, behind}
 use Rattle.answer.specs.Order.{in_order}
 use Rattle.answer.specs.Table.{some}
 use Rattle.answer.specs.Row.{so_many, to_end}
-use Rattle.types.specs.Value.{Span, span, string}
+use Rattle.types.specs.declared.Span.{Span}
+use Rattle.types.specs.Value.{span, string}
 use Rattle.frame.specs.declared.Pair.{Pair}
 use Rattle.frame.specs.declared.Message.{Message}
 use Rattle.frame.specs.declared.Action.{Action}
@@ -42,14 +43,14 @@ with_action c x = record { messages = c.messages; pairs = c.pairs; actions = c.a
 
 -- the string that stands at a place
 abbrev pub moved_span : ℕ → Span → Span
-moved_span n (span start len) = span (n + start) len
+moved_span n p = span (n + p.start) p.len
 
 abbrev pub string_from : ℕ → List ℕ → Answer Span
 string_from at s = behind moved_span at (string (drop at s))
 
 -- A message's name, and its count byte. Its arguments are the pairs behind so many that were met.
 abbrev pub message_of : Span → ℕ → ℕ → Message
-message_of (span start len) first count = record { start = start; len = len; first = first; count = count }
+message_of name first count = record { start = name.start; len = name.len; first = first; count = count }
 
 unfoldable pub message_from : ℕ → ℕ → List ℕ → Answer Message
 message_from first at s =

@@ -1,27 +1,21 @@
 -- What the calls' own types mean, and what those calls promise whose contracts name a promise.
-use Rattle.std.specs.Prelude.{◌≡◌, List, ℕ, ◌/◌, length}
-use Rattle.answer.specs.Answer.{Answer, done, refused, next, written, leaves}
+use Rattle.std.specs.Prelude.{◌≡◌, List, ℕ, ◌/◌, length, Option, Result}
+use Rattle.answer.specs.declared.Read.{Read}
+use Rattle.answer.specs.declared.Refusal.{Refusal}
+use Rattle.answer.specs.Answer.{Answer, done, next, written, leaves}
+use Rattle.answer.specs.Writes.{read_said}
 use Rattle.answer.specs.Table.{joined}
 use Rattle.frame.specs.declared.Pair.{Pair}
 use Rattle.frame.specs.Records.{message_width, message_numbers, pair_width, pair_numbers, action_width, action_numbers}
 use Rattle.payload.specs.declared.Counts.{Counts}
-use Rattle.payload.specs.declared.PairRead.{PairRead}
-use Rattle.payload.specs.declared.PairRead.TheVariants as p
+use Rattle.payload.specs.declared.Cursor.{Cursor}
+use Rattle.payload.specs.declared.Item.{Item}
 use Rattle.payload.specs.declared.Payload.{Payload}
-use Rattle.payload.specs.declared.PayloadRead.{PayloadRead}
-use Rattle.payload.specs.declared.PayloadRead.TheVariants as l
+use Rattle.payload.specs.Item.{next_said, item_at}
 use Rattle.payload.specs.Pair.{pair, pair_from}
 use Rattle.payload.specs.Payload.{Contents, payload}
 
--- ---- what the answers say
-
-abbrev pub pair_said : PairRead → Answer Pair
-pair_said (p.Done x used) = done x used
-pair_said (p.Refused r) = refused r.number r.place
-
-abbrev pub payload_said : PayloadRead → Answer Counts
-payload_said (l.Done counts used) = done counts used
-payload_said (l.Refused r) = refused r.number r.place
+-- ---- what is said
 
 -- what is said of a payload that comes out so: counts stand for the records
 abbrev pub counts_of : Contents → Counts
@@ -49,17 +43,21 @@ pub record Fills (a : Answer Contents) (old_messages new_messages old_pairs new_
 -- ---- the promises
 
 -- `read_pair` reads the pair at the front of the bytes, and `pair_from` the one that stands at a place.
-abbrev pub ReadPair : List ℕ → PairRead → Type 0
-ReadPair input r = pair_said r ≡ pair input
+abbrev pub ReadPair : List ℕ → Result (Read Pair) Refusal → Type 0
+ReadPair input r = read_said r ≡ pair input
 
-abbrev pub PairFrom : List ℕ → ℕ → PairRead → Type 0
-PairFrom input at r = pair_said r ≡ pair_from at input
+abbrev pub PairFrom : List ℕ → ℕ → Result (Read Pair) Refusal → Type 0
+PairFrom input at r = read_said r ≡ pair_from at input
+
+-- `next_item` says what comes next where a pass stands.
+abbrev pub NextItem : Payload → List ℕ → Cursor → Result (Option Item) Refusal → Type 0
+NextItem kind input x r = next_said r ≡ item_at kind input x
 
 -- `look_payload` says what the reader says with tables of such rooms.
-abbrev pub LookPayload : Payload → ℕ → List ℕ → Counts → PayloadRead → Type 0
-LookPayload kind start input rooms r = payload_said r ≡ payload_tells (payload kind rooms start input)
+abbrev pub LookPayload : Payload → ℕ → List ℕ → Counts → Result (Read Counts) Refusal → Type 0
+LookPayload kind start input rooms r = read_said r ≡ payload_tells (payload kind rooms start input)
 
 -- `read_payload` reads the payload that starts at a place, and fills the tables.
-pub record ReadPayload (kind : Payload) (start : ℕ) (input : List ℕ) (r : PayloadRead) (old_messages new_messages old_pairs new_pairs old_actions new_actions : List ℕ) : Type 0 where
-  pub says : payload_said r ≡ payload_tells (payload kind (rooms_of old_messages old_pairs old_actions) start input)
+pub record ReadPayload (kind : Payload) (start : ℕ) (input : List ℕ) (r : Result (Read Counts) Refusal) (old_messages new_messages old_pairs new_pairs old_actions new_actions : List ℕ) : Type 0 where
+  pub says : read_said r ≡ payload_tells (payload kind (rooms_of old_messages old_pairs old_actions) start input)
   pub fills : Fills (payload kind (rooms_of old_messages old_pairs old_actions) start input) old_messages new_messages old_pairs new_pairs old_actions new_actions

@@ -1,53 +1,12 @@
 // The second pass over a payload that is accepted: it fills the tables, and asks nothing again.
 ghost use Rattle.std.specs.Prelude.{◌≡◌, true, false, ◌≤◌, length};
-ghost use Rattle.answer.specs.Answer.{written, leaves};
-ghost use Rattle.frame.specs.Records.{message_width, message_numbers, pair_width, pair_numbers, action_width, action_numbers};
 ghost use Rattle.payload.specs.Promise.{rooms_of};
-ghost use Rattle.payload.specs.Inner.{Low, follows, Fits, Stores, Accepted, Leaves};
+ghost use Rattle.payload.specs.Inner.{Low, Fits, Stores, Accepted, Leaves};
 
 use crate::look::{after, begin};
 use crate::next::item;
 use crate::{Cursor, Item, Payload};
-use frame::{ACTION_WIDTH, Action, MESSAGE_WIDTH, Message, PAIR_WIDTH, Pair};
-
-// Writes the numbers of a message.
-fn put_message(message: Message, table: &mut [u64])
-    requires { message_width ≤ length table.old }
-    ensures { table.new ≡ leaves (written (message_numbers message)) table.old }
-{
-    table[0] = message.start;
-    table[1] = message.len;
-    table[2] = message.first;
-    table[3] = message.count;
-}
-
-// Writes the numbers of a pair.
-fn put_pair(pair: Pair, table: &mut [u64])
-    requires { pair_width ≤ length table.old }
-    ensures { table.new ≡ leaves (written (pair_numbers pair)) table.old }
-{
-    table[0] = pair.start;
-    table[1] = pair.len;
-    table[2] = pair.value.kind;
-    table[3] = pair.value.a;
-    table[4] = pair.value.b;
-    table[5] = pair.value.flags;
-}
-
-// Writes the numbers of an action.
-fn put_action(action: Action, table: &mut [u64])
-    requires { action_width ≤ length table.old }
-    ensures { table.new ≡ leaves (written (action_numbers action)) table.old }
-{
-    table[0] = action.verb;
-    table[1] = action.scope;
-    table[2] = action.pair.start;
-    table[3] = action.pair.len;
-    table[4] = action.pair.value.kind;
-    table[5] = action.pair.value.a;
-    table[6] = action.pair.value.b;
-    table[7] = action.pair.value.flags;
-}
+use frame::{ACTION_WIDTH, MESSAGE_WIDTH, PAIR_WIDTH};
 
 // Writes the numbers of what comes next behind those of the records that were met.
 pub(crate) fn store(
@@ -63,35 +22,23 @@ pub(crate) fn store(
     match item {
         Item::Pair { pair, end: _ } => {
             let from = x.pairs * PAIR_WIDTH;
-            put_pair(pair, &mut pairs[from..]);
+            let _ = frame::put(&<[u64; PAIR_WIDTH]>::from(pair), &mut pairs[from..]);
         },
         Item::Message { message, end: _ } => {
             let from = x.messages * MESSAGE_WIDTH;
-            put_message(message, &mut messages[from..]);
+            let _ = frame::put(
+                &<[u64; MESSAGE_WIDTH]>::from(message),
+                &mut messages[from..],
+            );
         },
         Item::Action { action, end: _ } => {
             let from = x.actions * ACTION_WIDTH;
-            put_action(action, &mut actions[from..]);
+            let _ = frame::put(&<[u64; ACTION_WIDTH]>::from(action), &mut actions[from..]);
         },
-        Item::End => {},
-        Item::Refused(_) => {},
     }
 }
 
-// Whether a record comes next.
-fn comes(item: Item) -> bool
-    ensures { result ≡ follows item }
-{
-    match item {
-        Item::Pair { pair: _, end: _ } => true,
-        Item::Message { message: _, end: _ } => true,
-        Item::Action { action: _, end: _ } => true,
-        Item::End => false,
-        Item::Refused(_) => false,
-    }
-}
-
-// Fills in a payload that is accepted, which starts at `start`.
+// Fills in a payload that is accepted, which starts at `start`. An item says where the next one stands, as in `look`.
 pub(crate) fn fill(
     input: &[u8],
     start: usize,
@@ -106,12 +53,14 @@ pub(crate) fn fill(
 {
     let mut x = begin(start);
     loop {
-        let next = item(input, kind, x);
-        if comes(next) {
-            store(next, x, messages, pairs, actions);
-            x = after(x, next);
-        } else {
-            return;
+        match item(input, kind, x) {
+            Ok(Some(next)) => {
+                store(next, x, messages, pairs, actions);
+                x = after(x, next);
+            },
+            Ok(None) => return,
+            // Never: it is accepted.
+            Err(_) => return,
         }
     }
 }

@@ -21,7 +21,7 @@ pub use pair::{pair_from, read_pair};
 pub use read::{look_payload, read_payload};
 
 // What a payload is a list of: pairs with keys that are met once, messages with their arguments, or actions.
-#[derive(Clone, Copy)]
+#[derive(Clone, Copy, Debug, PartialEq, Eq)]
 pub enum Payload {
     KvList,
     Messages,
@@ -29,7 +29,7 @@ pub enum Payload {
 }
 
 // How many messages, pairs and actions: those that were read, or those that tables have room for.
-#[derive(Clone, Copy)]
+#[derive(Clone, Copy, Debug, PartialEq, Eq)]
 pub struct Counts {
     pub messages: usize,
     pub pairs: usize,
@@ -37,7 +37,7 @@ pub struct Counts {
 }
 
 // How far a pass is: the place, how many arguments of the last message are to come, and how many records were met.
-#[derive(Clone, Copy)]
+#[derive(Clone, Copy, Debug, PartialEq, Eq, Default)]
 pub struct Cursor {
     pub at: usize,
     pub left: usize,
@@ -47,54 +47,16 @@ pub struct Cursor {
 }
 
 // What comes next, and where it ends.
-#[derive(Clone, Copy)]
+#[derive(Clone, Copy, Debug, PartialEq, Eq)]
 pub enum Item {
     Pair { pair: Pair, end: usize },
     Message { message: Message, end: usize },
     Action { action: Action, end: usize },
-    End,
-    Refused(Refusal),
 }
 
-// What the pair reader answers.
+// Why a pass was refused, and where it stood then.
 #[derive(Clone, Copy)]
-pub enum PairRead {
-    Done { pair: Pair, used: usize },
-    Refused(Refusal),
-}
-
-// What the payload reader answers: how many records it found, and where the payload ends.
-#[derive(Clone, Copy)]
-pub enum PayloadRead {
-    Done { counts: Counts, used: usize },
-    Refused(Refusal),
-}
-
-// What the reader of an action answers. The starts in it count from behind its first three bytes.
-#[derive(Clone, Copy)]
-pub(crate) enum ActionRead {
-    Done { action: Action, used: usize },
-    Refused(Refusal),
-}
-
-// What a step of a pass finds: where the pass goes on, that it has ended, or why it is refused.
-#[derive(Clone, Copy)]
-pub(crate) enum Step {
-    On(Cursor),
-    End,
-    Refused(Refusal),
-}
-
-// What a pass comes to: where it ended, or why it was refused and where it stood then.
-#[derive(Clone, Copy)]
-pub(crate) enum Passed {
-    Done(Cursor),
-    Refused { refusal: Refusal, cursor: Cursor },
-}
-
-// What reading a payload in one pass finds: its counts and where it ends, where it was read so; else nothing has changed.
-#[derive(Clone, Copy)]
-pub(crate) enum Once {
-    Read { counts: Counts, used: usize },
-    Left,
+pub(crate) struct Halt {
+    pub refusal: Refusal,
+    pub cursor: Cursor,
 }

@@ -1,59 +1,29 @@
 // A pair, read from the front of some bytes, or at a place of them.
-ghost use Rattle.std.specs.Prelude.{◌≡◌, ℕ, ◌+◌, ◌≤◌, ◌<◌, ◌^◌, length};
+ghost use Rattle.std.specs.Prelude.{◌≡◌, ◌+◌, ◌≤◌, ◌<◌, ◌^◌, length};
+ghost use Rattle.answer.specs.Writes.{read_said};
 ghost use Rattle.types.specs.Value.{moved as moved_record};
-ghost use Rattle.types.specs.Promise.{record_of, string_said};
-ghost use Rattle.answer.specs.Answer.{refused};
+ghost use Rattle.types.specs.Promise.{record_of};
 ghost use Rattle.payload.specs.Pair.{moved_pair, pair_from};
-ghost use Rattle.payload.specs.Promise.{pair_said, ReadPair, PairFrom};
+ghost use Rattle.payload.specs.Promise.{ReadPair, PairFrom};
 
-use crate::PairRead;
-use answer::{Refusal, TOO_SOON};
+use answer::{Read, Reason, Refusal};
 use frame::Pair;
-use types::{StringRead, Value, ValueRead};
+use types::Value;
 
 // Reads the pair at the front of `input`: its key, and its value behind that. Starts count from the input's first byte.
-pub fn read_pair(input: &[u8]) -> PairRead
+pub fn read_pair(input: &[u8]) -> Result<Read<Pair>, Refusal>
     ensures { ReadPair input.now result }
 {
-    let key = types::read_string(input);
-    let StringRead::Done { start, len, used } = key else {
-        return key_refused(key);
-    };
-    match types::typed_data(&input[used..]) {
-        ValueRead::Refused(r) => {
-            return PairRead::Refused(Refusal {
-                number: r.number,
-                place: used + r.place,
-            });
+    let Read { value: key, used } = types::read_string(input)?;
+    let value = answer::behind(types::typed_data(&input[used..]), used)?;
+    Ok(Read {
+        value: Pair {
+            start: key.start as u64,
+            len: key.len as u64,
+            value: moved_value(value.value, used as u64),
         },
-        ValueRead::Done { value, used: n } => {
-            return PairRead::Done {
-                pair: Pair {
-                    start: start as u64,
-                    len: len as u64,
-                    value: moved_value(value, used as u64),
-                },
-                used: used + n,
-            };
-        },
-    }
-}
-
-// The refusal of a key; 0 at 0 of one that was read, which is not asked.
-fn key_refused(key: StringRead) -> PairRead
-    ensures { (number place : ℕ) → string_said key ≡ refused number place → pair_said result ≡ refused number place }
-{
-    match key {
-        StringRead::Refused(r) => PairRead::Refused(r),
-        StringRead::Done {
-            start: _,
-            len: _,
-            used: _,
-        } => PairRead::Refused(Refusal {
-            number: 0,
-            place: 0,
-        }),
-    }
+        used: value.used,
+    })
 }
 
 // A value that was read behind n other bytes: where it points, its start moves.
@@ -69,10 +39,8 @@ fn moved_value(value: Value, n: u64) -> Value
         return value;
     }
     Value {
-        kind,
         a: n + value.a,
-        b: value.b,
-        flags: value.flags,
+        ..value
     }
 }
 
@@ -89,35 +57,23 @@ pub(crate) fn moved_pair(pair: Pair, n: u64) -> Pair
 }
 
 // Reads the pair that stands at `at`, which lies in the bytes. Starts count from the input's first byte.
-pub(crate) fn pair_at(input: &[u8], at: usize) -> PairRead
+pub(crate) fn pair_at(input: &[u8], at: usize) -> Result<Read<Pair>, Refusal>
     requires { at ≤ length input.now }
-    ensures { pair_said result ≡ pair_from at input.now }
+    ensures { read_said result ≡ pair_from at input.now }
 {
-    match read_pair(&input[at..]) {
-        PairRead::Refused(r) => {
-            return PairRead::Refused(Refusal {
-                number: r.number,
-                place: at + r.place,
-            });
-        },
-        PairRead::Done { pair, used } => {
-            return PairRead::Done {
-                pair: moved_pair(pair, at as u64),
-                used: at + used,
-            };
-        },
-    }
+    let Read { value: pair, used } = answer::behind(read_pair(&input[at..]), at)?;
+    Ok(Read {
+        value: moved_pair(pair, at as u64),
+        used,
+    })
 }
 
 // The same for every place: behind the bytes they have ended too soon.
-pub fn pair_from(input: &[u8], at: usize) -> PairRead
+pub fn pair_from(input: &[u8], at: usize) -> Result<Read<Pair>, Refusal>
     ensures { PairFrom input.now at result }
 {
     if input.len() < at {
-        return PairRead::Refused(Refusal {
-            number: TOO_SOON,
-            place: at,
-        });
+        return Err(Reason::TooSoon.at(at));
     }
     pair_at(input, at)
 }

@@ -1,13 +1,14 @@
 // A payload of any kind, from where it starts to its end.
 ghost use Rattle.std.specs.Prelude.{◌≡◌, ◌≤◌, length};
-ghost use Rattle.payload.specs.Promise.{payload_said, LookPayload, ReadPayload};
+ghost use Rattle.answer.specs.Writes.{read_said};
+ghost use Rattle.payload.specs.Promise.{LookPayload, ReadPayload};
 ghost use Rattle.payload.specs.Inner.{passed_said};
 
 use crate::fill::fill;
 use crate::look::look;
 use crate::take::read_once;
-use crate::{Counts, Once, Passed, Payload, PayloadRead};
-use answer::{Refusal, TOO_SOON};
+use crate::{Counts, Cursor, Halt, Payload};
+use answer::{Read, Reason, Refusal};
 use frame::{ACTION_WIDTH, MESSAGE_WIDTH, PAIR_WIDTH};
 
 // The bytes of a payload that is tried in one pass. An upload and its answer have about half of them; what has more is read twice at once, and not
@@ -15,39 +16,34 @@ use frame::{ACTION_WIDTH, MESSAGE_WIDTH, PAIR_WIDTH};
 const SMALL: usize = 128;
 
 // What a pass comes to, as the reader's answer.
-fn answered(passed: Passed) -> PayloadRead
-    ensures { payload_said result ≡ passed_said passed }
+fn answered(passed: Result<Cursor, Halt>) -> Result<Read<Counts>, Refusal>
+    ensures { read_said result ≡ passed_said passed }
 {
     match passed {
-        Passed::Done(x) => PayloadRead::Done {
-            counts: Counts {
+        Ok(x) => Ok(Read {
+            value: Counts {
                 messages: x.messages,
                 pairs: x.pairs,
                 actions: x.actions,
             },
             used: x.at,
-        },
-        Passed::Refused { refusal, cursor: _ } => PayloadRead::Refused(refusal),
+        }),
+        Err(halt) => Err(halt.refusal),
     }
-}
-
-// A payload that starts behind the bytes: they end too soon.
-fn behind_end(end: usize) -> PayloadRead
-    ensures { result ≡ PayloadRead.Refused (record { number = 3; place = end }) }
-{
-    PayloadRead::Refused(Refusal {
-        number: TOO_SOON,
-        place: end,
-    })
 }
 
 // What reading the payload that starts at `start` comes to, with tables of such rooms. It writes nothing. Each kind has its own copy of the pass, so
 // that it does not ask at each record which kind it is.
-pub fn look_payload(input: &[u8], start: usize, kind: Payload, rooms: Counts) -> PayloadRead
+pub fn look_payload(
+    input: &[u8],
+    start: usize,
+    kind: Payload,
+    rooms: Counts,
+) -> Result<Read<Counts>, Refusal>
     ensures { LookPayload kind start input.now rooms result }
 {
     if input.len() < start {
-        return behind_end(input.len());
+        return Err(Reason::TooSoon.at(input.len()));
     }
     match kind {
         Payload::KvList => answered(look(input, start, Payload::KvList, rooms)),
@@ -64,7 +60,7 @@ fn look_and_fill(
     messages: &mut [u64],
     pairs: &mut [u64],
     actions: &mut [u64],
-) -> PayloadRead
+) -> Result<Read<Counts>, Refusal>
     requires { start ≤ length input.now }
     ensures { ReadPayload kind start input.now result messages.old messages.new pairs.old pairs.new actions.old actions.new }
 {
@@ -74,18 +70,10 @@ fn look_and_fill(
         actions: actions.len() / ACTION_WIDTH,
     };
     let passed = look(input, start, kind, rooms);
-    match passed {
-        Passed::Refused {
-            refusal: _,
-            cursor: _,
-        } => {
-            return answered(passed);
-        },
-        Passed::Done(_) => {
-            fill(input, start, kind, messages, pairs, actions);
-            return answered(passed);
-        },
+    if passed.is_ok() {
+        fill(input, start, kind, messages, pairs, actions);
     }
+    answered(passed)
 }
 
 // The same in one pass where it is small.
@@ -96,7 +84,7 @@ fn read_within(
     messages: &mut [u64],
     pairs: &mut [u64],
     actions: &mut [u64],
-) -> PayloadRead
+) -> Result<Read<Counts>, Refusal>
     requires { start ≤ length input.now }
     ensures { ReadPayload kind start input.now result messages.old messages.new pairs.old pairs.new actions.old actions.new }
 {
@@ -104,12 +92,8 @@ fn read_within(
         return look_and_fill(input, start, kind, messages, pairs, actions);
     }
     match read_once(input, start, kind, messages, pairs, actions) {
-        Once::Read { counts, used } => {
-            return PayloadRead::Done { counts, used };
-        },
-        Once::Left => {
-            return look_and_fill(input, start, kind, messages, pairs, actions);
-        },
+        Some(read) => Ok(read),
+        None => look_and_fill(input, start, kind, messages, pairs, actions),
     }
 }
 
@@ -121,11 +105,11 @@ pub fn read_payload(
     messages: &mut [u64],
     pairs: &mut [u64],
     actions: &mut [u64],
-) -> PayloadRead
+) -> Result<Read<Counts>, Refusal>
     ensures { ReadPayload kind start input.now result messages.old messages.new pairs.old pairs.new actions.old actions.new }
 {
     if input.len() < start {
-        return behind_end(input.len());
+        return Err(Reason::TooSoon.at(input.len()));
     }
     match kind {
         Payload::KvList => read_within(input, start, Payload::KvList, messages, pairs, actions),

@@ -7,10 +7,12 @@ ghost use Rattle.payload.specs.Inner.{Passes, LeavesAccepted, ReadsOnce};
 use crate::fill::store;
 use crate::look::{begin, tested};
 use crate::next::item;
-use crate::{Counts, Once, Passed, Payload, Step};
+use crate::{Counts, Cursor, Halt, Payload};
+use answer::Read;
 use frame::{ACTION_WIDTH, MESSAGE_WIDTH, PAIR_WIDTH};
 
-// Reads a payload and fills the tables on the way. What a refusal leaves in them is not said.
+// Reads a payload and fills the tables on the way. What a refusal leaves in them is not said. It is `look` with a store in each step; one loop for
+// both would take the store as a closure, with an invariant of what that left in three tables, and be no shorter.
 fn take(
     input: &[u8],
     start: usize,
@@ -18,7 +20,7 @@ fn take(
     messages: &mut [u64],
     pairs: &mut [u64],
     actions: &mut [u64],
-) -> Passed
+) -> Result<Cursor, Halt>
     requires { start ≤ length input.now }
     ensures passes { Passes kind (rooms_of messages.old pairs.old actions.old) start input.now result }
     ensures leaves_accepted { LeavesAccepted kind start input.now messages.old messages.new pairs.old pairs.new actions.old actions.new }
@@ -30,18 +32,17 @@ fn take(
     };
     let mut x = begin(start);
     loop {
-        let next = item(input, kind, x);
+        let next = match item(input, kind, x) {
+            Ok(Some(next)) => next,
+            Ok(None) => return Ok(x),
+            Err(refusal) => return Err(Halt { refusal, cursor: x }),
+        };
         match tested(input, start, rooms, x, next) {
-            Step::On(y) => {
+            Ok(y) => {
                 store(next, x, messages, pairs, actions);
                 x = y;
             },
-            Step::End => {
-                return Passed::Done(x);
-            },
-            Step::Refused(refusal) => {
-                return Passed::Refused { refusal, cursor: x };
-            },
+            Err(refusal) => return Err(Halt { refusal, cursor: x }),
         }
     }
 }
@@ -54,7 +55,7 @@ pub(crate) fn read_once(
     messages: &mut [u64],
     pairs: &mut [u64],
     actions: &mut [u64],
-) -> Once
+) -> Option<Read<Counts>>
     requires { start ≤ length input.now }
     ensures { ReadsOnce kind start input.now result messages.old messages.new pairs.old pairs.new actions.old actions.new }
 {
@@ -70,17 +71,17 @@ pub(crate) fn read_once(
         &mut own_pairs,
         &mut own_actions,
     );
-    let Passed::Done(x) = found else {
-        return Once::Left;
+    let Ok(x) = found else {
+        return None;
     };
     if messages.len() / MESSAGE_WIDTH < x.messages {
-        return Once::Left;
+        return None;
     }
     if pairs.len() / PAIR_WIDTH < x.pairs {
-        return Once::Left;
+        return None;
     }
     if actions.len() / ACTION_WIDTH < x.actions {
-        return Once::Left;
+        return None;
     }
     let message_numbers = x.messages * MESSAGE_WIDTH;
     let pair_numbers = x.pairs * PAIR_WIDTH;
@@ -88,12 +89,12 @@ pub(crate) fn read_once(
     let _ = frame::put(&own_messages[..message_numbers], messages);
     let _ = frame::put(&own_pairs[..pair_numbers], pairs);
     let _ = frame::put(&own_actions[..action_numbers], actions);
-    Once::Read {
-        counts: Counts {
+    Some(Read {
+        value: Counts {
             messages: x.messages,
             pairs: x.pairs,
             actions: x.actions,
         },
         used: x.at,
-    }
+    })
 }

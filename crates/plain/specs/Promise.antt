@@ -1,14 +1,14 @@
 -- Key comparison the plain way: both lossy texts in two lent buffers, and whether they have the same bytes.
-use Rattle.std.specs.Prelude.{◌≡◌, Bool, cond, ◌&&◌, List, ℕ, leb, length}
+use Rattle.std.specs.Prelude.{◌≡◌, Bool, cond, ◌&&◌, List, ℕ, leb, length, Result, Ok, Err}
+use Rattle.answer.specs.declared.Refusal.{Refusal}
 use Rattle.answer.specs.Answer.{Answer, done, refused, written, leaves}
+use Rattle.answer.specs.Writes.{refusal_said}
 use Rattle.utf8.specs.Text.{lossy, same_bytes}
-use Rattle.plain.specs.declared.Compared.{Compared}
-use Rattle.plain.specs.declared.Compared.TheVariants as c
 
 -- what the call's answer says
-abbrev pub compared : Compared → Answer Bool
-compared (c.Done x) = done x 0
-compared (c.Refused r) = refused r.number r.place
+abbrev pub compared : Result Bool Refusal → Answer Bool
+compared (Ok x) = done x 0
+compared (Err r) = refusal_said r
 
 -- Of two keys, and of two buffers as they were lent.
 module _ (a b a_old b_old : List ℕ) where
@@ -26,6 +26,6 @@ pub record TextsLeft (a b a_old a_new b_old b_new : List ℕ) : Type 0 where
   pub second : b_new ≡ leaves (fitting a b a_old b_old (written (lossy b))) b_old
 
 -- `same_text_plain` compares them, and leaves them in the buffers.
-pub record SameTextPlain (a b : List ℕ) (r : Compared) (a_old a_new b_old b_new : List ℕ) : Type 0 where
+pub record SameTextPlain (a b : List ℕ) (r : Result Bool Refusal) (a_old a_new b_old b_new : List ℕ) : Type 0 where
   pub says : compared r ≡ comparison a b a_old b_old
   pub texts : TextsLeft a b a_old a_new b_old b_new

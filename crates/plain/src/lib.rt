@@ -7,44 +7,23 @@
 
 ghost use Rattle.plain.specs.Promise.{SameTextPlain};
 
-use answer::{NO_ROOM, Refusal, Written};
-
-// Whether the texts are the same, or why they were not compared.
-#[derive(Clone, Copy)]
-pub enum Compared {
-    Done(bool),
-    Refused(Refusal),
-}
-
-const FULL: Refusal = Refusal {
-    number: NO_ROOM,
-    place: 0,
-};
+use answer::{Reason, Refusal};
 
 // Writes the lossy text of `a` at the front of `a_text` and that of `b` at the front of `b_text`, and compares them.
-pub fn same_text_plain(a: &[u8], b: &[u8], a_text: &mut [u8], b_text: &mut [u8]) -> Compared
+pub fn same_text_plain(
+    a: &[u8],
+    b: &[u8],
+    a_text: &mut [u8],
+    b_text: &mut [u8],
+) -> Result<bool, Refusal>
     ensures { SameTextPlain a.now b.now result a_text.old a_text.new b_text.old b_text.new }
 {
     // The first text is only measured until the second is written: so a refusal of either finds both buffers as they were.
     if !utf8::has_room(a, a_text.len()) {
-        return Compared::Refused(FULL);
+        return Err(Reason::NoRoom.at(0));
     }
-    let Written::Done(b_len) = utf8::lossy_text(b, b_text) else {
-        return Compared::Refused(FULL);
-    };
+    let b_len = utf8::lossy_text(b, b_text)?;
     // It was measured, so it is not refused.
-    let Written::Done(a_len) = utf8::lossy_text(a, a_text) else {
-        return Compared::Refused(FULL);
-    };
-    if a_len != b_len {
-        return Compared::Done(false);
-    }
-    let mut i = 0;
-    while i < a_len {
-        if a_text[i] != b_text[i] {
-            return Compared::Done(false);
-        }
-        i += 1;
-    }
-    Compared::Done(true)
+    let a_len = utf8::lossy_text(a, a_text)?;
+    Ok(a_text[..a_len] == b_text[..b_len])
 }

@@ -1,5 +1,4 @@
--- Laws about filling the tables step by step, about finding the payload of a frame, and about a table that is lent on and comes back.
+-- Laws about filling the tables step by step, about finding the payload of a frame, and about what the call gives.
 pub mod Meeting
 pub mod Finding
-pub mod Again
 pub mod Unique

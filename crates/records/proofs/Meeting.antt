@@ -1,18 +1,14 @@
 -- Laws about filling the tables step by step, of a payload that is accepted: what comes next is a message, for which there is room, or a pair, and at the end all
 -- is filled in.
 use mathlib.Core.Path.{◌≡◌, refl, sym, ap, ◌∙◌}
-use mathlib.Core.Bool.{true, false}
-use mathlib.Core.List.{List, [], ◌∷◌, ◌++◌, append-nil}
-use Prim.Native.Nat.{ℕ, ◌+◌, ◌-◌, ◌*◌, ◌/◌, ◌≤◌, ◌<◌}
+use mathlib.Core.List.{List, [], ◌∷◌, ◌++◌}
+use Prim.Native.Nat.{ℕ, suc, ◌*◌, ◌/◌, ◌<◌}
 use native.Mathlib.Omega.{arith}
-use lib.ListN.{length, take, drop, length-append, length-drop, drop_of_length-le}
-use lib.Seq.{length-take-le}
-use borrow.Rule.Slice.PartMut.{put_mid}
-use Rattle.answer.specs.declared.Refusal.{Refusal}
-use Rattle.answer.specs.Answer.{done, written, leaves}
+use lib.ListN.{length, drop, set, get_or, length-append}
+use lib.Seq.{drop-cons, set-append_seam}
+use Rattle.answer.specs.Answer.{Answer, refused}
 use Rattle.answer.specs.Table.{joined}
-use Rattle.answer.proofs.Cases.{true_false, not_both}
-use Rattle.answer.proofs.Output.{lent_tail_lem, leaves_length}
+use Rattle.answer.proofs.Cases.{not_both}
 use Rattle.frame.specs.declared.Pair.{Pair}
 use Rattle.frame.specs.declared.Message.{Message}
 use Rattle.frame.specs.declared.Action.{Action}
@@ -21,138 +17,129 @@ use Rattle.payload.specs.declared.Counts.{Counts}
 use Rattle.payload.specs.declared.Cursor.{Cursor}
 use Rattle.payload.specs.declared.Item.{Item}
 use Rattle.payload.specs.declared.Item.TheVariants as i
-use Rattle.payload.specs.Payload.{empty}
-use Rattle.payload.specs.Item.{item_at}
-use Rattle.payload.specs.Inner.{began, after_item, follows, tests, Stands, Goes, put_at, Accepted}
+use Rattle.payload.specs.declared.Payload.{Payload}
+use Rattle.payload.specs.Payload.{Contents, empty, payload}
+use Rattle.payload.specs.Item.{one, no_more, item_at}
+use Rattle.payload.specs.Inner.{began, after_item, Stands, put_at, Accepted}
 use Rattle.payload.proofs.Accepted.{payload_start}
-use Rattle.payload.proofs.Passing.{with_item, goes_start, stands_start, goes_then, Then}
+use Rattle.payload.proofs.Passing.{Goes, with_item, goes_start, stands_start, then_on, then_end, then_not}
 use Rattle.payload.proofs.Filling.{joined_width, Filled, filled_none, filled_more, filled_length, Roomy, by_tests}
-use Rattle.records.specs.declared.Area.{Area}
-use Rattle.records.specs.declared.Given.{Given}
 use Rattle.records.specs.Promise.{FillsRecords}
-use Rattle.records.specs.Inner.{rooms_in, held, Meets, NextPair}
+
+-- the rooms of a table of messages of such a length, and of one of so many pairs
+abbrev pub rooms_in : ℕ → ℕ → Counts
+rooms_in messages pairs = record { messages = messages / message_width; pairs = pairs; actions = 0 }
+
+-- what the payload comes to that starts there, with a table of messages and room for so many pairs
+abbrev pub held : List ℕ → Payload → ℕ → List ℕ → ℕ → Answer Contents
+held s kind start table n = payload kind (rooms_in (length table) n) start s
+
+-- How far the filling of a payload is that is accepted: these pairs were met, the messages that were met stand in their table, which was old, and what is left
+-- comes to what the payload does.
+pub record Meets (s : List ℕ) (kind : Payload) (start : ℕ) (old : List ℕ) (n : ℕ) (x : Cursor) (table : List ℕ) (ps : List Pair) : Type 0 where
+  pub met : Contents
+  pub are : met.pairs ≡ ps
+  pub stands : Stands kind start s x met
+  pub goes : Goes kind (rooms_in (length old) n) s x met (held s kind start old n)
+  pub messages : Filled message_numbers old met.messages table
+  pub accepted : Accepted kind (rooms_in (length old) n) start s
 
 -- ---- where it begins
 
-pub meets_start : (s : List ℕ) (area : Area) (start : ℕ) (old : List ℕ) (n : ℕ) → Accepted area.kind (rooms_in (length old) n) start (take area.end s)
-    → Meets s area start old n (began start) old []
-meets_start s area start old n ok =
-    let f = take area.end s in
-    let there = (payload_start area.kind (rooms_in (length old) n) start f ok.contents ok.end ok.is).0 in
-    let none = filled_none message_numbers old in
+pub meets_start : (s : List ℕ) (kind : Payload) (start : ℕ) (old : List ℕ) (n : ℕ) → Accepted kind (rooms_in (length old) n) start s → Meets s kind start old n (began start) old []
+meets_start s kind start old n ok =
+    let there = (payload_start kind (rooms_in (length old) n) start s ok.contents ok.end ok.is).0 in
     record {
       met = empty;
       are = refl;
-      stands = stands_start area.kind start f there;
-      goes = goes_start area.kind start f there (rooms_in (length old) n);
-      room = none.room;
-      holds = none.holds;
+      stands = stands_start kind start s there;
+      goes = goes_start kind start s there (rooms_in (length old) n);
+      messages = filled_none message_numbers old;
       accepted = ok;
     }
 
 -- ---- how it goes on
 
-module _ {s : List ℕ} {area : Area} {start : ℕ} {old : List ℕ} {n : ℕ} {x : Cursor} {table : List ℕ} {ps : List Pair} (m : Meets s area start old n x table ps) where
+module _ {s : List ℕ} {kind : Payload} {start : ℕ} {old : List ℕ} {n : ℕ} {x : Cursor} {table : List ℕ} {ps : List Pair} (m : Meets s kind start old n x table ps) where
   abbrev rooms : Counts
   rooms = rooms_in (length old) n
 
-  abbrev f : List ℕ
-  f = take area.end s
-
-  then_of : (item : Item) → item ≡ item_at area.kind f x → Then m.stands m.goes item (tests rooms f x m.met item)
-  then_of item is = rw is (goes_then m.stands m.goes)
-
   -- a record that comes next has room, and is met
-  on : (item : Item) → item ≡ item_at area.kind f x → follows item ≡ true
-      → Roomy rooms x item × Stands area.kind start f (after_item x item) (with_item m.met item) × Goes area.kind rooms f (after_item x item) (with_item m.met item) (held s area start old n)
-  on item is t =
-      by_tests rooms f x m.met item t
-      (λ e r. (r, (rw e at (then_of item is)).2, (rw e at (then_of item is)).3))
-      (λ k place e. not_both m.accepted.is (rw e at (then_of item is)))
-
-  in_messages_lem : Filled message_numbers old m.met.messages table
-  in_messages_lem = record { room = m.room; holds = m.holds }
+  on : (item : Item) → one item ≡ item_at kind s x
+      → Roomy rooms x item × (x.at < (after_item x item).at) × Stands kind start s (after_item x item) (with_item m.met item) × Goes kind rooms s (after_item x item) (with_item m.met item) (held s kind start old n)
+  on item is =
+      by_tests rooms s x m.met item
+      (λ e r. let t = then_on m.stands m.goes item is (sym e) in (r, t.1, t.2, t.3))
+      (λ k place e. not_both m.accepted.is (then_on m.stands m.goes item is (sym e)))
 
   pub meets_length : length table ≡ length old
-  meets_length = filled_length in_messages_lem
+  meets_length = filled_length m.messages
 
   -- so many pairs were met
   pub meets_many : length ps ≡ x.pairs
   meets_many = ap length (sym m.are) ∙ m.stands.pairs
 
   -- a pair
-  pub meets_pair : (p : Pair) (end : ℕ) → i.Pair p end ≡ item_at area.kind f x → (length ps < n) × Meets s area start old n (after_item x (i.Pair p end)) table (ps ++ (p ∷ []))
+  pub meets_pair : (p : Pair) (end : ℕ) → one (i.Pair p end) ≡ item_at kind s x
+      → (length ps < n) × (x.at < end) × Meets s kind start old n (after_item x (i.Pair p end)) table (ps ++ (p ∷ []))
   meets_pair p end is =
-      let o = on (i.Pair p end) is refl in (
+      let o = on (i.Pair p end) is in (
         omega (arith, o.0, meets_many),
+        o.1,
         record {
           met = with_item m.met (i.Pair p end);
           are = ap (λ (qs : List Pair). qs ++ (p ∷ [])) m.are;
-          stands = o.1;
-          goes = o.2;
-          room = m.room;
-          holds = m.holds;
+          stands = o.2;
+          goes = o.3;
+          messages = m.messages;
           accepted = m.accepted;
         },
       )
 
   -- a message
-  module _ (y : Message) (end : ℕ) (is : i.Message y end ≡ item_at area.kind f x) where
+  module _ (y : Message) (end : ℕ) (is : one (i.Message y end) ≡ item_at kind s x) where
     pub meets_room : x.messages < length table / message_width
-    meets_room = omega (arith, (on (i.Message y end) is refl).0, meets_length)
+    meets_room = omega (arith, (on (i.Message y end) is).0, meets_length)
 
-    pub meets_message : Meets s area start old n (after_item x (i.Message y end)) (put_at (x.messages * message_width) (message_numbers y) table) ps
+    pub meets_message : (x.at < end) × Meets s kind start old n (after_item x (i.Message y end)) (put_at (x.messages * message_width) (message_numbers y) table) ps
     meets_message =
-        let o = on (i.Message y end) is refl in
-        let many : length (joined message_numbers m.met.messages) ≡ x.messages * message_width = joined_width message_numbers message_width (λ z. refl) m.met.messages ∙ ap (λ (k : ℕ). k * message_width) m.stands.messages in
-        let w = filled_more in_messages_lem y (x.messages * message_width) many (omega (arith, o.0)) in
-        record {
-          met = with_item m.met (i.Message y end);
-          are = m.are;
-          stands = o.1;
-          goes = o.2;
-          room = w.room;
-          holds = w.holds;
-          accepted = m.accepted;
-        }
+        let o = on (i.Message y end) is in
+        let many : length (joined message_numbers m.met.messages) ≡ x.messages * message_width = joined_width message_numbers message_width (λ z. refl) m.met.messages ∙ ap (λ (k : ℕ). k * message_width) m.stands.messages in (
+          o.1,
+          record {
+            met = with_item m.met (i.Message y end);
+            are = m.are;
+            stands = o.2;
+            goes = o.3;
+            messages = filled_more m.messages y (x.messages * message_width) many (omega (arith, o.0));
+            accepted = m.accepted;
+          },
+        )
 
   -- no action, and no refusal
-  pub meets_action : {G : Type 0} (a : Action) (end : ℕ) → i.Action a end ≡ item_at area.kind f x → G
-  meets_action a end is = absurd (omega (arith, (on (i.Action a end) is refl).0))
+  pub meets_action : {G : Type 0} (a : Action) (end : ℕ) → one (i.Action a end) ≡ item_at kind s x → G
+  meets_action a end is = absurd (omega (arith, (on (i.Action a end) is).0))
 
-  pub meets_refusal : {G : Type 0} (q : Refusal) → i.Refused q ≡ item_at area.kind f x → G
-  unfolding tests
-  meets_refusal q is = not_both m.accepted.is (then_of (i.Refused q) is)
+  pub meets_refusal : {G : Type 0} (number place : ℕ) → refused number place ≡ item_at kind s x → G
+  meets_refusal number place is = not_both m.accepted.is (then_not m.stands m.goes number place is)
 
   -- the end
-  pub meets_end : i.End ≡ item_at area.kind f x → (old_pairs : List Pair) → FillsRecords (held s area start old n) old table old_pairs (ps ++ drop (length ps) old_pairs)
-  unfolding tests
+  pub meets_end : no_more ≡ item_at kind s x → (old_pairs : List Pair) → FillsRecords (held s kind start old n) old table old_pairs (ps ++ drop (length ps) old_pairs)
   meets_end is old_pairs =
-      let all : held s area start old n ≡ done m.met x.at = then_of i.End is in
-      rw all (record { messages = m.holds; pairs = ap (λ (qs : List Pair). qs ++ drop (length qs) old_pairs) (sym m.are) })
+      rw (then_end m.stands m.goes is) (record { messages = m.messages.holds; pairs = ap (λ (qs : List Pair). qs ++ drop (length qs) old_pairs) (sym m.are) })
 
--- ---- what is put behind the messages that were met
+-- ---- the table of pairs
 
--- what is written to the tail of a table is put there
-pub put_tail : (n : ℕ) (numbers table tail : List ℕ) → tail ≡ leaves (written numbers) (take (length table - n) (drop n table))
-    → put_mid n (length table - n) table tail ≡ put_at n numbers table
-put_tail n numbers table tail e =
-    ap (λ (l : List ℕ). take n table ++ (tail ++ l)) (drop_of_length-le (drop n table) {i = length table - n} (omega (arith, length-drop n table)))
-    ∙ ap (λ (l : List ℕ). take n table ++ l) (append-nil tail ∙ e ∙ ap (leaves (written numbers)) (lent_tail_lem n table))
+append_snoc : (xs : List Pair) (y : Pair) (l : List Pair) → (xs ++ (y ∷ [])) ++ l ≡ xs ++ y ∷ l
+append_snoc [] y l = refl
+append_snoc (x ∷ xs) y l = ap (λ (k : List Pair). x ∷ k) (append_snoc xs y l)
 
-module _ (n width : ℕ) (table : List ℕ) (h : n + width ≤ length table) where
-  -- there is room in it
-  pub tail_room : width ≤ length (take (length table - n) (drop n table))
-  tail_room = rw (lent_tail_lem n table) (omega (arith, length-drop n table))
-
-  pub put_length : (numbers : List ℕ) → length numbers ≡ width → length (put_at n numbers table) ≡ length table
-  put_length numbers l =
-      length-append (take n table) (leaves (written numbers) (drop n table))
-      ∙ omega (arith, length-take-le n table (omega arith), leaves_length numbers (drop n table) (omega (arith, length-drop n table, l)), length-drop n table)
-
--- ---- where there is no pair
-
-pub next_none : {s : List ℕ} {area : Area} {x : Cursor} {table new : List ℕ} (r : Given) → r.some ≡ false
-    → ((start : ℕ) (old : List ℕ) (n : ℕ) (ps : List Pair) → Meets s area start old n x table ps → (old_pairs : List Pair) → FillsRecords (held s area start old n) old new old_pairs (ps ++ drop (length ps) old_pairs))
-    → NextPair s area x r table new
-next_none r e all = record { gives = λ t. true_false t e; ends = λ t. all }
+-- the record at the seam of what is stored and what is not is set
+pub stored : (zs ys : List Pair) (i : ℕ) (p : Pair) → length zs ≡ i → i < length ys → set (zs ++ drop (length zs) ys) i p ≡ (zs ++ (p ∷ [])) ++ drop (length (zs ++ (p ∷ []))) ys
+stored zs ys i p e h =
+    ap (λ (k : ℕ). set (zs ++ drop k ys) i p) e
+    ∙ ap (λ (l : List Pair). set (zs ++ l) i p) (drop-cons ys i p h)
+    ∙ ap (λ (k : ℕ). set (zs ++ get_or ys i p ∷ drop (suc i) ys) k p) (sym e)
+    ∙ set-append_seam zs (get_or ys i p) (drop (suc i) ys) p
+    ∙ ap (λ (k : ℕ). zs ++ p ∷ drop k ys) {x = suc i} {y = length (zs ++ (p ∷ []))} (omega (arith, length-append zs (p ∷ []), e))
+    ∙ sym (append_snoc zs p (drop (length (zs ++ (p ∷ []))) ys))

@@ -14,13 +14,16 @@ use Rattle.payload.specs.declared.Counts.{Counts}
 use Rattle.payload.specs.Payload.{Contents}
 use Rattle.payload.specs.Promise.{rooms_of}
 use Rattle.payload.proofs.Filling.{joined_width}
-use Rattle.parser.specs.declared.FrameRead.{FrameRead}
+use Rattle.std.specs.Prelude.{Result}
+use Rattle.answer.specs.declared.Read.{Read}
+use Rattle.frame.specs.declared.Stop.{Stop}
+use Rattle.parser.specs.declared.Frame.{Frame}
 use Rattle.parser.specs.Frame.{frame_read}
 use Rattle.parser.specs.Promise.{contents_read, frame_tells, ReadFrame}
 use Rattle.parser.proofs.Unique.{frame_same}
 use Rattle.records.specs.Promise.{rooms_for, records_left, ReadFrameRecords}
 
-pub read_frame_records_unique : (input : List ℕ) (limit : ℕ) (r q : FrameRead) (old_messages new_messages other_messages : List ℕ) (old_pairs new_pairs other_pairs : List Pair)
+pub read_frame_records_unique : (input : List ℕ) (limit : ℕ) (r q : Result (Read Frame) Stop) (old_messages new_messages other_messages : List ℕ) (old_pairs new_pairs other_pairs : List Pair)
     → ReadFrameRecords input limit r old_messages new_messages old_pairs new_pairs → ReadFrameRecords input limit q old_messages other_messages old_pairs other_pairs
     → (r ≡ q) × (new_messages ≡ other_messages) × (new_pairs ≡ other_pairs)
 read_frame_records_unique input limit r q old_messages new_messages other_messages old_pairs new_pairs other_pairs p s =
@@ -54,7 +57,7 @@ left_same (done c used) old =
 
 -- Law: the records are read as their numbers are. With a table that has the numbers of each record one behind the other, `read_frame` gives the
 -- same answer and the same messages, and leaves the numbers of the records that are left here.
-pub records_as_numbers : (input : List ℕ) (limit : ℕ) (r q : FrameRead) (old_messages new_messages other_messages : List ℕ) (old_pairs new_pairs : List Pair) (numbers : List ℕ)
+pub records_as_numbers : (input : List ℕ) (limit : ℕ) (r q : Result (Read Frame) Stop) (old_messages new_messages other_messages : List ℕ) (old_pairs new_pairs : List Pair) (numbers : List ℕ)
     → ReadFrameRecords input limit r old_messages new_messages old_pairs new_pairs → ReadFrame input limit q old_messages other_messages (joined pair_numbers old_pairs) numbers
     → (r ≡ q) × (new_messages ≡ other_messages) × (numbers ≡ joined pair_numbers new_pairs)
 records_as_numbers input limit r q old_messages new_messages other_messages old_pairs new_pairs numbers p s =

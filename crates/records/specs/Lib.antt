@@ -1,3 +1,2 @@
--- What the call promises, and what only private contracts cite.
+-- What the call promises.
 pub mod Promise
-pub mod Inner

@@ -1,13 +1,15 @@
 -- What the call promises.
-use Rattle.std.specs.Prelude.{◌≡◌, List, ◌++◌, ℕ, ◌/◌, length, drop}
+use Rattle.std.specs.Prelude.{◌≡◌, List, ◌++◌, ℕ, ◌/◌, length, drop, Result}
+use Rattle.answer.specs.declared.Read.{Read}
 use Rattle.answer.specs.Answer.{Answer, done, refused}
 use Rattle.frame.specs.declared.Pair.{Pair}
 use Rattle.frame.specs.declared.Side.TheVariants as side
+use Rattle.frame.specs.declared.Stop.{Stop}
 use Rattle.frame.specs.Records.{message_width, message_numbers}
 use Rattle.payload.specs.declared.Counts.{Counts}
 use Rattle.payload.specs.Payload.{Contents}
 use Rattle.payload.specs.Promise.{table_left}
-use Rattle.parser.specs.declared.FrameRead.{FrameRead}
+use Rattle.parser.specs.declared.Frame.{Frame}
 use Rattle.parser.specs.Frame.{frame_read}
 use Rattle.parser.specs.Promise.{frame_said, frame_tells, contents_read}
 
@@ -26,6 +28,6 @@ pub record FillsRecords (a : Answer Contents) (old_messages new_messages : List 
   pub pairs : new_pairs ≡ records_left a old_pairs
 
 -- `read_frame_records` says what the frame reader says with room for as many, and leaves the records.
-pub record ReadFrameRecords (input : List ℕ) (limit : ℕ) (r : FrameRead) (old_messages new_messages : List ℕ) (old_pairs new_pairs : List Pair) : Type 0 where
+pub record ReadFrameRecords (input : List ℕ) (limit : ℕ) (r : Result (Read Frame) Stop) (old_messages new_messages : List ℕ) (old_pairs new_pairs : List Pair) : Type 0 where
   pub says : frame_said r ≡ frame_tells (frame_read side.HAProxy limit (rooms_for old_messages old_pairs) input)
   pub fills : FillsRecords (contents_read (frame_read side.HAProxy limit (rooms_for old_messages old_pairs) input)) old_messages new_messages old_pairs new_pairs

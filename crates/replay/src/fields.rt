@@ -1,163 +1,178 @@
-// The fields of a line.
-ghost use Rattle.std.specs.Prelude.{◌≤◌, ◌/◌, length};
+// The fields of a line: numbers as hex digits, byte strings as hex pairs, an empty one as `-`, with one space or comma between.
+use crate::verdict::Expected;
+use std::alloc::{AllocError, AllocFailed, Global};
+use std::num::TryFromIntError;
+use std::str::Split;
 
-// The fields that are byte strings: from the first of them to before this one. All others are numbers.
-#[derive(Drop)]
-pub(crate) struct Strings {
-    pub(crate) from: usize,
-    pub(crate) to: usize,
+// How many numbers a line has at most, and how many bytes its byte strings have together.
+const NUMBERS: usize = 64;
+
+const BYTES: usize = 512;
+
+// How many digits a number has at most.
+const DIGITS: usize = 16;
+
+// Why a line has no verdict.
+#[derive(Debug, Drop)]
+pub(crate) enum LineError {
+    Unread,
+    OutOfMemory(AllocError),
 }
 
-// What was read: whether all was, how many numbers, and where the last byte string starts and ends.
-#[derive(Drop)]
-pub(crate) struct Found {
-    pub(crate) whole: bool,
-    pub(crate) numbers: usize,
-    pub(crate) start: usize,
-    pub(crate) end: usize,
-}
-
-const UNREAD: Found = Found {
-    whole: false,
-    numbers: 0,
-    start: 0,
-    end: 0,
-};
-
-// Reads the fields up to one that cannot be read, the byte strings one behind the other.
-pub(crate) fn fields(text: &[u8], strings: Strings, numbers: &mut [u64], bytes: &mut [u8]) -> Found
-    ensures { (result.numbers ≤ length numbers.old) × (result.start ≤ result.end) × (result.end ≤ length bytes.old) }
-{
-    let mut found = Found {
-        whole: true,
-        numbers: 0,
-        start: 0,
-        end: 0,
-    };
-    let mut at = 0;
-    let mut i = 0;
-    while at < text.len() {
-        let rest = &text[at..];
-        let n = find(rest, b' ', b',');
-        found = field(
-            &rest[0..n],
-            strings.from <= i && i < strings.to,
-            found,
-            numbers,
-            bytes,
-        );
-        if !found.whole {
-            return found;
-        }
-        i += 1;
-        at = at + n + 1;
+impl From<AllocError> for LineError {
+    fn from(error: AllocError) -> LineError {
+        LineError::OutOfMemory(error)
     }
-    // A field is missing: behind a last separator, or a byte string.
-    if at == text.len() || i < strings.to {
-        return UNREAD;
-    }
-    found
 }
 
-// Reads one field more: a byte string to behind those that are there, or a number.
-fn field(text: &[u8], is_string: bool, found: Found, numbers: &mut [u64], bytes: &mut [u8]) -> Found
-    requires { (found.numbers ≤ length numbers.old) × (found.start ≤ found.end) × (found.end ≤ length bytes.old) }
-    ensures { (result.numbers ≤ length numbers.old) × (result.start ≤ result.end) × (result.end ≤ length bytes.old) }
-{
-    let n = found.numbers;
-    let start = found.start;
-    let end = found.end;
-    let len = text.len();
-    if is_string {
-        let empty = len == 1 && text[0] == b'-';
-        if !empty && (len % 2 == 1 || !is_hex(text)) {
-            return UNREAD;
+impl<T: Drop> From<AllocFailed<T>> for LineError {
+    fn from(error: AllocFailed<T>) -> LineError {
+        LineError::OutOfMemory(AllocError::from(error))
+    }
+}
+
+impl From<TryFromIntError> for LineError {
+    fn from(_error: TryFromIntError) -> LineError {
+        LineError::Unread
+    }
+}
+
+// The fields that are left, and how many numbers and bytes they may have.
+#[derive(Drop)]
+pub(crate) struct Fields<'a> {
+    alloc: Global,
+    words: Split<'a, [char; 2]>,
+    numbers: usize,
+    bytes: usize,
+}
+
+impl<'a> Fields<'a> {
+    pub(crate) fn new(alloc: Global, text: &'a str) -> Fields<'a> {
+        Fields {
+            alloc,
+            words: text.split([' ', ',']),
+            numbers: NUMBERS,
+            bytes: BYTES,
         }
-        if bytes.len() - end < len / 2 {
-            return UNREAD;
-        }
-        let more = bytes_of(text, &mut bytes[end..]);
-        return Found {
-            whole: true,
-            numbers: n,
-            start: end,
-            end: end + more,
+    }
+
+    // The next field as a number.
+    pub(crate) fn number(&mut self) -> Result<u64, LineError> {
+        self.number_if_any()?.ok_or(LineError::Unread)
+    }
+
+    // The next field as a number, where one is left.
+    pub(crate) fn number_if_any(&mut self) -> Result<Option<u64>, LineError> {
+        let Some(word) = self.words.next() else {
+            return Ok(None);
         };
+        self.numbers = self.numbers.checked_sub(1).ok_or(LineError::Unread)?;
+        Ok(Some(number_of(word)?))
     }
-    if 16 < len || !is_hex(text) {
-        return UNREAD;
-    }
-    if numbers.len() <= n {
-        return UNREAD;
-    }
-    numbers[n] = number_of(text);
-    Found {
-        whole: true,
-        numbers: n + 1,
-        start,
-        end,
-    }
-}
 
-// Where one of two bytes first stands, or the text's length.
-pub(crate) fn find(text: &[u8], one: u8, other: u8) -> usize
-    ensures { result ≤ length text.now }
-{
-    let mut at = 0;
-    while at < text.len() {
-        let byte = text[at];
-        if byte == one || byte == other {
-            return at;
+    // The next fields, so many as the array has, as numbers.
+    pub(crate) fn numbers<const N: usize>(&mut self) -> Result<[u64; N], LineError> {
+        let mut numbers = [0; N];
+        for number in &mut numbers {
+            *number = self.number()?;
         }
-        at += 1;
+        Ok(numbers)
     }
-    at
-}
 
-// Whether a text is hex digits, one at least.
-fn is_hex(text: &[u8]) -> bool {
-    let mut i = 0;
-    while i < text.len() {
-        if digit(text[i]) == 16 {
-            return false;
+    // The next field as a truth, 0 or 1.
+    pub(crate) fn flag(&mut self) -> Result<bool, LineError> {
+        match self.number()? {
+            0 => Ok(false),
+            1 => Ok(true),
+            _ => Err(LineError::Unread),
         }
-        i += 1;
     }
-    0 < i
+
+    // ANSWER AT
+    pub(crate) fn expected(&mut self) -> Result<Expected, LineError> {
+        Ok(Expected {
+            answer: self.number()?,
+            at: self.number()?,
+        })
+    }
+
+    // The numbers of so many records.
+    pub(crate) fn records(&mut self, count: u64, width: usize) -> Result<Vec<u64>, LineError> {
+        let mut numbers = Vec::new(self.alloc);
+        for _ in 0..count {
+            for _ in 0..width {
+                numbers.push(self.number()?)?;
+            }
+        }
+        Ok(numbers)
+    }
+
+    // All fields that are left, as numbers.
+    pub(crate) fn rest(self) -> Result<Vec<u64>, LineError> {
+        let Fields {
+            alloc,
+            words,
+            numbers,
+            bytes: _,
+        } = self;
+        let rest: Vec<u64> = words.map(number_of).try_collect(alloc)?;
+        if numbers < rest.len() {
+            return Err(LineError::Unread);
+        }
+        Ok(rest)
+    }
+
+    // The next field as a byte string.
+    pub(crate) fn bytes(&mut self) -> Result<Vec<u8>, LineError> {
+        let word = self.words.next().ok_or(LineError::Unread)?;
+        let bytes: Vec<u8> = match word {
+            "" => return Err(LineError::Unread),
+            "-" => Vec::new(self.alloc),
+            _ => word
+                .as_bytes()
+                .chunks(2)
+                .map(byte_of)
+                .try_collect(self.alloc)?,
+        };
+        self.bytes = self
+            .bytes
+            .checked_sub(bytes.len())
+            .ok_or(LineError::Unread)?;
+        Ok(bytes)
+    }
+
+    // A line has no more fields than those that were read.
+    pub(crate) fn end(mut self) -> Result<(), LineError> {
+        match self.words.next() {
+            None => Ok(()),
+            Some(_) => Err(LineError::Unread),
+        }
+    }
 }
 
-// The number that hex digits spell. Of more than 16 the last 16 count.
-fn number_of(text: &[u8]) -> u64 {
-    let mut n: u64 = 0;
-    let mut i = 0;
-    while i < text.len() {
-        n = n % 0x1000_0000_0000_0000 * 16 + digit(text[i]) % 16;
-        i += 1;
+// The number that hex digits spell. A sign and a digit in upper case, which std takes, are none here.
+fn number_of(word: &str) -> Result<u64, LineError> {
+    if DIGITS < word.len() || !word.bytes().all(|b| digit(b).is_some()) {
+        return Err(LineError::Unread);
     }
-    n
+    u64::from_str_radix(word, 16).map_err(|_| LineError::Unread)
 }
 
-// The bytes whose hex pairs are the text; how many they are.
-fn bytes_of(text: &[u8], out: &mut [u8]) -> usize
-    requires { length text.now / 2 ≤ length out.old }
-    ensures { result ≤ length out.new }
-{
-    let count = text.len() / 2;
-    let mut n = 0;
-    while n < count {
-        out[n] = (digit(text[2 * n]) % 16 * 16 + digit(text[2 * n + 1]) % 16) as u8;
-        n += 1;
-    }
-    n
+// The byte that two hex digits spell.
+fn byte_of(pair: &[u8]) -> Result<u8, LineError> {
+    let [high, low] = *pair else {
+        return Err(LineError::Unread);
+    };
+    let high = digit(high).ok_or(LineError::Unread)?;
+    let low = digit(low).ok_or(LineError::Unread)?;
+    Ok(high << 4 | low)
 }
 
-// The value of a hex digit, 16 for any other byte.
-fn digit(b: u8) -> u64
-    ensures { result ≤ 16 }
-{
+// The value of a hex digit, which is in lower case.
+fn digit(b: u8) -> Option<u8> {
     match b {
-        b'0'..=b'9' => (b - b'0') as u64,
-        b'a'..=b'f' => (b - b'a') as u64 + 10,
-        _ => 16,
+        b'0'..=b'9' => Some(b - b'0'),
+        b'a'..=b'f' => Some(b - b'a' + 10),
+        _ => None,
     }
 }

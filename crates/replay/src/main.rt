@@ -11,10 +11,8 @@ mod frames;
 mod parts;
 mod verdict;
 
-ghost use Rattle.std.specs.Prelude.{◌≤◌, IfOk, length};
-
-use fields::Strings;
-use frames::{OLD, TABLE};
+use fields::{Fields, LineError};
+use std::alloc::{AllocError, Global};
 use std::fs::File;
 use std::io;
 use std::io::Read;
@@ -22,113 +20,76 @@ use std::rt::Files;
 use verdict::{Counts, Verdict};
 
 // How many bytes of a list are read at most.
-const TEXT: usize = 65_536;
+const TEXT: u64 = 65_536;
 
 fn main(rt: HostRuntime) -> io::Result<()> {
-    replay(&rt, "marked.txt")?;
-    replay(&rt, "numbers.txt")?;
-    replay(&rt, "text.txt")?;
-    replay(&rt, "values.txt")?;
-    replay(&rt, "hello.txt")
+    for name in [
+        "marked.txt",
+        "numbers.txt",
+        "text.txt",
+        "values.txt",
+        "hello.txt",
+    ] {
+        replay(&rt, name)?;
+    }
+    Ok(())
 }
 
-fn replay(rt: &(impl Files + Print), name: &str) -> io::Result<()> {
-    let Ok(mut file) = File::open(rt, name) else {
+fn replay(rt: &(impl Files + Print + AllocGlobal), name: &str) -> io::Result<()> {
+    let Ok(file) = File::open(rt, name) else {
         return println!(rt; "{name} cannot be opened");
     };
-    let mut text = [0u8; TEXT];
-    let n = read_full(&mut file, &mut text)?;
-    let counts = lines(rt, &text[0..n])?;
-    let agree = counts.agree;
-    let differ = counts.differ;
-    let unread = counts.unread;
-    println!(rt; "{name}: {agree} agree, {differ} differ, {unread} cannot be read")
+    let mut bytes = Vec::new(rt.alloc());
+    file.take(TEXT).read_to_end(&mut bytes)?;
+    // What is not UTF-8 is U+FFFD from here on, which no field has.
+    let text = String::from_utf8_lossy(rt.alloc(), &bytes)?;
+    let counts = lines(rt, &text)?;
+    println!(rt; "{name}: {counts}")
 }
 
-// Reads until the buffer is full or the file ends; how many bytes the buffer has then.
-fn read_full(file: &mut impl Read, buffer: &mut [u8]) -> io::Result<usize>
-    ensures { IfOk result (λ n. n ≤ length buffer.new) }
-{
-    let mut n = 0;
-    while n < buffer.len() {
-        let more = file.read(&mut buffer[n..])?;
-        if more == 0 {
-            return Ok(n);
+// Judges each line but comments, and says which do not agree.
+fn lines(rt: &(impl Print + AllocGlobal), text: &str) -> io::Result<Counts> {
+    let mut counts = Counts::default();
+    for (number, line) in (1u64..).zip(text.split_terminator('\n')) {
+        if line.starts_with('#') {
+            continue;
         }
-        n += more;
-    }
-    Ok(n)
-}
-
-fn lines(rt: &impl Print, text: &[u8]) -> io::Result<Counts> {
-    let mut counts = Counts {
-        agree: 0,
-        differ: 0,
-        unread: 0,
-    };
-    let mut at = 0;
-    let mut line: u64 = 0;
-    while at < text.len() {
-        let rest = &text[at..];
-        let n = fields::find(rest, b'\n', b'\n');
-        line = verdict::more(line);
-        counts = verdict::count(rt, counts, judge(&rest[0..n]), line)?;
-        at = at + n + 1;
+        let verdict = judge(rt.alloc(), line)?;
+        counts.add(verdict);
+        if verdict != Verdict::Agrees {
+            println!(rt; "line {number} {verdict}")?;
+        }
     }
     Ok(counts)
 }
 
-fn judge(line: &[u8]) -> Verdict {
-    if line.len() == 0 {
-        return Verdict::Unread;
-    }
-    let letter = line[0];
-    if letter == b'#' {
-        return Verdict::Comment;
-    }
-    if line.len() < 2 || line[1] != b' ' {
-        return Verdict::Unread;
-    }
-    let mut numbers = [0u64; 64];
-    let mut bytes = [0u8; 512];
-    let found = fields::fields(&line[2..], strings(letter), &mut numbers, &mut bytes);
-    if !found.whole {
-        return Verdict::Unread;
-    }
-    let count = found.numbers;
-    let start = found.start;
-    let end = found.end;
-    let all = &bytes[..];
-    of_letter(letter, &numbers[0..count], &all[0..start], &all[start..end])
-}
-
-// Which fields of such a line are byte strings.
-fn strings(letter: u8) -> Strings {
-    match letter {
-        b'd' | b'v' | b'f' => Strings { from: 0, to: 1 },
-        b'e' | b'u' => Strings { from: 1, to: 2 },
-        b't' | b'k' | b'a' | b'm' => Strings { from: 0, to: 2 },
-        b's' => Strings { from: 1, to: 3 },
-        _ => Strings { from: 0, to: 0 },
+fn judge(alloc: Global, line: &str) -> Result<Verdict, AllocError> {
+    match agrees(alloc, line) {
+        Ok(true) => Ok(Verdict::Agrees),
+        Ok(false) => Ok(Verdict::Differs),
+        Err(LineError::Unread) => Ok(Verdict::Unread),
+        Err(LineError::OutOfMemory(error)) => Err(error),
     }
 }
 
-// What a line of this letter is, with its numbers and its last byte string, and of two the first.
-fn of_letter(letter: u8, numbers: &[u64], first: &[u8], last: &[u8]) -> Verdict {
+// Whether the port answers what the line has.
+fn agrees(alloc: Global, line: &str) -> Result<bool, LineError> {
+    let (letter, text) = line.split_once(' ').ok_or(LineError::Unread)?;
+    let fields = Fields::new(alloc, text);
     match letter {
-        b'l' => parts::length_line(numbers),
-        b'e' => parts::encode_line(numbers, last),
-        b'd' => parts::decode_line(numbers, last),
-        b't' => parts::lossy_line(numbers, first, last),
-        b'u' => parts::form_line(numbers, last),
-        b's' => parts::same_line(numbers, first, last),
-        b'v' => parts::value_line(numbers, last),
-        b'z' => parts::size_line(numbers),
-        b'n' => parts::version_line(numbers),
-        b'f' => frames::read_line(numbers, last, &mut [OLD; TABLE], &mut [OLD; TABLE]),
-        b'k' => frames::kv_line(numbers, first, last, &mut [0; 64]),
-        b'a' => frames::ack_line(numbers, first, last, &mut [0; 64]),
-        b'm' => frames::notify_line(numbers, first, last, &mut [0; 64]),
-        _ => Verdict::Unread,
+        "l" => parts::length_line(fields),
+        "e" => parts::encode_line(fields),
+        "d" => parts::decode_line(fields),
+        "t" => parts::lossy_line(fields),
+        "u" => parts::form_line(fields),
+        "s" => parts::same_line(fields),
+        "v" => parts::value_line(fields),
+        "z" => parts::size_line(fields),
+        "n" => parts::version_line(fields),
+        "f" => frames::read_line(fields),
+        "k" => frames::kv_line(fields),
+        "a" => frames::ack_line(fields),
+        "m" => frames::notify_line(fields),
+        _ => Err(LineError::Unread),
     }
 }

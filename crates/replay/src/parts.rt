@@ -1,112 +1,100 @@
-// Lines on numbers, texts, values and the two negotiations.
-use crate::verdict::{Verdict, agreed, written};
-use hello::{Chosen, Size};
-use types::ValueRead;
-use varint::NumberRead;
+// Lines on numbers, texts, values and the two negotiations: whether the port answers what stands there.
+use crate::fields::{Fields, LineError};
+use crate::verdict::Expected;
+use answer::Read;
 
 // N LEN
-pub(crate) fn length_line(n: &[u64]) -> Verdict {
-    if n.len() != 2 {
-        return Verdict::Unread;
-    }
-    agreed(varint::varint_len(n[0]) as u64 == n[1])
+pub(crate) fn length_line(mut fields: Fields) -> Result<bool, LineError> {
+    let n = fields.number()?;
+    let len = fields.number()?;
+    fields.end()?;
+    Ok(varint::varint_len(n) as u64 == len)
 }
 
 // N BYTES
-pub(crate) fn encode_line(n: &[u64], bytes: &[u8]) -> Verdict {
-    if n.len() != 1 {
-        return Verdict::Unread;
-    }
-    let mut out = [0u8; 10];
-    let answer = varint::encode_varint(n[0], &mut out);
-    written(answer, &out, 0, bytes.len() as u64, bytes)
+pub(crate) fn encode_line(mut fields: Fields) -> Result<bool, LineError> {
+    let n = fields.number()?;
+    let bytes = fields.bytes()?;
+    fields.end()?;
+    let mut out = [0; 10];
+    let answer = varint::encode_varint(n, &mut out);
+    Ok(Expected::bytes(&bytes).is_written(answer, &out, &bytes))
 }
 
 // INPUT ANSWER AT VALUE
-pub(crate) fn decode_line(n: &[u64], input: &[u8]) -> Verdict {
-    if n.len() != 3 {
-        return Verdict::Unread;
-    }
-    match varint::decode_varint(input) {
-        NumberRead::Done { value, used } => agreed(
-            n[0] == 0 && n[1] == used as u64 && n[2] == value,
-        ),
-        NumberRead::Refused(r) => agreed(n[0] == r.number && n[1] == r.place as u64 && n[2] == 0),
-    }
+pub(crate) fn decode_line(mut fields: Fields) -> Result<bool, LineError> {
+    let input = fields.bytes()?;
+    let expected = fields.expected()?;
+    let want = fields.number()?;
+    fields.end()?;
+    Ok(match varint::decode_varint(&input) {
+        Ok(read) => expected.is_done(read.used) && want == read.value,
+        Err(r) => expected.is_refused(r) && want == 0,
+    })
 }
 
 // BYTES TEXT
-pub(crate) fn lossy_line(n: &[u64], bytes: &[u8], text: &[u8]) -> Verdict {
-    if n.len() != 0 {
-        return Verdict::Unread;
-    }
-    let mut out = [0u8; 192];
-    let answer = utf8::lossy_text(bytes, &mut out);
-    written(answer, &out, 0, text.len() as u64, text)
+pub(crate) fn lossy_line(mut fields: Fields) -> Result<bool, LineError> {
+    let bytes = fields.bytes()?;
+    let text = fields.bytes()?;
+    fields.end()?;
+    let mut out = [0; 192];
+    let answer = utf8::lossy_text(&bytes, &mut out);
+    Ok(Expected::bytes(&text).is_written(answer, &out, &text))
 }
 
 // YES BYTES
-pub(crate) fn form_line(n: &[u64], bytes: &[u8]) -> Verdict {
-    if n.len() != 1 {
-        return Verdict::Unread;
-    }
-    agreed(utf8::is_utf8(bytes) as u64 == n[0])
+pub(crate) fn form_line(mut fields: Fields) -> Result<bool, LineError> {
+    let yes = fields.number()?;
+    let bytes = fields.bytes()?;
+    fields.end()?;
+    Ok(u64::from(utf8::is_utf8(&bytes)) == yes)
 }
 
 // YES BYTES BYTES
-pub(crate) fn same_line(n: &[u64], a: &[u8], b: &[u8]) -> Verdict {
-    if n.len() != 1 {
-        return Verdict::Unread;
-    }
-    agreed(utf8::same_text(a, b) as u64 == n[0])
+pub(crate) fn same_line(mut fields: Fields) -> Result<bool, LineError> {
+    let yes = fields.number()?;
+    let a = fields.bytes()?;
+    let b = fields.bytes()?;
+    fields.end()?;
+    Ok(u64::from(utf8::same_text(&a, &b)) == yes)
 }
 
 // INPUT ANSWER AT KIND A B, and FLAGS, which the Rust passes over: its lines are without them.
-pub(crate) fn value_line(n: &[u64], input: &[u8]) -> Verdict {
-    if n.len() < 5 || 6 < n.len() {
-        return Verdict::Unread;
-    }
-    match types::typed_data(input) {
-        ValueRead::Done { value, used } => {
-            if 5 < n.len() && n[5] != value.flags {
-                return Verdict::Differs;
-            }
-            let same = n[2] == value.kind && n[3] == value.a && n[4] == value.b;
-            agreed(same && n[0] == 0 && n[1] == used as u64)
+pub(crate) fn value_line(mut fields: Fields) -> Result<bool, LineError> {
+    let input = fields.bytes()?;
+    let expected = fields.expected()?;
+    let want = fields.numbers()?;
+    let flags = fields.number_if_any()?;
+    fields.end()?;
+    Ok(match types::typed_data(&input) {
+        Ok(Read { value, used }) => {
+            expected.is_done(used)
+                && want == [value.kind, value.a, value.b]
+                && flags.unwrap_or(value.flags) == value.flags
         },
-        ValueRead::Refused(r) => {
-            if 5 < n.len() && n[5] != 0 {
-                return Verdict::Differs;
-            }
-            let none = n[2] == 0 && n[3] == 0 && n[4] == 0;
-            agreed(none && n[0] == r.number && n[1] == r.place as u64)
-        },
-    }
+        Err(r) => expected.is_refused(r) && want == [0; 3] && flags.unwrap_or(0) == 0,
+    })
 }
 
 // THEIRS OURS ANSWER AT
-pub(crate) fn size_line(n: &[u64]) -> Verdict {
-    if n.len() != 4 {
-        return Verdict::Unread;
-    }
-    let theirs = n[0];
-    let ours = n[1];
-    if 0xFFFF_FFFF < theirs || 0xFFFF_FFFF < ours {
-        return Verdict::Unread;
-    }
-    match hello::negotiate_max_frame_size(theirs as u32, ours as u32) {
-        Size::Agreed(size) => agreed(n[2] == 0 && n[3] == size as u64),
-        Size::Refused(r) => agreed(n[2] == r.number && n[3] == r.place as u64),
-    }
+pub(crate) fn size_line(mut fields: Fields) -> Result<bool, LineError> {
+    let theirs = u32::try_from(fields.number()?)?;
+    let ours = u32::try_from(fields.number()?)?;
+    let expected = fields.expected()?;
+    fields.end()?;
+    Ok(match hello::negotiate_max_frame_size(theirs, ours) {
+        Ok(size) => expected.is_done(size as usize),
+        Err(r) => expected.is_refused(r),
+    })
 }
 
 // YES, and the numbers of versions and of a rest
-pub(crate) fn version_line(n: &[u64]) -> Verdict {
-    if n.len() == 0 {
-        return Verdict::Unread;
-    }
-    match hello::negotiate_version(&n[1..]) {
-        Chosen::Version(v) => agreed(n[0] == 1 && v.major == 2 && v.minor == 0 && v.patch == 0),
-        Chosen::None => agreed(n[0] == 0),
-    }
+pub(crate) fn version_line(mut fields: Fields) -> Result<bool, LineError> {
+    let yes = fields.number()?;
+    let versions = fields.rest()?;
+    Ok(match hello::negotiate_version(&versions) {
+        Some(v) => yes == 1 && [v.major, v.minor, v.patch] == [2, 0, 0],
+        None => yes == 0,
+    })
 }

@@ -1,83 +1,95 @@
 // What a line turned out to be, and how many lines of each sort there are.
-use answer::Written;
-use std::io;
+use answer::Refusal;
+use std::fmt;
 
-#[derive(Drop)]
+#[derive(Clone, Copy, PartialEq, Eq)]
 pub(crate) enum Verdict {
     Agrees,
     Differs,
     Unread,
-    Comment,
 }
 
-#[derive(Drop)]
+impl fmt::Display for Verdict {
+    fn fmt<W: fmt::Write>(&self, f: &mut fmt::Formatter<W>) -> fmt::Result {
+        f.write_str(match self {
+            Verdict::Agrees => "agrees",
+            Verdict::Differs => "differs",
+            Verdict::Unread => "cannot be read",
+        })
+    }
+}
+
+#[derive(Clone, Copy, Default)]
 pub(crate) struct Counts {
-    pub(crate) agree: u64,
-    pub(crate) differ: u64,
-    pub(crate) unread: u64,
+    agree: u64,
+    differ: u64,
+    unread: u64,
 }
 
-pub(crate) fn agreed(same: bool) -> Verdict {
-    if same {
-        Verdict::Agrees
-    } else {
-        Verdict::Differs
+impl Counts {
+    pub(crate) fn add(&mut self, verdict: Verdict) {
+        let count = match verdict {
+            Verdict::Agrees => &mut self.agree,
+            Verdict::Differs => &mut self.differ,
+            Verdict::Unread => &mut self.unread,
+        };
+        *count = count.saturating_add(1);
     }
 }
 
-// Of a writer's answer, and the output that it was lent, where a number, a count of bytes or a place, and these bytes are expected.
-pub(crate) fn written(answer: Written, out: &[u8], number: u64, at: u64, want: &[u8]) -> Verdict {
-    match answer {
-        Written::Done(k) => {
-            if out.len() < k {
-                return Verdict::Differs;
-            }
-            agreed(number == 0 && at == k as u64 && &out[0..k] == want)
-        },
-        Written::Refused(r) => agreed(
-            number == r.number && at == r.place as u64 && want.len() == 0,
-        ),
+impl fmt::Display for Counts {
+    fn fmt<W: fmt::Write>(&self, f: &mut fmt::Formatter<W>) -> fmt::Result {
+        let Counts {
+            agree,
+            differ,
+            unread,
+        } = self;
+        write!(f, "{agree} agree, {differ} differ, {unread} cannot be read")
     }
 }
 
-// The counts with one verdict more, and a line of output where it is not that the answers agree.
-pub(crate) fn count(
-    rt: &impl Print,
-    counts: Counts,
-    verdict: Verdict,
-    line: u64,
-) -> io::Result<Counts> {
-    Ok(match verdict {
-        Verdict::Comment => counts,
-        Verdict::Agrees => Counts {
-            agree: more(counts.agree),
-            differ: counts.differ,
-            unread: counts.unread,
-        },
-        Verdict::Differs => {
-            say(rt, line, "differs")?;
-            Counts {
-                agree: counts.agree,
-                differ: more(counts.differ),
-                unread: counts.unread,
-            }
-        },
-        Verdict::Unread => {
-            say(rt, line, "cannot be read")?;
-            Counts {
-                agree: counts.agree,
-                differ: counts.differ,
-                unread: more(counts.unread),
-            }
-        },
-    })
+// What a line has for a call that is to wait.
+const WAIT: u64 = 1;
+
+// What is expected of a call: 0 and a count, 1 and how many bytes are missing, or a refusal's number and its place. It is what a line has,
+// so the answer may be a number that no call gives.
+#[derive(Clone, Copy)]
+pub(crate) struct Expected {
+    pub(crate) answer: u64,
+    pub(crate) at: u64,
 }
 
-fn say(rt: &impl Print, line: u64, what: &str) -> io::Result<()> {
-    println!(rt; "line {line} {what}")
-}
+impl Expected {
+    // That a writer writes so many bytes.
+    pub(crate) fn bytes(want: &[u8]) -> Expected {
+        Expected {
+            answer: 0,
+            at: want.len() as u64,
+        }
+    }
 
-// One more, up to what a u64 holds.
-pub(crate) fn more(n: u64) -> u64 {
-    if n < u64::MAX { n + 1 } else { n }
+    pub(crate) fn is_done(self, at: usize) -> bool {
+        self.answer == 0 && self.at == at as u64
+    }
+
+    pub(crate) fn is_wait(self, missing: usize) -> bool {
+        self.answer == WAIT && self.at == missing as u64
+    }
+
+    pub(crate) fn is_refused(self, r: Refusal) -> bool {
+        self.answer == u64::from(r.reason) && self.at == r.place as u64
+    }
+
+    // Whether a writer answered so, and the output that it was lent begins with these bytes.
+    pub(crate) fn is_written(
+        self,
+        answer: Result<usize, Refusal>,
+        out: &[u8],
+        want: &[u8],
+    ) -> bool {
+        match answer {
+            Ok(k) => self.is_done(k) && k == want.len() && out.starts_with(want),
+            Err(r) => self.is_refused(r) && want.is_empty(),
+        }
+    }
 }

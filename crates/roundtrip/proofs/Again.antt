@@ -9,6 +9,10 @@ use lib.Dec.{eqb}
 use lib.ListN.{length, take, length-append, length-map}
 use lib.Seq.{get_or-take, length-take-le}
 use borrow.Author.Tests.{le-leb, eq-eqb, ne_eqb, eqb-true, eqb-false}
+use Rattle.std.specs.Prelude.{Result}
+use Rattle.answer.specs.declared.Read.{Read}
+use Rattle.frame.specs.declared.Stop.{Stop}
+use Rattle.parser.specs.declared.Frame.{Frame}
 use Rattle.answer.specs.Answer.{done, refused}
 use Rattle.answer.specs.Order.{in_order}
 use Rattle.answer.specs.Inner.{Sound, InRow}
@@ -38,10 +42,9 @@ use Rattle.payload.proofs.Filling.{joined_width}
 use Rattle.answer.proofs.Row.{Found, row_found}
 use Rattle.payload.proofs.Exact.{row_each}
 use Rattle.payload.proofs.Accepted.{KvHeld, kv_run, MessagesHeld, messages_run, actions_run, Once, pairs_of}
-use Rattle.parser.specs.declared.FrameRead.{FrameRead}
-use Rattle.parser.specs.declared.FrameRead.TheVariants as v
 use Rattle.parser.specs.Frame.{payload_of, frame_read}
 use Rattle.parser.specs.Promise.{frame_said, FrameFills}
+use Rattle.parser.proofs.Unique.{frame_done}
 use Rattle.parser.proofs.Entries.{said_done}
 use Rattle.parser.proofs.Frames.{frame_cut}
 use Rattle.writer.specs.Pair.{pair_bytes, kv_checks}
@@ -88,8 +91,8 @@ pub record Left (x : Side) (limit : ℕ) (f : List ℕ) (m : Head) (counts : Cou
   pub in_actions_lem : Table action_at action_width actions counts.actions contents.actions
 
 -- Law: where a reader is done, it left such tables; and the frame has as many bytes as it took.
-module _ (x : Side) (limit : ℕ) (rooms : Counts) (s : List ℕ) (small : Bytes s) (r : FrameRead) (old_messages new_messages old_pairs new_pairs old_actions new_actions : List ℕ)
-    (reads : FrameFills (frame_read x limit rooms s) r old_messages new_messages old_pairs new_pairs old_actions new_actions) (m : Head) (counts : Counts) (used : ℕ) (is : r ≡ v.Done m counts used) where
+module _ (x : Side) (limit : ℕ) (rooms : Counts) (s : List ℕ) (small : Bytes s) (r : Result (Read Frame) Stop) (old_messages new_messages old_pairs new_pairs old_actions new_actions : List ℕ)
+    (reads : FrameFills (frame_read x limit rooms s) r old_messages new_messages old_pairs new_pairs old_actions new_actions) (m : Head) (counts : Counts) (used : ℕ) (is : r ≡ frame_done m counts used) where
   found : (c : Contents) × (frame_read x limit rooms s ≡ answered (done (m, c) used)) × (counts_of c ≡ counts)
   found = said_done (frame_read x limit rooms s) m counts used (ap frame_said (sym is) ∙ reads.says)
 

@@ -7,7 +7,7 @@ use Prim.Native.Nat.{ℕ, zero, suc}
 use native.Mathlib.Omega.{arith}
 use lib.Dec.{eqb, leb}
 use lib.ListN.{length}
-use Rattle.answer.specs.declared.Written.TheVariants as w
+use Rattle.std.specs.Prelude.{Ok}
 use Rattle.answer.specs.Answer.{Answer, done, refused, tells, written, within}
 use Rattle.answer.specs.Order.{Check, in_order, lines_at, each_in_order}
 use Rattle.answer.specs.Table.{holds}
@@ -70,7 +70,7 @@ module _ (h : Head) (limit : ℕ) (buffer : List ℕ) where
 
 -- ---- so 0 is done
 
-zero_writes : (a : Answer (List ℕ)) {at : ℕ} {old new : List ℕ} → NotZero a → Left a 0 at old new → Writes a (w.Done at) old new
+zero_writes : (a : Answer (List ℕ)) {at : ℕ} {old new : List ℕ} → NotZero a → Left a 0 at old new → Writes a (Ok at) old new
 zero_writes a {at} {old} h t = record { says = by_answer (within (length old) a) (within_numbered (length old) a h) t.0; holds = t.1 }
   where
     by_answer : (b : Answer (List ℕ)) → NotZero b → Told b 0 at → done tt at ≡ tells b
@@ -78,12 +78,12 @@ zero_writes a {at} {old} h t = record { says = by_answer (within (length old) a)
     by_answer (refused number place) h t = absurd (h (sym t.says))
 
 module _ (h : Head) (limit : ℕ) (buffer : List ℕ) (at : ℕ) (old new : List ℕ) where
-  pub kv_call : (pairs : List ℕ) (count : ℕ) → Left (kv_answer h limit buffer pairs count) 0 at old new → Writes (kv_answer h limit buffer pairs count) (w.Done at) old new
+  pub kv_call : (pairs : List ℕ) (count : ℕ) → Left (kv_answer h limit buffer pairs count) 0 at old new → Writes (kv_answer h limit buffer pairs count) (Ok at) old new
   kv_call pairs count = zero_writes (kv_answer h limit buffer pairs count) (kv_numbered h limit buffer pairs count)
 
-  pub actions_call : (actions : List ℕ) (count : ℕ) → Left (actions_answer h limit buffer actions count) 0 at old new → Writes (actions_answer h limit buffer actions count) (w.Done at) old new
+  pub actions_call : (actions : List ℕ) (count : ℕ) → Left (actions_answer h limit buffer actions count) 0 at old new → Writes (actions_answer h limit buffer actions count) (Ok at) old new
   actions_call actions count = zero_writes (actions_answer h limit buffer actions count) (actions_numbered h limit buffer actions count)
 
   pub notify_call : (messages : List ℕ) (count : ℕ) (pairs : List ℕ) (total : ℕ) → Left (notify_answer h limit buffer messages count pairs total) 0 at old new
-      → Writes (notify_answer h limit buffer messages count pairs total) (w.Done at) old new
+      → Writes (notify_answer h limit buffer messages count pairs total) (Ok at) old new
   notify_call messages count pairs total = zero_writes (notify_answer h limit buffer messages count pairs total) (notify_numbered h limit buffer messages count pairs total)

@@ -8,7 +8,10 @@ use native.Mathlib.Omega.{arith}
 use lib.ListN.{length, take, drop, take-append-drop}
 use lib.Seq.{take_at}
 use borrow.Author.Tests.{ne_eqb}
-use Rattle.answer.specs.declared.Written.TheVariants as w
+use Rattle.std.specs.Prelude.{Result, Ok}
+use Rattle.answer.specs.declared.Read.{Read}
+use Rattle.frame.specs.declared.Stop.{Stop}
+use Rattle.parser.specs.declared.Frame.{Frame}
 use Rattle.answer.specs.Answer.{Answer, done}
 use Rattle.answer.specs.Table.{records}
 use Rattle.answer.specs.Writes.{Writes}
@@ -28,11 +31,9 @@ use Rattle.payload.specs.declared.Payload.{Payload}
 use Rattle.payload.specs.declared.Payload.TheVariants as k
 use Rattle.payload.specs.Promise.{counts_of, rooms_of, Fills}
 use Rattle.payload.proofs.Kept.{Within}
-use Rattle.parser.specs.declared.FrameRead.{FrameRead}
-use Rattle.parser.specs.declared.FrameRead.TheVariants as v
 use Rattle.parser.specs.Frame.{payload_of, frame_read}
 use Rattle.parser.specs.Promise.{frame_tells, contents_read, FrameFills}
-use Rattle.parser.proofs.Unique.{frame_same}
+use Rattle.parser.proofs.Unique.{frame_done, frame_same}
 use Rattle.writer.specs.Frame.{head_of, pairs_bytes, kv_answer, actions_bytes, actions_answer, messages_bytes, notify_answer}
 use Rattle.writer.proofs.Laws.{kv_accepted, kv_wrote, actions_accepted, actions_wrote, notify_accepted, notify_passed_records, notify_wrote}
 use Rattle.spop.specs.Told.{Left}
@@ -99,7 +100,7 @@ module _ (x : Side) (h : Head) (buffer messages pairs actions : List ℕ) where
         )
 
     -- of every input that starts with what a writer counted
-    input_back : (kind : Payload) → payload_of h.frame_type ≡ kind → (n : ℕ) (old new : List ℕ) → Writes (writer_of kind h limit buffer c messages pairs actions) (w.Done n) old new
+    input_back : (kind : Payload) → payload_of h.frame_type ≡ kind → (n : ℕ) (old new : List ℕ) → Writes (writer_of kind h limit buffer c messages pairs actions) (Ok n) old new
         → Within (sent_of kind c) rooms → (input : List ℕ) → take n input ≡ take n new → Back (sent_of kind c) n higher rooms input
     input_back kind is n old new wrote room input same =
         let g = given (writer_of kind h limit buffer c messages pairs actions) wrote in
@@ -132,8 +133,8 @@ module _ (x : Side) (h : Head) (buffer messages pairs actions : List ℕ) where
             actions_same = ap (map (action_meaning input)) xs.hold ∙ b.actions_same;
           }
 
-      said : (r : FrameRead) → FrameFills (frame_read x limit rooms input) r old_messages new_messages old_pairs new_pairs old_actions new_actions → r ≡ v.Done h c n
-      said r f = frame_same r (v.Done h c n) (f.says ∙ ap frame_tells b.accepted ∙ ap (λ (z : Counts). answered (done (h, z) n)) many)
+      said : (r : Result (Read Frame) Stop) → FrameFills (frame_read x limit rooms input) r old_messages new_messages old_pairs new_pairs old_actions new_actions → r ≡ frame_done h c n
+      said r f = frame_same r (frame_done h c n) (f.says ∙ ap frame_tells b.accepted ∙ ap (λ (z : Counts). answered (done (h, z) n)) many)
 
       told : (r at : ℕ) (before head : List ℕ) → FrameTold x (frame_read x limit rooms input) r at before head old_messages new_messages old_pairs new_pairs old_actions new_actions
           → (r ≡ 0) × (at ≡ n) × (head ≡ head_numbers x h c)
@@ -145,7 +146,7 @@ module _ (x : Side) (h : Head) (buffer messages pairs actions : List ℕ) where
 
 -- under a C name
 by_kind : (kind : Payload) (h : Head) (limit : ℕ) (buffer : List ℕ) (c : Counts) (messages pairs actions : List ℕ) (n : ℕ) (old new : List ℕ)
-    → Left (writer_of kind h limit buffer c messages pairs actions) 0 n old new → Writes (writer_of kind h limit buffer c messages pairs actions) (w.Done n) old new
+    → Left (writer_of kind h limit buffer c messages pairs actions) 0 n old new → Writes (writer_of kind h limit buffer c messages pairs actions) (Ok n) old new
 by_kind k.KvList h limit buffer c messages pairs actions n old new = kv_call h limit buffer n old new pairs c.pairs
 by_kind k.Messages h limit buffer c messages pairs actions n old new = notify_call h limit buffer n old new messages c.messages pairs c.pairs
 by_kind k.Actions h limit buffer c messages pairs actions n old new = actions_call h limit buffer n old new actions c.actions
@@ -156,9 +157,9 @@ by_kind k.Actions h limit buffer c messages pairs actions n old new = actions_ca
 -- `ReadAgentFrame`, with none for messages.)
 pub record CallsBack (x : Side) (h : Head) (a : Answer (List ℕ)) (c : Counts) (buffer messages pairs actions : List ℕ) (n : ℕ) (old new input : List ℕ) (limit : ℕ)
     (old_messages new_messages old_pairs new_pairs old_actions new_actions : List ℕ) : Type 0 where
-  pub call : Writes a (w.Done n) old new
-      → (r : FrameRead) → FrameFills (frame_read x limit (rooms_of old_messages old_pairs old_actions) input) r old_messages new_messages old_pairs new_pairs old_actions new_actions
-      → (r ≡ v.Done h c n) × SameRecords c buffer messages pairs actions input new_messages new_pairs new_actions
+  pub call : Writes a (Ok n) old new
+      → (r : Result (Read Frame) Stop) → FrameFills (frame_read x limit (rooms_of old_messages old_pairs old_actions) input) r old_messages new_messages old_pairs new_pairs old_actions new_actions
+      → (r ≡ frame_done h c n) × SameRecords c buffer messages pairs actions input new_messages new_pairs new_actions
   pub c_call : Left a 0 n old new
       → (r at : ℕ) (before head : List ℕ) → FrameTold x (frame_read x limit (rooms_of old_messages old_pairs old_actions) input) r at before head old_messages new_messages old_pairs new_pairs old_actions new_actions
       → ((r ≡ 0) × (at ≡ n) × (head ≡ head_numbers x h c)) × SameRecords c buffer messages pairs actions input new_messages new_pairs new_actions
@@ -177,7 +178,7 @@ module _ (limit : ℕ) (small : limit < 2 ^ 32) (buffer : List ℕ) (n : ℕ) (o
             (told x h buffer messages pairs actions (sent_of kind c) n higher (rooms_of om op oa) input b om nm op np oa na r at before head reads, left_same b reads.fills);
       }
     where
-      back : Writes (writer_of kind h limit buffer c messages pairs actions) (w.Done n) old new → Back x h buffer messages pairs actions (sent_of kind c) n higher (rooms_of om op oa) input
+      back : Writes (writer_of kind h limit buffer c messages pairs actions) (Ok n) old new → Back x h buffer messages pairs actions (sent_of kind c) n higher (rooms_of om op oa) input
       back wrote = input_back x h buffer messages pairs actions c limit ok small higher up (rooms_of om op oa) kind is n old new wrote room input same
 
       left_same : Back x h buffer messages pairs actions (sent_of kind c) n higher (rooms_of om op oa) input → Fills (contents_read (frame_read x higher (rooms_of om op oa) input)) om nm op np oa na

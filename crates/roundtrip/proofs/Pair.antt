@@ -15,7 +15,8 @@ use Rattle.answer.specs.Table.{joined}
 use Rattle.answer.proofs.Cases.{bool_cases, answer_cases, not_both}
 use Rattle.varint.proofs.Reading.{Bytes}
 use Rattle.utf8.specs.Text.{is_utf8}
-use Rattle.types.specs.Value.{Span, span, string, Record, value, points, shape, moved, typed}
+use Rattle.types.specs.declared.Span.{Span}
+use Rattle.types.specs.Value.{span, string, Record, value, points, shape, moved, typed}
 use Rattle.types.specs.Form.{part, inside, string_bytes, value_bytes, ranged}
 use Rattle.types.specs.Promise.{record_of}
 use Rattle.types.proofs.Reading.{string_accepted}
@@ -179,14 +180,14 @@ pub string_at_form : (f : List ℕ) (at start len place : ℕ) → Bytes f → s
 string_at_form f at start len place small e = go (string (drop at f)) refl
   where
     spans : {a b k l : ℕ} → span a k ≡ span b l → (a ≡ b) × (k ≡ l)
-    spans q = ((cc), (cc))
+    spans q = (ap (λ (x : Span). x.start) q, ap (λ (x : Span). x.len) q)
 
     go : (x : Answer Span) → string (drop at f) ≡ x → drop at f ≡ string_bytes (part f start len) ++ drop place f
-    go (done (span a n) used) d =
+    go (done x used) d =
         let o = done_same (sym (ap (behind moved_span at) d) ∙ e) in
         let q = spans o.0 in
-        let same : part f start len ≡ part (drop at f) a n = ap₂ (part f) (sym q.0) (sym q.1) ∙ part_moved f at a n in
-        form_rest (string_bytes (part (drop at f) a n)) (drop at f) used (string_form (drop at f) a n used (bytes_drop at f small) d)
+        let same : part f start len ≡ part (drop at f) x.start x.len = ap₂ (part f) (sym q.0) (sym q.1) ∙ part_moved f at x.start x.len in
+        form_rest (string_bytes (part (drop at f) x.start x.len)) (drop at f) used (string_form (drop at f) x.start x.len used (bytes_drop at f small) d)
         ∙ ap₂ (λ (w l : List ℕ). string_bytes w ++ l) (sym same) (drop-drop used at f ∙ ap (λ (n : ℕ). drop n f) o.1)
     go (refused n place) r = not_both e (ap (behind moved_span at) r)
 

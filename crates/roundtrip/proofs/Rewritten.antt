@@ -10,9 +10,11 @@ use lib.Dec.{leb}
 use lib.ListN.{length, take, drop, length-append}
 use lib.Seq.{drop-length}
 use borrow.Author.Tests.{le-leb}
+use Rattle.std.specs.Prelude.{Result, Ok, Err}
+use Rattle.answer.specs.declared.Reason.TheVariants as reason
+use Rattle.answer.specs.declared.Reason.{Reason}
+use Rattle.answer.specs.Reason.{number_of}
 use Rattle.answer.specs.declared.Refusal.{Refusal}
-use Rattle.answer.specs.declared.Written.{Written}
-use Rattle.answer.specs.declared.Written.TheVariants as w
 use Rattle.answer.specs.Answer.{Answer, done, refused, written}
 use Rattle.answer.specs.Writes.{said, Writes}
 use Rattle.answer.specs.Order.{Check, in_order, each_in_order}
@@ -125,19 +127,19 @@ module _ {A : Type 0} (limit : ℕ) (f : List ℕ) (h : Head) (start : ℕ) (for
 -- ---- what its caller learns
 
 -- A call that is to write f, with room for it; one that is refused; and one that is to write another frame.
-module _ {a : Answer (List ℕ)} {out : Written} {old new : List ℕ} (p : Writes a out old new) where
-  caller_written : (f : List ℕ) (n : ℕ) → length f ≡ n → a ≡ written f → n ≤ length old → (out ≡ w.Done n) × (new ≡ f ++ drop n old)
+module _ {a : Answer (List ℕ)} {out : Result ℕ Refusal} {old new : List ℕ} (p : Writes a out old new) where
+  caller_written : (f : List ℕ) (n : ℕ) → length f ≡ n → a ≡ written f → n ≤ length old → (out ≡ Ok n) × (new ≡ f ++ drop n old)
   caller_written f n long is room =
       let fits = le-leb (length f) (length old) (omega arith) in
-      (said_same out (w.Done n) (rw (is, fits) at p.says ∙ ap (done tt) long), rw (is, fits) at p.holds ∙ ap (λ (k : ℕ). f ++ drop k old) long)
+      (said_same out (Ok n) (rw (is, fits) at p.says ∙ ap (done tt) long), rw (is, fits) at p.holds ∙ ap (λ (k : ℕ). f ++ drop k old) long)
 
-  pub caller_refused : (number place : ℕ) → a ≡ refused number place → (out ≡ w.Refused (record { number = number; place = place })) × (new ≡ old)
-  caller_refused number place is = (said_same out (w.Refused (record { number = number; place = place })) (rw is at p.says), rw is at p.holds)
+  pub caller_refused : (why : Reason) (place : ℕ) → a ≡ refused (number_of why) place → (out ≡ Err (record { reason = why; place = place })) × (new ≡ old)
+  caller_refused why place is = (said_same out (Err (record { reason = why; place = place })) (rw is at p.says), rw is at p.holds)
 
-  caller_done : (n : ℕ) → out ≡ w.Done n → (number place : ℕ) → a ≡ refused number place → ⊥
+  caller_done : (n : ℕ) → out ≡ Ok n → (number place : ℕ) → a ≡ refused number place → ⊥
   caller_done n is number place e = not_both {x = done tt n} refl (sym (ap said is) ∙ rw e at p.says)
 
-  caller_other : (limit : ℕ) (h : Head) (q f : List ℕ) → a ≡ limited limit h q → (frame_bytes h q ≡ f → ⊥) → (n : ℕ) → out ≡ w.Done n → take n new ≡ f → ⊥
+  caller_other : (limit : ℕ) (h : Head) (q f : List ℕ) → a ≡ limited limit h q → (frame_bytes h q ≡ f → ⊥) → (n : ℕ) → out ≡ Ok n → take n new ≡ f → ⊥
   unfolding limited in_order
   caller_other limit h q f is other n told same =
       bool_cases (leb (length (head_bytes h ++ q)) limit)
@@ -147,7 +149,7 @@ module _ {a : Answer (List ℕ)} {out : Written} {old new : List ℕ} (p : Write
       (λ t. caller_done n told 12 0 (is ∙ rw t))
 
 -- an answer does not tell of both
-pub done_refused : {out : Written} {n : ℕ} {r : Refusal} → out ≡ w.Done n → out ≡ w.Refused r → ⊥
+pub done_refused : {out : Result ℕ Refusal} {n : ℕ} {r : Refusal} → out ≡ Ok n → out ≡ Err r → ⊥
 done_refused e g = let z : ◌≡◌ {A = ℕ} 0 1 = cc in omega arith
 
 -- so many tests hold, or there is the first that does not
@@ -162,22 +164,22 @@ first_or_all test (suc n) =
     (λ x. inr (x.0, omega (arith, x.1), x.2, x.3))
     (first_or_all test n)
 
-module _ {limit : ℕ} {f : List ℕ} {h : Head} {a : Answer (List ℕ)} {n : ℕ} {well plain : ℕ → Bool} {out : Written} {old new : List ℕ}
+module _ {limit : ℕ} {f : List ℕ} {h : Head} {a : Answer (List ℕ)} {n : ℕ} {well plain : ℕ → Bool} {out : Result ℕ Refusal} {old new : List ℕ}
     (r : Rewrites limit f h a n well plain) (p : Writes a out old new) where
   -- Law: with room for the frame, where all are well and plain, exactly the frame's bytes are written.
-  pub wrote_back : (used : ℕ) → length f ≡ used → All well n → All plain n → used ≤ length old → (out ≡ w.Done used) × (new ≡ f ++ drop used old)
+  pub wrote_back : (used : ℕ) → length f ≡ used → All well n → All plain n → used ≤ length old → (out ≡ Ok used) × (new ≡ f ++ drop used old)
   wrote_back used long ws ps room = caller_written p f used long (r.taken ws ∙ limited_whole limit h r.payload f (r.same ps) r.fits) room
 
   -- Law: where one is not well, and all before it are, it is 15 with its index, and no byte is written.
-  pub wrote_none : (i : ℕ) → i < n → well i ≡ false → All well i → (out ≡ w.Refused (record { number = 15; place = i })) × (new ≡ old)
-  wrote_none i l ill ws = caller_refused p 15 i (r.ill i l ill ws)
+  pub wrote_none : (i : ℕ) → i < n → well i ≡ false → All well i → (out ≡ Err (record { reason = reason.NotText; place = i })) × (new ≡ old)
+  wrote_none i l ill ws = caller_refused p reason.NotText i (r.ill i l ill ws)
 
   -- Law: where all are well and one is not plain, what is written, if anything is, is another frame.
-  pub wrote_other : All well n → (i : ℕ) → i < n → plain i ≡ false → (k : ℕ) → out ≡ w.Done k → take k new ≡ f → ⊥
+  pub wrote_other : All well n → (i : ℕ) → i < n → plain i ≡ false → (k : ℕ) → out ≡ Ok k → take k new ≡ f → ⊥
   wrote_other ws i l differs k = caller_other p limit h r.payload f (r.taken ws) (λ is. true_false (r.only is i l) differs) k
 
   -- Law: so the frame's bytes are written only where all are well and plain.
-  pub wrote_only : (k : ℕ) → out ≡ w.Done k → take k new ≡ f → All well n × All plain n
+  pub wrote_only : (k : ℕ) → out ≡ Ok k → take k new ≡ f → All well n × All plain n
   wrote_only k so same =
       ⊎_elim
       (λ ws. ⊎_elim (λ ps. (ws, ps)) (λ y. absurd (wrote_other ws y.0 y.1 y.2 k so same)) (first_or_all plain n))

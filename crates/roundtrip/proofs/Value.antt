@@ -13,7 +13,8 @@ use Rattle.answer.specs.Answer.{Answer, done, refused, behind}
 use Rattle.answer.proofs.Cases.{lt_or_le, answer_cases, not_both}
 use Rattle.varint.specs.Number.{number, number_bytes}
 use Rattle.varint.proofs.Reading.{Bytes, accepted, apart, number_exact}
-use Rattle.types.specs.Value.{Span, span, string, Shape, nothing, flag, integer, address, text, reserved, Width, signed32, unsigned32, whole64, shape, Record, value, points, moved, narrowed, content, upper, typed, in_width}
+use Rattle.types.specs.declared.Span.{Span}
+use Rattle.types.specs.Value.{span, string, Shape, nothing, flag, integer, address, text, reserved, Width, signed32, unsigned32, whole64, shape, Record, value, points, moved, narrowed, content, upper, typed, in_width}
 use Rattle.types.specs.Form.{part, string_bytes, data_bytes, type_of, value_bytes}
 use Rattle.types.proofs.Shapes.{signed_below}
 use Rattle.types.proofs.Reading.{string_accepted, typed_none, typed_some, value_same, integer_whole, integer_refused, address_whole, address_short, text_whole, text_refused, content_accepted}
@@ -92,10 +93,10 @@ content_form (address n) kind flags s k a b f used small e h =
 content_form text kind flags s k a b f used small e h = go (string s) refl
   where
     go : (x : Answer Span) → string s ≡ x → type_of kind flags ∷ take used s ≡ data_bytes text (type_of kind f) a (part s a b)
-    go (done (span start len) u) d =
-        let p = value_same (sym (text_whole kind flags s start len u d) ∙ e) in
+    go (done x u) d =
+        let p = value_same (sym (text_whole kind flags s x.start x.len u d) ∙ e) in
         ap₂ (λ (g : ℕ) (l : List ℕ). type_of kind g ∷ l) p.4
-        (ap (λ (m : ℕ). take m s) (sym p.3) ∙ string_form s start len u small d ∙ ap₂ (λ (x y : ℕ). string_bytes (part s x y)) p.1 p.2)
+        (ap (λ (m : ℕ). take m s) (sym p.3) ∙ string_form s x.start x.len u small d ∙ ap₂ (λ (x y : ℕ). string_bytes (part s x y)) p.1 p.2)
     go (refused n place) r = not_both e (text_refused kind flags s n place r)
 content_form reserved kind flags s k a b f used small e h = not_both e refl
 

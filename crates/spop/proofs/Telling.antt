@@ -1,9 +1,14 @@
 -- The ways to keep what a call under a C name promises.
-use mathlib.Core.Path.{◌≡◌, refl, sym, ap, ◌∙◌}
+use mathlib.Core.Path.{◌≡◌, refl, sym, ap, ◌∙◌, subst}
 use mathlib.Core.List.{List}
 use Prim.Native.Nat.{ℕ}
 use lib.ListN.{length}
-use Rattle.answer.specs.declared.Written.{Written}
+use Rattle.answer.specs.declared.Refusal.{Refusal}
+use Rattle.answer.specs.Reason.{number_of}
+use Rattle.std.specs.Prelude.{Result}
+use Rattle.frame.specs.declared.Stop.{Stop}
+use Rattle.frame.specs.declared.Stop.TheVariants as stop
+use Rattle.frame.specs.Promise.{stop_said}
 use Rattle.answer.specs.Answer.{Answer, done, refused, tells, within}
 use Rattle.answer.specs.Writes.{said, Writes}
 use Rattle.answer.proofs.Cases.{not_both}
@@ -17,10 +22,12 @@ use Rattle.payload.specs.Payload.{Contents}
 use Rattle.payload.specs.Promise.{counts_of}
 use Rattle.parser.specs.Promise.{frame_tells}
 use Rattle.buffer.specs.declared.FramesRead.{FramesRead}
+use Rattle.buffer.specs.Buffer.{FramesTold}
 use Rattle.buffer.specs.Promise.{ReadFrames}
 use Rattle.parser.proofs.Entries.{said_done}
-use Rattle.spop.specs.Told.{number_of, at_of, value_or, Told, Left}
-use Rattle.spop.specs.Values.{head_numbers, total_numbers, stop_said}
+use Rattle.spop.specs.Told.{result_of, at_of, value_or, Told, Left}
+use Rattle.spop.specs.Inner.{stop_answer}
+use Rattle.spop.specs.Values.{head_numbers, total_numbers}
 use Rattle.spop.specs.Promise.{HeadTold, SpopReadFrames}
 
 -- a reader was told a value, or a refusal
@@ -29,13 +36,13 @@ module _ {A B : Type 0} {a : Answer A} (form : A → B) (before : B) where
   kept e = sym (ap (λ (x : Answer A). value_or form x before) e)
 
   pub told_done : {value : A} {n : ℕ} → a ≡ done value n → Told a 0 n × (form value ≡ value_or form a before)
-  told_done e = (record { says = sym (ap number_of e); where_at = sym (ap at_of e) }, kept e)
+  told_done e = (record { says = sym (ap result_of e); where_at = sym (ap at_of e) }, kept e)
 
   pub told_refused : {number place r at : ℕ} → a ≡ refused number place → (r ≡ number) × (at ≡ place) → Told a r at × (before ≡ value_or form a before)
-  told_refused e t = (record { says = t.0 ∙ sym (ap number_of e); where_at = t.1 ∙ sym (ap at_of e) }, kept e)
+  told_refused e t = (record { says = t.0 ∙ sym (ap result_of e); where_at = t.1 ∙ sym (ap at_of e) }, kept e)
 
 -- a writer's own answer has the count alone, which is all that is told of it
-number_tells : (a : Answer (List ℕ)) → number_of (tells a) ≡ number_of a
+number_tells : (a : Answer (List ℕ)) → result_of (tells a) ≡ result_of a
 number_tells (done value n) = refl
 number_tells (refused number place) = refl
 
@@ -43,11 +50,11 @@ at_tells : (a : Answer (List ℕ)) → at_of (tells a) ≡ at_of a
 at_tells (done value n) = refl
 at_tells (refused number place) = refl
 
-pub left_writes : {a : Answer (List ℕ)} {w : Written} {old new : List ℕ} {r at : ℕ} → Writes a w old new → Told (said w) r at → Left a r at old new
+pub left_writes : {a : Answer (List ℕ)} {w : Result ℕ Refusal} {old new : List ℕ} {r at : ℕ} → Writes a w old new → Told (said w) r at → Left a r at old new
 left_writes {a} {old = old} p t =
     let b = within (length old) a in (
       record {
-        says = t.says ∙ ap number_of p.says ∙ number_tells b;
+        says = t.says ∙ ap result_of p.says ∙ number_tells b;
         where_at = t.where_at ∙ ap at_of p.says ∙ at_tells b;
       },
       p.holds,
@@ -82,15 +89,20 @@ module _ (side : Side) (before : List ℕ) (x : Reading (Head × Contents)) wher
   pub head_refused : (number place : ℕ) {r at : ℕ} → answered (refused number place) ≡ frame_tells x → (r ≡ number) × (at ≡ place) → HeadTold side x r at before before
   head_refused number place e t = told_refused form before (said_refused x number place e) t
 
+  -- so it is where there is no frame
+  pub head_stopped : (e : Stop) {r at : ℕ} → stop_said e ≡ frame_tells x → Told (stop_answer e) r at → HeadTold side x r at before before
+  head_stopped (stop.Wait n) {r} {at} e t = subst (λ (k : ℕ). HeadTold side x k at before before) (sym t.says) (subst (λ (k : ℕ). HeadTold side x 1 k before before) (sym t.where_at) (head_wait n e))
+  head_stopped (stop.Refused why) e t = head_refused (number_of why.reason) why.place e (t.says, t.where_at)
+
 -- ---- what the reader of a buffer said
 
-pub frames_told : {input : List ℕ} {limit : ℕ} {x : FramesRead} {old_rows new_rows old_messages new_messages old_pairs new_pairs : List ℕ} {n place r at : ℕ}
-    → ReadFrames input limit x old_rows new_rows old_messages new_messages old_pairs new_pairs → stop_said x.stop ≡ refused n place → (r ≡ n) × (at ≡ place)
+pub frames_told : {input : List ℕ} {limit : ℕ} {x : FramesRead} {old_rows new_rows old_messages new_messages old_pairs new_pairs : List ℕ} {r at : ℕ}
+    → ReadFrames input limit x old_rows new_rows old_messages new_messages old_pairs new_pairs → Told (stop_answer x.stop) r at
     → SpopReadFrames input limit r at (total_numbers x.totals) old_rows new_rows old_messages new_messages old_pairs new_pairs
-frames_told e is t =
-    let stop = ap (λ (y : FramesRead). stop_said y.stop) (sym e.says) ∙ is in
+frames_told e t =
+    let stop = ap (λ (y : FramesTold). answer_of y.stop) e.says in
     record {
-      told = record { says = t.0 ∙ sym (ap number_of stop); where_at = t.1 ∙ sym (ap at_of stop) };
-      sums = ap (λ (y : FramesRead). total_numbers y.totals) e.says;
-      fills = record { says = refl; rows = e.rows; messages = e.messages; pairs = e.pairs };
+      told = record { says = t.says ∙ ap result_of stop; where_at = t.where_at ∙ ap at_of stop };
+      sums = ap (λ (y : FramesTold). total_numbers y.totals) e.says;
+      fills = e.fills;
     }

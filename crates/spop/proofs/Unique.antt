@@ -14,7 +14,7 @@ use Rattle.frame.specs.declared.Pair.{Pair}
 use Rattle.frame.specs.declared.Side.{Side}
 use Rattle.frame.specs.Read.{Reading}
 use Rattle.payload.specs.Payload.{Contents}
-use Rattle.spop.specs.Told.{number_of, at_of, value_or, Told, Left}
+use Rattle.spop.specs.Told.{result_of, at_of, value_or, Told, Left}
 use Rattle.spop.specs.Promise.{FrameTold, SpopDecodeVarint, SpopSameTextPlain, SpopTypedData, SpopReadPair, SpopReadFrame, SpopReadFrameRecords, SpopReadAgentFrame, SpopReadFrames, SpopNegotiateVersion}
 
 -- of a call that tells an answer
@@ -48,7 +48,7 @@ pub spop_same_text_plain : (a b : List ℕ) (one two before : Bool) (r at : ℕ)
 unfolding same_text
 spop_same_text_plain a b one two before r at a_old a_new b_old b_new h g p s =
     let e = both_fit a b a_old b_old _ h g in
-    (s.told.says ∙ ap number_of e, s.told.where_at ∙ ap at_of e, s.value ∙ ap (λ (x : Answer Bool). value_or (λ b. b) x before) e ∙ sym p)
+    (s.told.says ∙ ap result_of e, s.told.where_at ∙ ap at_of e, s.value ∙ ap (λ (x : Answer Bool). value_or (λ b. b) x before) e ∙ sym p)
 
 pub spop_negotiate_version_unique : (versions : List ℕ) (r q : Bool) (before version other : List ℕ)
     → SpopNegotiateVersion versions r before version → SpopNegotiateVersion versions q before other → (r ≡ q) × (version ≡ other)

@@ -15,11 +15,11 @@ use Rattle.payload.specs.Payload.{Contents}
 use Rattle.payload.specs.Promise.{counts_of, rooms_of, Fills}
 use Rattle.parser.specs.Frame.{frame_read}
 use Rattle.parser.specs.Promise.{contents_read}
-use Rattle.buffer.specs.Promise.{frames_in, ReadFrames}
+use Rattle.buffer.specs.Promise.{frames_in, FramesFill}
 use Rattle.records.specs.Promise.{rooms_for, FillsRecords}
 use Rattle.hello.specs.Hello.{announced, choice}
 use Rattle.spop.specs.Told.{Told, value_or, chosen_of}
-use Rattle.spop.specs.Values.{record_numbers, head_numbers, total_numbers, stop_said}
+use Rattle.spop.specs.Values.{record_numbers, head_numbers, total_numbers}
 
 abbrev pub SpopDecodeVarint : List ℕ → ℕ → ℕ → ℕ → ℕ → Type 0
 SpopDecodeVarint input r at before value = (Told (number input) r at × (value ≡ value_or (λ n. n) (number input) before)) × Exactly input (number input)
@@ -59,9 +59,9 @@ pub record SpopReadFrameRecords (input : List ℕ) (limit r at : ℕ) (before he
 
 -- All frames of a receive buffer: what stopped it is told, and `counts` and the tables take what was read.
 pub record SpopReadFrames (input : List ℕ) (limit r at : ℕ) (counts old_rows new_rows old_messages new_messages old_pairs new_pairs : List ℕ) : Type 0 where
-  pub told : Told (stop_said (frames_in input limit old_rows old_messages old_pairs).told.stop) r at
+  pub told : Told (answer_of (frames_in input limit old_rows old_messages old_pairs).told.stop) r at
   pub sums : counts ≡ total_numbers (frames_in input limit old_rows old_messages old_pairs).told.totals
-  pub fills : ReadFrames input limit (frames_in input limit old_rows old_messages old_pairs).told old_rows new_rows old_messages new_messages old_pairs new_pairs
+  pub fills : FramesFill (frames_in input limit old_rows old_messages old_pairs).frames old_rows new_rows old_messages new_messages old_pairs new_pairs
 
 abbrev pub SpopNegotiateVersion : List ℕ → Bool → List ℕ → List ℕ → Type 0
 SpopNegotiateVersion versions r before version = (r ≡ announced versions) × (version ≡ chosen_of (choice versions) before)

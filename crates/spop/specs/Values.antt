@@ -1,14 +1,11 @@
 -- What a C program has in numbers: a value is four of them, kind, a, b and flags; a pair and a frame's head are six each.
 use Rattle.std.specs.Prelude.{List, [], ◌∷◌, ℕ, get_or}
-use Rattle.answer.specs.Answer.{Answer, refused}
 use Rattle.types.specs.Value.{Record, value}
 use Rattle.frame.specs.declared.Head.{Head}
 use Rattle.frame.specs.declared.Side.{Side}
 use Rattle.frame.specs.declared.Side.TheVariants as side
 use Rattle.payload.specs.declared.Counts.{Counts}
 use Rattle.buffer.specs.declared.Totals.{Totals}
-use Rattle.buffer.specs.declared.Stop.{Stop}
-use Rattle.buffer.specs.declared.Stop.TheVariants as s
 
 -- the record that the numbers are, and its numbers
 abbrev pub record_in : List ℕ → Record
@@ -25,11 +22,6 @@ two_counts side.Agents n = n.pairs ∷ n.actions ∷ []
 -- frames, messages, pairs and bytes
 abbrev pub total_numbers : Totals → List ℕ
 total_numbers x = x.frames ∷ x.messages ∷ x.pairs ∷ x.bytes ∷ []
-
--- what stopped the reading of a buffer, as an answer, in which 1 stands for a wait
-abbrev pub stop_said : Stop → Answer Unit
-stop_said (s.Wait missing) = refused 1 missing
-stop_said (s.Refused r) = refused r.number r.place
 
 -- type, flags, stream id, frame id, and the two counts
 abbrev pub head_numbers : Side → Head → Counts → List ℕ

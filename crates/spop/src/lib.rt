@@ -7,12 +7,14 @@
 #![tactic(auto)]
 
 ghost use Rattle.std.specs.Prelude.{◌≡◌, length};
+ghost use Rattle.answer.specs.Reason.{number_of};
 ghost use Rattle.answer.specs.Writes.{said};
-ghost use Rattle.types.specs.Promise.{record_of};
+ghost use Rattle.frame.specs.declared.Head.{Head};
 ghost use Rattle.frame.specs.Read.{Reading};
 ghost use Rattle.payload.specs.Payload.{Contents};
 ghost use Rattle.parser.specs.Promise.{frame_said, frame_tells};
 ghost use Rattle.spop.specs.Told.{Told, Left};
+ghost use Rattle.spop.specs.Inner.{stop_answer};
 ghost use Rattle.spop.specs.Values.{record_in, head_numbers};
 ghost use Rattle.spop.specs.Promise.{HeadTold, SpopDecodeVarint, SpopSameTextPlain, SpopTypedData, SpopReadPair, SpopReadFrame, SpopReadFrameRecords, SpopReadAgentFrame, SpopReadFrames, SpopNegotiateVersion};
 ghost use Rattle.types.specs.Form.{value_answer, length_of};
@@ -24,17 +26,15 @@ ghost use Rattle.types.specs.Check.{value_checks};
 ghost use Rattle.varint.specs.Number.{number_bytes};
 ghost use Rattle.writer.specs.Frame.{head_of, actions_answer, notify_answer, kv_answer};
 
-use answer::{Refusal, WAIT, Written};
-use buffer::Stop;
-use frame::{Head, PAIR_WIDTH, Pair, Side};
-use hello::{Chosen, Size};
-use parser::FrameRead;
-use payload::{Counts, PairRead};
-use plain::Compared;
-use types::{VALUE_WIDTH, Value, ValueRead};
-use varint::NumberRead;
+use answer::{Read, Refusal};
+use frame::{PAIR_WIDTH, Pair, Side, Stop};
+use parser::Frame;
+use types::{VALUE_WIDTH, Value};
 
+// What a call answers that is no refusal: it is done, or the frame is not whole yet. C has numbers for its answers.
 const DONE: u64 = 0;
+
+const WAIT: u64 = 1;
 
 pub fn spop_varint_len(n: u64) -> u64
     ensures { result ≡ length (number_bytes n) }
@@ -53,12 +53,12 @@ pub fn spop_decode_varint(input: &[u8], value: &mut u64, at: &mut u64) -> u64
     ensures { SpopDecodeVarint input.now result at.new value.old value.new }
 {
     match varint::decode_varint(input) {
-        NumberRead::Done { value: n, used } => {
-            *value = n;
-            *at = used as u64;
+        Ok(read) => {
+            *value = read.value;
+            *at = read.used as u64;
             DONE
         },
-        NumberRead::Refused(r) => refuse(r, at),
+        Err(r) => refuse(r, at),
     }
 }
 
@@ -85,12 +85,12 @@ pub fn spop_same_text_plain(
     ensures { SpopSameTextPlain a.now b.now result at.new same.old same.new a_text.old a_text.new b_text.old b_text.new }
 {
     match plain::same_text_plain(a, b, a_text, b_text) {
-        Compared::Done(are) => {
+        Ok(are) => {
             *same = are;
             *at = 0;
             DONE
         },
-        Compared::Refused(r) => refuse(r, at),
+        Err(r) => refuse(r, at),
     }
 }
 
@@ -105,25 +105,28 @@ pub fn spop_typed_data(input: &[u8], value: &mut [u64; VALUE_WIDTH], at: &mut u6
     ensures { SpopTypedData input.now result at.new value.old value.new }
 {
     match types::typed_data(input) {
-        ValueRead::Done { value: v, used } => {
-            *value = [v.kind, v.a, v.b, v.flags];
-            *at = used as u64;
+        Ok(read) => {
+            *value = read.value.into();
+            *at = read.used as u64;
             DONE
         },
-        ValueRead::Refused(r) => refuse(r, at),
+        Err(r) => refuse(r, at),
     }
 }
 
 pub fn spop_value_len(value: &[u64; VALUE_WIDTH], buffer: &[u8]) -> u64
     ensures { result ≡ length_of (value_answer buffer.now (record_in value.now)) }
 {
-    types::value_len(value_of(value), buffer) as u64
+    types::value_len(Value::from(*value), buffer) as u64
 }
 
 pub fn spop_check_value(value: &[u64; VALUE_WIDTH], buffer: &[u8]) -> u64
     ensures { result ≡ in_order (value_checks buffer.now (record_in value.now)) 0 }
 {
-    types::check_value(value_of(value), buffer)
+    match types::check_value(Value::from(*value), buffer) {
+        Ok(()) => DONE,
+        Err(reason) => reason.into(),
+    }
 }
 
 pub fn spop_write_value(
@@ -134,39 +137,20 @@ pub fn spop_write_value(
 ) -> u64
     ensures { Left (value_answer buffer.now (record_in value.now)) result at.new out.old out.new }
 {
-    let answer = types::write_value(value_of(value), buffer, out);
+    let answer = types::write_value(Value::from(*value), buffer, out);
     tell(answer, at)
-}
-
-// The record that a value's lent numbers are.
-fn value_of(value: &[u64; VALUE_WIDTH]) -> Value
-    ensures { record_of result ≡ record_in value.now }
-{
-    Value {
-        kind: value[0],
-        a: value[1],
-        b: value[2],
-        flags: value[3],
-    }
 }
 
 pub fn spop_read_pair(input: &[u8], pair: &mut [u64; PAIR_WIDTH], at: &mut u64) -> u64
     ensures { SpopReadPair input.now result at.new pair.old pair.new }
 {
     match payload::read_pair(input) {
-        PairRead::Done { pair: p, used } => {
-            *pair = [
-                p.start,
-                p.len,
-                p.value.kind,
-                p.value.a,
-                p.value.b,
-                p.value.flags,
-            ];
-            *at = used as u64;
+        Ok(read) => {
+            *pair = read.value.into();
+            *at = read.used as u64;
             DONE
         },
-        PairRead::Refused(r) => refuse(r, at),
+        Err(r) => refuse(r, at),
     }
 }
 
@@ -181,7 +165,7 @@ pub fn spop_read_frame(
     ensures { SpopReadFrame input.now limit result at.new head.old head.new messages.old messages.new pairs.old pairs.new }
 {
     let answer = parser::read_frame(input, limit, messages, pairs);
-    tell_frame(answer, head, at)
+    tell_side(answer, Side::HAProxy, head, at)
 }
 
 // The same with pair records for the pairs' numbers.
@@ -196,7 +180,7 @@ pub fn spop_read_frame_records(
     ensures { SpopReadFrameRecords input.now limit result at.new head.old head.new messages.old messages.new pairs.old pairs.new }
 {
     let answer = records::read_frame_records(input, limit, messages, pairs);
-    tell_frame(answer, head, at)
+    tell_side(answer, Side::HAProxy, head, at)
 }
 
 // The same for what agents send.
@@ -234,14 +218,7 @@ pub fn spop_read_frames(
         t.pairs as u64,
         t.bytes as u64,
     ];
-    let stop = read.stop;
-    match stop {
-        Stop::Wait(missing) => {
-            *at = missing as u64;
-            WAIT
-        },
-        Stop::Refused(r) => refuse(r, at),
-    }
+    tell_stop(read.stop, at)
 }
 
 pub fn spop_write_kv(
@@ -329,11 +306,11 @@ pub fn spop_negotiate_max_frame_size(theirs: u32, ours: u32, at: &mut u64) -> u6
     ensures { Told (frame_size theirs ours) result at.new }
 {
     match hello::negotiate_max_frame_size(theirs, ours) {
-        Size::Agreed(n) => {
+        Ok(n) => {
             *at = n as u64;
             DONE
         },
-        Size::Refused(r) => refuse(r, at),
+        Err(r) => refuse(r, at),
     }
 }
 
@@ -341,60 +318,51 @@ pub fn spop_negotiate_version(versions: &[u64], version: &mut [u64; 3]) -> bool
     ensures { SpopNegotiateVersion versions.now result version.old version.new }
 {
     match hello::negotiate_version(versions) {
-        Chosen::Version(v) => {
+        Some(v) => {
             *version = [v.major, v.minor, v.patch];
             true
         },
-        Chosen::None => false,
+        None => false,
     }
 }
 
 // What any writer answered.
-fn tell(answer: Written, at: &mut u64) -> u64
+fn tell(answer: Result<usize, Refusal>, at: &mut u64) -> u64
     ensures { Told (said answer) result at.new }
 {
     match answer {
-        Written::Done(count) => {
+        Ok(count) => {
             *at = count as u64;
             DONE
         },
-        Written::Refused(r) => refuse(r, at),
+        Err(r) => refuse(r, at),
     }
 }
 
-// What the reader of HAProxy's frames answers.
-fn tell_frame(answer: FrameRead, head: &mut [u64; 6], at: &mut u64) -> u64
-    ensures { (x : Reading (Head × Contents)) → frame_said answer ≡ frame_tells x → HeadTold Side.HAProxy x result at.new head.old head.new }
-{
-    tell_side(answer, Side::HAProxy, head, at)
-}
-
 // What the reader of a side's frames answers.
-fn tell_side(answer: FrameRead, side: Side, head: &mut [u64; 6], at: &mut u64) -> u64
+fn tell_side(
+    answer: Result<Read<Frame>, Stop>,
+    side: Side,
+    head: &mut [u64; 6],
+    at: &mut u64,
+) -> u64
     ensures { (x : Reading (Head × Contents)) → frame_said answer ≡ frame_tells x → HeadTold side x result at.new head.old head.new }
 {
     match answer {
-        FrameRead::Done {
-            head: h,
-            counts,
-            used,
-        } => {
-            *head = head_numbers(side, h, counts);
-            *at = used as u64;
+        Ok(read) => {
+            *head = head_numbers(side, read.value);
+            *at = read.used as u64;
             DONE
         },
-        FrameRead::Wait(missing) => {
-            *at = missing as u64;
-            WAIT
-        },
-        FrameRead::Refused(r) => refuse(r, at),
+        Err(stop) => tell_stop(stop, at),
     }
 }
 
 // The six numbers of a frame's head. The last two count messages and pairs, or pairs and actions, by the side that sends.
-fn head_numbers(side: Side, h: Head, counts: Counts) -> [u64; 6]
-    ensures { result ≡ head_numbers side h counts }
+fn head_numbers(side: Side, frame: Frame) -> [u64; 6]
+    ensures { result ≡ head_numbers side frame.head frame.counts }
 {
+    let Frame { head: h, counts } = frame;
     let frame_type = h.frame_type as u64;
     let flags = h.flags as u64;
     let messages = counts.messages as u64;
@@ -406,10 +374,23 @@ fn head_numbers(side: Side, h: Head, counts: Counts) -> [u64; 6]
     }
 }
 
+// Why there is no frame.
+fn tell_stop(stop: Stop, at: &mut u64) -> u64
+    ensures { Told (stop_answer stop) result at.new }
+{
+    match stop {
+        Stop::Wait(missing) => {
+            *at = missing as u64;
+            WAIT
+        },
+        Stop::Refused(r) => refuse(r, at),
+    }
+}
+
 // Any refusal.
 fn refuse(r: Refusal, at: &mut u64) -> u64
-    ensures { (result ≡ r.number) × (at.new ≡ r.place) }
+    ensures { (result ≡ number_of r.reason) × (at.new ≡ r.place) }
 {
     *at = r.place as u64;
-    r.number
+    r.reason.into()
 }

@@ -1,27 +1,28 @@
 -- Laws about lines that are not refused: of a frame that was read, whichever side sent it, the records stand in the tables; and so each has a line that
 -- lies in the bytes lent.
 use mathlib.Core.Path.{◌≡◌, refl, sym, ap, ◌∙◌}
-use mathlib.Core.Bool.{Bool, true, false}
 use mathlib.Core.List.{List, [], ◌∷◌, ◌++◌}
 use Prim.Native.Nat.{ℕ, ◌+◌, ◌*◌, ◌^◌, ◌≤◌, ◌<◌}
 use native.Mathlib.Omega.{arith}
 use lib.ListN.{length, take, get_or}
 use lib.Seq.{length-take-le}
-use Rattle.answer.specs.declared.Written.{Written}
-use Rattle.answer.specs.declared.Written.TheVariants as w
+use Rattle.std.specs.Prelude.{Result, Ok, Err}
+use Rattle.answer.specs.declared.Read.{Read}
+use Rattle.answer.specs.declared.Refusal.{Refusal}
 use Rattle.answer.specs.Answer.{Answer, done}
 use Rattle.answer.specs.Table.{holds, joined}
 use Rattle.answer.specs.Writes.{counted, Writes}
 use Rattle.answer.proofs.Cases.{bool_cases}
 use Rattle.frame.specs.declared.Head.{Head}
 use Rattle.frame.specs.declared.Side.{Side}
+use Rattle.frame.specs.declared.Side.TheVariants as side
 use Rattle.frame.specs.Read.{answered, sender}
 use Rattle.frame.specs.Records.{message_width, message_at, message_numbers, pair_width, pair_at, pair_numbers, action_width, action_at, action_numbers}
 use Rattle.payload.specs.declared.Counts.{Counts}
 use Rattle.payload.specs.Payload.{Contents}
 use Rattle.payload.specs.Promise.{counts_of, Fills}
-use Rattle.parser.specs.declared.FrameRead.{FrameRead}
-use Rattle.parser.specs.declared.FrameRead.TheVariants as f
+use Rattle.frame.specs.declared.Stop.{Stop}
+use Rattle.parser.specs.declared.Frame.{Frame}
 use Rattle.parser.specs.Frame.{frame_read}
 use Rattle.parser.specs.Promise.{frame_said, frame_tells, contents_read}
 use Rattle.parser.proofs.Entries.{said_done}
@@ -29,16 +30,17 @@ use Rattle.parser.proofs.Frames.{Cut, frame_cut}
 use Rattle.listing.specs.Check.{message_answer, pair_answer, action_answer}
 use Rattle.listing.specs.Order.{in_table}
 use Rattle.listing.proofs.Fitting.{Fits, fits_done, message_fits, pair_fits, action_fits}
+use Rattle.spoplist.specs.declared.Tables.{Tables}
 use Rattle.spoplist.specs.Inner.{limit, ReadsIn, Stands, StandMessages, StandPairs, StandActions, Lies}
 
 -- ---- a line lies in the bytes lent
 
-pub lies_counted : (r : Written) (out : List ℕ) → Lies r out → counted r ≤ length out
-lies_counted (w.Done n) out h = h
-lies_counted (w.Refused r) out h = absurd h
+pub lies_counted : (r : Result ℕ Refusal) (out : List ℕ) → Lies r out → counted r ≤ length out
+lies_counted (Ok n) out h = h
+lies_counted (Err r) out h = absurd h
 
 -- Law: one that fits does, once it is written.
-pub fits_lies : {a : Answer (List ℕ)} {r : Written} {old new : List ℕ} → Fits (length old) a → Writes a r old new → length new ≡ length old → Lies r new
+pub fits_lies : {a : Answer (List ℕ)} {r : Result ℕ Refusal} {old new : List ℕ} → Fits (length old) a → Writes a r old new → length new ≡ length old → Lies r new
 fits_lies g x e = let d = fits_done g x in rw d.1 (omega (arith, d.2, e))
 
 -- a number of a table is one of its words, or 0
@@ -111,12 +113,12 @@ side_stood x rooms s old_messages messages old_pairs pairs old_actions actions h
     stand numbers sort table many behind front =
         record { sent = sender x; rooms = rooms; head = h; contents = o.0; used = used; accepted = cut.is; many = many; behind = behind; front = front }
 
--- Law: after `read_one`.
-pub read_stood : (agents : Bool) (s old_messages messages old_pairs pairs old_actions actions : List ℕ) {r : FrameRead} (h : Head) (k : Counts) (used : ℕ)
-    → r ≡ f.Done h k used → ReadsIn agents s r old_messages messages old_pairs pairs old_actions actions → Stood (take used s) messages pairs actions k
-read_stood true s old_messages messages old_pairs pairs old_actions actions h k used is x =
-    let y = side_stood _ _ s _ _ _ _ _ _ h k used (ap frame_said (sym is) ∙ x.says) x.fills in
-    record { in_messages = stands_none messages y.in_messages; in_pairs_lem = y.in_pairs_lem; in_actions = y.in_actions; short = y.short }
-read_stood false s old_messages messages old_pairs pairs old_actions actions h k used is x =
-    let y = side_stood _ _ s _ _ _ _ _ _ h k used (ap frame_said (sym is) ∙ x.says) x.fills in
-    record { in_messages = y.in_messages; in_pairs_lem = y.in_pairs_lem; in_actions = stands_none actions y.in_actions; short = y.short }
+-- Law: after a frame was read.
+pub read_stood : (x : Side) (s : List ℕ) (old new : Tables) {r : Result (Read Frame) Stop} (read : Read Frame)
+    → r ≡ Ok read → ReadsIn x s r old new → Stood (take read.used s) new.messages new.pairs new.actions read.value.counts
+read_stood side.Agents s old new read is x =
+    let y = side_stood _ _ s _ _ _ _ _ _ read.value.head read.value.counts read.used (ap frame_said (sym is) ∙ x.says) x.fills in
+    record { in_messages = stands_none new.messages y.in_messages; in_pairs_lem = y.in_pairs_lem; in_actions = y.in_actions; short = y.short }
+read_stood side.HAProxy s old new read is x =
+    let y = side_stood _ _ s _ _ _ _ _ _ read.value.head read.value.counts read.used (ap frame_said (sym is) ∙ x.says) x.fills in
+    record { in_messages = y.in_messages; in_pairs_lem = y.in_pairs_lem; in_actions = stands_none new.actions y.in_actions; short = y.short }

@@ -1,47 +1,57 @@
 -- What only private contracts cite.
-use Rattle.std.specs.Prelude.{◌≡◌, Bool, cond, List, [], ◌++◌, ℕ, ◌+◌, ◌*◌, ◌≤◌, length}
-use Rattle.answer.specs.declared.Written.{Written}
-use Rattle.answer.specs.declared.Written.TheVariants as w
-use Rattle.answer.specs.Answer.{Answer, done, refused}
+use Rattle.std.specs.Prelude.{◌≡◌, Option, Some, None, Result, Ok, Err, List, [], ◌++◌, ℕ, ◌≤◌, length}
+use Rattle.answer.specs.declared.Read.{Read}
+use Rattle.answer.specs.declared.Refusal.{Refusal}
+use Rattle.answer.specs.Answer.{Answer, done}
+use Rattle.answer.specs.Reason.{number_of}
 use Rattle.answer.specs.Table.{joined}
 use Rattle.frame.specs.declared.Head.{Head}
+use Rattle.frame.specs.declared.Side.{Side}
 use Rattle.frame.specs.declared.Side.TheVariants as side
-use Rattle.frame.specs.Read.{Reading, Sender}
+use Rattle.frame.specs.declared.Stop.{Stop}
+use Rattle.frame.specs.declared.Stop.TheVariants as stop
+use Rattle.frame.specs.Promise.{stop_said}
+use Rattle.frame.specs.Read.{Reading, Sender, answer_of}
 use Rattle.frame.specs.Records.{message_numbers, pair_numbers, action_numbers}
 use Rattle.payload.specs.declared.Counts.{Counts}
 use Rattle.payload.specs.Payload.{Contents}
-use Rattle.payload.specs.Promise.{rooms_of}
-use Rattle.parser.specs.declared.FrameRead.{FrameRead}
+use Rattle.parser.specs.declared.Frame.{Frame}
 use Rattle.parser.specs.Frame.{framed, frame_read}
 use Rattle.parser.specs.Promise.{FrameFills}
 use Rattle.spoplist.specs.Listing.{taken, stop_of}
-use Rattle.spoplist.specs.declared.Listed.{Listed}
-use Rattle.spoplist.specs.declared.Listed.TheVariants as l
+use Rattle.spoplist.specs.declared.Tables.{Tables}
 use Rattle.spoplist.specs.declared.Ended.{Ended}
-use Rattle.spoplist.specs.declared.Ended.TheVariants as e
 
 -- the longest frame, its length bytes aside
 abbrev pub limit : ℕ
 limit = 65532
 
--- bytes for a line: two for each of such a frame, its length bytes among them, and 128 others
-abbrev pub line_room : ℕ
-line_room = 2 * (4 + limit) + 128
+-- how many records there is room for, of the frames that a side sends
+abbrev pub rooms : Side → Counts
+rooms side.HAProxy = record { messages = 64; pairs = 256; actions = 0 }
+rooms side.Agents = record { messages = 0; pairs = 256; actions = 256 }
 
--- A frame that agents send with the room of two tables, or one that HAProxy sends.
-abbrev pub read_in : Bool → List ℕ → List ℕ → List ℕ → List ℕ → Reading (Head × Contents)
-read_in agents messages pairs actions s =
-    cond agents (frame_read side.Agents limit (rooms_of [] pairs actions) s) (frame_read side.HAProxy limit (rooms_of messages pairs []) s)
+-- A frame that a side sends is read so.
+abbrev pub read_in : Side → List ℕ → Reading (Head × Contents)
+read_in x s = frame_read x limit (rooms x) s
 
 -- and what it takes
-abbrev pub side_in : Bool → List ℕ → List ℕ → List ℕ → List ℕ → Answer Unit
-side_in agents messages pairs actions s = taken (read_in agents messages pairs actions s)
+abbrev pub side_in : Side → List ℕ → Answer Unit
+side_in x s = taken (read_in x s)
+
+-- the tables for a side's frames: those of HAProxy have no actions, and those of an agent no messages
+abbrev pub messages_in : Side → Tables → List ℕ
+messages_in side.HAProxy tables = tables.messages
+messages_in side.Agents tables = []
+
+abbrev pub actions_in : Side → Tables → List ℕ
+actions_in side.HAProxy tables = []
+actions_in side.Agents tables = tables.actions
 
 -- It was read so, and two tables are filled with its records. Of the third, which the frames of its side have none for, nothing is said.
-abbrev pub ReadsIn : Bool → List ℕ → FrameRead → List ℕ → List ℕ → List ℕ → List ℕ → List ℕ → List ℕ → Type 0
-ReadsIn agents s r old_messages new_messages old_pairs new_pairs old_actions new_actions =
-    FrameFills (read_in agents old_messages old_pairs old_actions s) r (cond agents [] old_messages) (cond agents [] new_messages) old_pairs new_pairs
-    (cond agents old_actions []) (cond agents new_actions [])
+abbrev pub ReadsIn : Side → List ℕ → Result (Read Frame) Stop → Tables → Tables → Type 0
+ReadsIn x s r old new =
+    FrameFills (read_in x s) r (messages_in x old) (messages_in x new) old.pairs new.pairs (actions_in x old) (actions_in x new)
 
 -- a frame that was accepted takes so many bytes of those that are left
 pub record Accepts (input : List ℕ) (a : Answer Unit) (used : ℕ) : Type 0 where
@@ -49,16 +59,25 @@ pub record Accepts (input : List ℕ) (a : Answer Unit) (used : ℕ) : Type 0 wh
   pub some : 1 ≤ used
   pub most : used ≤ length input
 
+-- the last line's numbers: the answer that stopped a listing, 0 where no byte is left, and what goes with it
+abbrev pub end_number : Option Stop → ℕ
+end_number None = 0
+end_number (Some (stop.Wait missing)) = 1
+end_number (Some (stop.Refused r)) = number_of r.reason
+
+abbrev pub end_place : Option Stop → ℕ
+end_place None = 0
+end_place (Some (stop.Wait missing)) = missing
+end_place (Some (stop.Refused r)) = r.place
+
 -- what a frame that was listed, or that stopped it, was read as
-abbrev pub Takes : List ℕ → Answer Unit → Listed → Type 0
-Takes input a (l.Frame used) = Accepts input a used
-Takes input a (l.Stop r) = a ≡ refused r.number r.place
-Takes input a l.Closed = Unit
+abbrev pub Takes : List ℕ → Answer Unit → Result ℕ Stop → Type 0
+Takes input a (Ok used) = Accepts input a used
+Takes input a (Err why) = a ≡ answer_of (stop_said why)
 
 -- The last line says where the listing of the input stops, and why.
 abbrev pub Ends : List ℕ → (List ℕ → Answer Unit) → Ended → Type 0
-Ends input read (e.Behind used why) = stop_of read input ≡ record { used = used; number = why.number; at = why.place }
-Ends input read e.Closed = Unit
+Ends input read x = stop_of read input ≡ record { used = x.used; number = end_number x.stop; at = end_place x.stop }
 
 -- ---- lines that are not refused
 
@@ -84,6 +103,6 @@ abbrev pub StandActions : List ℕ → List ℕ → ℕ → Type 0
 StandActions = Stands action_numbers (λ c. c.actions)
 
 -- A line was not refused, and it lies in the bytes that were lent.
-abbrev pub Lies : Written → List ℕ → Type 0
-Lies (w.Done n) out = n ≤ length out
-Lies (w.Refused r) out = ⊥
+abbrev pub Lies : Result ℕ Refusal → List ℕ → Type 0
+Lies (Ok n) out = n ≤ length out
+Lies (Err r) out = ⊥

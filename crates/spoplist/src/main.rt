@@ -5,19 +5,20 @@
 
 #![tactic(auto)]
 
-ghost use Rattle.std.specs.Prelude.{◌+◌, ◌*◌, ◌≤◌, IfOk, length};
-ghost use Rattle.spoplist.specs.Inner.{line_room, ReadsIn, side_in, Takes, Ends, StandMessages, StandPairs, StandActions, Lies};
+ghost use Rattle.std.specs.Prelude.{◌≡◌, ◌+◌, ◌≤◌, IfOk, length};
+ghost use Rattle.spoplist.specs.Inner.{end_number, end_place, ReadsIn, side_in, Takes, Ends, limit, StandMessages, StandPairs, StandActions, Lies};
 
-use answer::{Refusal, WAIT, Written};
-use frame::{ACTION_WIDTH, MESSAGE_WIDTH, PAIR_WIDTH};
-use listing::{Place, Step};
-use parser::FrameRead;
+use answer::{Read, Refusal};
+use frame::{ACTION_WIDTH, MESSAGE_WIDTH, PAIR_WIDTH, Side, Stop};
+use listing::Place;
+use parser::Frame;
+use payload::Counts;
 use std::env::{Env, FillError};
 use std::io;
-use std::io::Read;
+use std::io::Read as _;
 
 // How many bytes are read at most.
-const INPUT: usize = 65_536;
+const INPUT: u64 = 65_536;
 
 // The longest frame that is read, its length bytes aside.
 const LIMIT: u32 = 65_532;
@@ -32,203 +33,140 @@ const ACTIONS: usize = 256 * ACTION_WIDTH;
 // Bytes for a line. The longest has two digits for each of a frame's bytes, and 128 others at most.
 const LINE: usize = 131_200;
 
-// What became of the bytes that are left: a frame that takes so many, or why there is none, or nobody to write to.
+// Three tables for a frame's records, which serve for all frames.
 #[derive(Drop)]
-enum Listed {
-    Frame(usize),
-    Stop(Refusal),
-    Closed,
+struct Tables {
+    messages: [u64; MESSAGES],
+    pairs: [u64; PAIRS],
+    actions: [u64; ACTIONS],
 }
 
-// How a listing ends: behind so many bytes of accepted frames, and why; or with nobody to write to.
-#[derive(Drop)]
-enum Ended {
-    Behind { used: usize, why: Refusal },
-    Closed,
+// What the last line has for a frame that is not whole.
+const WAIT: u64 = 1;
+
+// How a listing ends: behind so many bytes of accepted frames, and why there is no frame behind them, or nothing where no byte is left.
+#[derive(Clone, Copy)]
+struct Ended {
+    used: usize,
+    stop: Option<Stop>,
 }
 
 fn main(rt: HostRuntime) -> io::Result<()> {
-    if !are_words_known(&rt) {
+    let Some(side) = side_of(&rt) else {
         return rt.eprintln("usage: spoplist [agent] < FRAMES");
-    }
-    let mut input = [0u8; INPUT];
-    let n = read_full(&mut rt.stdin(), &mut input)?;
-    list(&rt, is_for_agents(&rt), &input[0..n]);
+    };
+    let mut input = Vec::new(rt.alloc());
+    rt.stdin().take(INPUT).read_to_end(&mut input)?;
+    // A listing that nobody reads any more ends quietly.
+    let _ = list(&rt, side, &input);
     Ok(())
 }
 
-// Whether there is no word, or `agent` alone. Word 0 is the program's own name.
-fn are_words_known(rt: &impl Env) -> bool {
-    if !is_given(rt, 1) {
-        return true;
+// Whose frames are listed: HAProxy's where there is no word, and an agent's where there is `agent` alone. Word 0 is the program's own name.
+fn side_of(rt: &impl Env) -> Option<Side> {
+    let mut word = [0; 8];
+    match rt.arg(1, &mut word) {
+        Err(FillError::NotPresent) => Some(Side::HAProxy),
+        Ok(n) if &word[..n] == b"agent".as_slice() && !is_given(rt, 2) => Some(Side::Agents),
+        _ => None,
     }
-    !is_given(rt, 2) && is_for_agents(rt)
 }
 
 // Whether there is such a word. It is lent no bytes, so one that is there is empty or does not fit.
 fn is_given(rt: &impl Env, word: usize) -> bool {
-    match rt.arg(word, &mut []) {
-        Err(FillError::NotPresent) => false,
-        _ => true,
-    }
+    !matches!(rt.arg(word, &mut []), Err(FillError::NotPresent))
 }
 
-// Whether the first word is `agent`: then the frames are an agent's.
-fn is_for_agents(rt: &impl Env) -> bool {
-    let mut word = [0u8; 8];
-    match rt.arg(1, &mut word) {
-        Ok(n) => &word[0..n] == b"agent".as_slice(),
-        Err(_) => false,
-    }
-}
-
-// Reads until the buffer is full or the input ends; how many bytes the buffer has then.
-fn read_full(input: &mut impl Read, buffer: &mut [u8]) -> io::Result<usize>
-    ensures { IfOk result (λ n. n ≤ length buffer.new) }
-{
-    let mut n = 0;
-    while n < buffer.len() {
-        let more = input.read(&mut buffer[n..])?;
-        if more == 0 {
-            return Ok(n);
-        }
-        n += more;
-    }
-    Ok(n)
-}
-
-// Lists the frames of the input, and writes the last line. Three tables for a frame's records and the bytes of a line serve for all.
-fn list(rt: &impl Print, agents: bool, input: &[u8]) {
-    let mut messages = [0u64; MESSAGES];
-    let mut pairs = [0u64; PAIRS];
-    let mut actions = [0u64; ACTIONS];
-    let mut out = [0u8; LINE];
-    match list_all(
-        rt,
-        agents,
-        input,
-        &mut messages,
-        &mut pairs,
-        &mut actions,
-        &mut out,
-    ) {
-        Ended::Behind { used, why } => {
-            end(rt, used, why, &mut out);
-        },
-        Ended::Closed => {},
-    }
+// Lists the frames of the input, and writes the last line.
+fn list(rt: &impl Print, side: Side, input: &[u8]) -> io::Result<()> {
+    let mut tables = Tables {
+        messages: [0; MESSAGES],
+        pairs: [0; PAIRS],
+        actions: [0; ACTIONS],
+    };
+    let mut line = [0; LINE];
+    let ended = list_all(rt, side, input, &mut tables, &mut line)?;
+    end(rt, ended, &mut line)
 }
 
 // Lists them one behind the other.
 fn list_all(
     rt: &impl Print,
-    agents: bool,
+    side: Side,
     input: &[u8],
-    messages: &mut [u64],
-    pairs: &mut [u64],
-    actions: &mut [u64],
-    out: &mut [u8],
-) -> Ended
-    requires { line_room ≤ length out.old }
-    ensures { Ends input.now (side_in agents messages.old pairs.old actions.old) result }
+    tables: &mut Tables,
+    out: &mut [u8; LINE],
+) -> io::Result<Ended>
+    ensures { IfOk result (Ends input.now (side_in side)) }
 {
+    // The place goes on by what a frame takes, which its reading tells: there is no range to go over, and the index is that of the frames.
     let mut at = 0;
-    let mut index: u64 = 0;
+    let mut index = 0;
     while at < input.len() {
-        match list_one(
-            rt,
-            agents,
-            index,
-            &input[at..],
-            messages,
-            pairs,
-            actions,
-            out,
-        ) {
-            Listed::Frame(used) => {
+        match list_one(rt, side, index, &input[at..], tables, out)? {
+            Ok(used) => {
                 at += used;
                 index += 1;
             },
-            Listed::Stop(why) => {
-                return Ended::Behind { used: at, why };
-            },
-            Listed::Closed => {
-                return Ended::Closed;
+            Err(stop) => {
+                return Ok(Ended {
+                    used: at,
+                    stop: Some(stop),
+                });
             },
         }
     }
-    Ended::Behind {
+    Ok(Ended {
         used: at,
-        why: Refusal {
-            number: 0,
-            place: 0,
-        },
-    }
+        stop: None,
+    })
 }
 
 // Reads the frame at the front of the bytes that are left, as one that either side sends, and lists it. One of HAProxy's has no actions, and one of an
 // agent's no messages.
 fn list_one(
     rt: &impl Print,
-    agents: bool,
+    side: Side,
     index: u64,
     rest: &[u8],
-    messages: &mut [u64],
-    pairs: &mut [u64],
-    actions: &mut [u64],
-    out: &mut [u8],
-) -> Listed
-    requires { line_room ≤ length out.old }
-    ensures { Takes rest.now (side_in agents messages.old pairs.old actions.old rest.now) result }
+    tables: &mut Tables,
+    out: &mut [u8; LINE],
+) -> io::Result<Result<usize, Stop>>
+    ensures { IfOk result (Takes rest.now (side_in side rest.now)) }
 {
-    match read_one(agents, rest, messages, pairs, actions) {
-        FrameRead::Done { head, counts, used } => {
-            if !print(
+    match tables.read(side, rest) {
+        Ok(read) => {
+            let Frame { head, counts } = read.value;
+            let used = read.used;
+            print(
                 rt,
                 listing::write_frame_line(index, head, used as u64, out),
                 out,
-            ) {
-                return Listed::Closed;
-            }
-            let frame = &rest[0..used];
-            if !list_records(
-                rt,
-                frame,
-                messages,
-                counts.messages,
-                pairs,
-                counts.pairs,
-                out,
-            ) {
-                return Listed::Closed;
-            }
-            if !list_actions(rt, frame, actions, counts.actions, out) {
-                return Listed::Closed;
-            }
-            Listed::Frame(used)
+            )?;
+            let frame = &rest[..used];
+            list_records(rt, frame, &tables.messages, &tables.pairs, counts, out)?;
+            list_actions(rt, frame, &tables.actions, counts.actions, out)?;
+            Ok(Ok(used))
         },
-        FrameRead::Wait(missing) => Listed::Stop(Refusal {
-            number: WAIT,
-            place: missing,
-        }),
-        FrameRead::Refused(r) => Listed::Stop(r),
+        Err(stop) => Ok(Err(stop)),
     }
 }
 
-// Reads it, with the two tables that the frames of its side have records for.
-fn read_one(
-    agents: bool,
-    rest: &[u8],
-    messages: &mut [u64],
-    pairs: &mut [u64],
-    actions: &mut [u64],
-) -> FrameRead
-    ensures { ReadsIn agents rest.now result messages.old messages.new pairs.old pairs.new actions.old actions.new }
-{
-    if agents {
-        return parser::read_agent_frame(rest, LIMIT, pairs, actions);
+impl Tables {
+    // Reads it, with the two tables that the frames of its side have records for.
+    fn read(&mut self, side: Side, rest: &[u8]) -> Result<Read<Frame>, Stop>
+        ensures { ReadsIn side rest.now result self.old self.new }
+    {
+        match side {
+            Side::HAProxy => parser::read_frame(rest, LIMIT, &mut self.messages, &mut self.pairs),
+            Side::Agents => parser::read_agent_frame(
+                rest,
+                LIMIT,
+                &mut self.pairs,
+                &mut self.actions,
+            ),
+        }
     }
-    parser::read_frame(rest, LIMIT, messages, pairs)
 }
 
 // Lists the actions of a frame that was accepted, line by line.
@@ -237,75 +175,83 @@ fn list_actions(
     frame: &[u8],
     actions: &[u64],
     count: usize,
-    out: &mut [u8],
-) -> bool
+    out: &mut [u8; LINE],
+) -> io::Result<()>
     requires stand_actions { StandActions frame.now actions.now count }
-    requires frame_in_bounds { 2 * length frame.now + 128 ≤ length out.old }
+    requires frame_in_bounds { length frame.now ≤ 4 + limit }
 {
-    let mut k = 0;
-    while k < count {
-        if !print(rt, listing::write_action_at(frame, actions, k, out), out) {
-            return false;
-        }
-        k += 1;
+    for k in 0..count {
+        print(rt, listing::write_action_at(frame, actions, k, out), out)?;
     }
-    true
+    Ok(())
 }
 
-// Lists the messages and pairs of a frame that was accepted, line by line.
+// Lists the messages and pairs of a frame that was accepted, line by line. A line says where the next one stands. The tables are longer than what the
+// frame has of each, so the counts go with them.
 fn list_records(
     rt: &impl Print,
     frame: &[u8],
     messages: &[u64],
-    count: usize,
     pairs: &[u64],
-    total: usize,
-    out: &mut [u8],
-) -> bool
-    requires stand_messages { StandMessages frame.now messages.now count }
-    requires stand_pairs { StandPairs frame.now pairs.now total }
-    requires frame_in_bounds { 2 * length frame.now + 128 ≤ length out.old }
+    counts: Counts,
+    out: &mut [u8; LINE],
+) -> io::Result<()>
+    requires stand_messages { StandMessages frame.now messages.now counts.messages }
+    requires stand_pairs { StandPairs frame.now pairs.now counts.pairs }
+    requires frame_in_bounds { length frame.now ≤ 4 + limit }
 {
-    let mut place = Place {
-        messages: 0,
-        pairs: 0,
-        left: 0,
-    };
+    let mut place = Place::default();
     loop {
-        match listing::write_next_line(frame, messages, count, pairs, total, place, out) {
-            Step::Line { len, place: next } => {
-                if rt.write_all(&out[0..len]).is_err() {
-                    return false;
-                }
-                place = next;
+        match listing::write_next_line(
+            frame,
+            messages,
+            counts.messages,
+            pairs,
+            counts.pairs,
+            place,
+            out,
+        ) {
+            Ok(Some(line)) => {
+                rt.write_all(&out[..line.len])?;
+                place = line.place;
             },
-            Step::End => {
-                return true;
+            Ok(None) => {
+                return Ok(());
             },
             // Never: of an accepted frame no line is refused where there is room, as the proof shows.
-            Step::Refused(_) => {
+            Err(_) => {
                 prove!(false);
-                return true;
+                return Ok(());
             },
         }
     }
 }
 
-// Writes the last line: how many bytes accepted frames took, and why there is no frame behind them.
-fn end(rt: &impl Print, used: usize, r: Refusal, out: &mut [u8])
-    requires { line_room ≤ length out.old }
+// The answer that stopped a listing, 0 where no byte is left, and what goes with it.
+fn end_numbers(stop: Option<Stop>) -> (u64, usize)
+    ensures number { result.0 ≡ end_number stop }
+    ensures place { result.1 ≡ end_place stop }
 {
-    print(
-        rt,
-        listing::write_end_line(used as u64, r.number, r.place as u64, out),
-        out,
-    );
+    match stop {
+        None => (0, 0),
+        Some(Stop::Wait(missing)) => (WAIT, missing),
+        Some(Stop::Refused(r)) => (r.reason.into(), r.place),
+    }
 }
 
-// Writes out a line that was not refused; whether there was somebody to write to.
-fn print(rt: &impl Print, answer: Written, out: &[u8]) -> bool
+// Writes the last line: how many bytes accepted frames took, and why there is no frame behind them.
+fn end(rt: &impl Print, ended: Ended, out: &mut [u8; LINE]) -> io::Result<()> {
+    let (number, at) = end_numbers(ended.stop);
+    print(
+        rt,
+        listing::write_end_line(ended.used as u64, number, at as u64, out),
+        out,
+    )
+}
+
+// Writes out a line that was not refused.
+fn print(rt: &impl Print, answer: Result<usize, Refusal>, out: &[u8]) -> io::Result<()>
     requires { Lies answer out.now }
 {
-    let n = answer::wrote(answer);
-    rt.write_all(&out[0..n]).is_ok()
+    rt.write_all(&out[..answer::wrote(answer)])
 }

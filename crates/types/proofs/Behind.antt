@@ -4,16 +4,17 @@ use mathlib.Core.Path.{◌≡◌, refl, sym, ap, ◌∙◌}
 use mathlib.Core.Bool.{true, cond, true≢false}
 use mathlib.Core.Logic.{⊎_elim}
 use mathlib.Core.List.{List}
-use Prim.Native.Nat.{ℕ, ◌+◌, ◌-◌, ◌≤◌, ◌<◌}
+use Prim.Native.Nat.{ℕ, ◌+◌, ◌-◌, ◌^◌, ◌≤◌, ◌<◌}
 use native.Mathlib.Omega.{arith}
 use lib.Dec.{leb}
 use lib.ListN.{length, take, drop, length-drop}
 use borrow.Author.Tests.{le-leb, lt-leb}
 use Rattle.answer.specs.Answer.{Answer, done, refused}
+use Rattle.answer.proofs.Answers.{ends, lent_ends}
 use Rattle.answer.proofs.Cases.{lt_or_le}
 use Rattle.answer.proofs.Output.{lent_tail_lem}
 use Rattle.varint.specs.Number.{number}
-use Rattle.varint.proofs.Reading.{accepted, number_place}
+use Rattle.varint.proofs.Reading.{accepted, number_place, number_ends}
 use Rattle.types.specs.Value.{Width, Shape, nothing, flag, integer, address, text, reserved, shape, value, narrowed}
 use Rattle.types.specs.Inner.{ReadsKind, numbered}
 use Rattle.types.proofs.Reading.{string_refused, string_whole, string_short, integer_refused, integer_whole, address_short, address_whole, text_refused, text_whole, behind_refused, behind_plain, behind_start}
@@ -34,6 +35,10 @@ module _ (s : List ℕ) (some : 0 < length s) {a : Answer ℕ} (read : a ≡ num
 
   pub some_bound : (n used : ℕ) → a ≡ done n used → 1 + used ≤ length s
   some_bound n used is = one_more s used some (accepted (drop 1 s) n used (tail number s read is)).2
+
+  -- as far as a count of 64 bits goes
+  pub bound : length s < 2 ^ 63 → 1 + ends a < 2 ^ 64
+  bound long = omega (arith, lent_ends number number_ends s 1 read some)
 
   module _ (kind flags : ℕ) where
     pub number_none : numbered (shape kind) ≡ true → (n place : ℕ) → a ≡ refused n place → ReadsKind kind flags s (refused n (1 + place))

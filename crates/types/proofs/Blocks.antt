@@ -3,35 +3,14 @@ use mathlib.Core.Path.{◌≡◌, refl, sym, ap, ap₂, ◌∙◌}
 use mathlib.Core.List.{List, ◌++◌, append_assoc}
 use Prim.Native.Nat.{ℕ, ◌+◌, ◌-◌, ◌≤◌}
 use native.Mathlib.Omega.{arith}
-use lib.ListN.{length, take, drop, length-append, length-drop, take-append-drop}
-use lib.Seq.{length-take-le, take-add, take_at, take-take, take-append-le, drop-append-add, drop-drop}
-use borrow.Rule.Slice.PartMut.{put_mid}
+use lib.ListN.{length, take, drop}
+use lib.Seq.{length-take-le, take-add, take-take, take-append-le, drop-append-add, drop-drop}
 use Rattle.answer.specs.Answer.{written, leaves}
-use Rattle.answer.proofs.Output.{Partly, partly_all, leaves_tail}
+use Rattle.answer.proofs.Output.{Partly, partly_all}
 use Rattle.answer.proofs.Parts.{copy_all}
 use Rattle.types.specs.Inner.{block}
 
 module _ (bytes : List ℕ) (at n : ℕ) (fits : at + n ≤ length bytes) where
-  pub part_long : length (take n (drop at bytes)) ≡ n
-  part_long = length-take-le n (drop at bytes) (simp length-drop (omega arith))
-
-  -- the block by itself, at the front of what it was read into
-  pub own_part : (own zeros : List ℕ) (m : ℕ) → m ≡ n → own ≡ leaves (written (take m (drop at bytes))) zeros → take n own ≡ take n (drop at bytes)
-  own_part own zeros m e is =
-      ap (take n) (is ∙ ap (λ (k : ℕ). leaves (written (take k (drop at bytes))) zeros) e)
-      ∙ take_at (take n (drop at bytes)) (drop (length (take n (drop at bytes))) zeros) n part_long
-
-  -- and at its place, by whoever was lent the tail from there
-  pub block_put : (out tail part : List ℕ) → at ≤ length out → part ≡ take n (drop at bytes)
-      → tail ≡ leaves (written part) (take (length out - at) (drop at out)) → put_mid at (length out - at) out tail ≡ block bytes at n out
-  block_put out tail part h is then =
-      leaves_tail (take at out) part out out tail at front_long (sym (ap (λ (k : ℕ). take at out ++ drop k out) front_long ∙ take-append-drop at out)) then
-      ∙ append_assoc (take at out) part (drop (length (take at out ++ part)) out)
-      ∙ ap₂ (λ (l : List ℕ) (k : ℕ). take at out ++ (l ++ drop k out)) is (length-append (take at out) part ∙ ap₂ ◌+◌ front_long (ap length is ∙ part_long))
-    where
-      front_long : length (take at out) ≡ at
-      front_long = length-take-le at out h
-
   -- A copy that has come to k goes on to the end of a block that starts no further.
   pub block_next : (old out : List ℕ) (k : ℕ) → Partly bytes old k (drop k bytes) out → at ≤ k → k ≤ at + n
       → Partly bytes old (at + n) (drop (at + n) bytes) (block bytes at n out)

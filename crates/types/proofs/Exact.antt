@@ -5,12 +5,13 @@ use mathlib.Core.List.{List, ◌∷◌}
 use Prim.Native.Nat.{ℕ, ◌+◌, ◌-◌, ◌%◌}
 use native.Mathlib.Omega.{arith}
 use lib.ListN.{take}
+use Rattle.types.specs.declared.Span.{Span}
 use Rattle.answer.specs.Answer.{Answer, done, refused, behind}
 use Rattle.answer.proofs.Cases.{answer_cases, not_both}
 use Rattle.varint.specs.Number.{number, number_bytes}
 use Rattle.varint.proofs.Reading.{Bytes, number_exact}
-use Rattle.types.specs.Value.{Span, span, string, Shape, nothing, flag, integer, address, text, reserved, shape, Record, value, points, moved, narrowed, content, upper, typed}
-use Rattle.types.proofs.Reading.{string_cases, string_refused, string_whole, string_short, typed_some, value_same, integer_whole, integer_refused, text_whole, text_refused, content_accepted}
+use Rattle.types.specs.Value.{span, string, Shape, nothing, flag, integer, address, text, reserved, shape, Record, value, points, moved, narrowed, content, upper, typed}
+use Rattle.types.proofs.Reading.{span_same, string_cases, string_refused, string_whole, string_short, typed_some, value_same, integer_whole, integer_refused, text_whole, text_refused, content_accepted}
 
 -- Law: so did the length number of a string.
 pub string_exact : (s : List ℕ) (start len used : ℕ) → Bytes s → string s ≡ done (span start len) used → take start s ≡ number_bytes len
@@ -19,9 +20,8 @@ string_exact s start len used small e =
     (λ n place r. not_both e (string_refused s n place r))
     (λ n u d h.
     let one : done (span u n) (u + n) ≡ done (span start len) used = sym (string_whole s n u d h) ∙ e in
-    let p : u ≡ start = cc in
-    let q : n ≡ len = cc in
-    ap (λ (m : ℕ). take m s) (sym p) ∙ number_exact s n u small d ∙ ap number_bytes q)
+    let p = span_same one in
+    ap (λ (m : ℕ). take m s) (sym p.0) ∙ number_exact s n u small d ∙ ap number_bytes p.1)
     (λ n u d h. not_both e (string_short s n u d h))
 
 -- What that says of the DATA of a kind, of which so many bytes were taken: of an integer, before its low 32 bits are kept; of bytes, before them.
@@ -46,9 +46,9 @@ content_exact (address n) kind flags s k a b f used small e = tt
 content_exact text kind flags s k a b f used small e = go (string s) refl
   where
     go : (x : Answer Span) → string s ≡ x → DataExact text s a b used
-    go (done (span start len) u) d =
-        let p = value_same (sym (text_whole kind flags s start len u d) ∙ e) in
-        ap (λ (m : ℕ). take m s) (sym p.1) ∙ string_exact s start len u small d ∙ ap number_bytes p.2
+    go (done x u) d =
+        let p = value_same (sym (text_whole kind flags s x.start x.len u d) ∙ e) in
+        ap (λ (m : ℕ). take m s) (sym p.1) ∙ string_exact s x.start x.len u small d ∙ ap number_bytes p.2
     go (refused n place) r = not_both e (text_refused kind flags s n place r)
 content_exact reserved kind flags s k a b f used small e = tt
 

@@ -8,7 +8,8 @@ use native.Mathlib.Omega.{arith}
 use lib.ListN.{length, take, drop, set}
 use borrow.Rule.Slice.PartMut.{put_mid}
 use borrow.Author.Tests.{le-leb, lt-leb}
-use Rattle.answer.specs.declared.Written.{Written}
+use Rattle.std.specs.Prelude.{Result}
+use Rattle.answer.specs.declared.Refusal.{Refusal}
 use Rattle.answer.specs.Answer.{Answer, done, refused, written, within, tells}
 use Rattle.answer.specs.Writes.{counted, Writes}
 use Rattle.answer.proofs.Cases.{lt_or_le}
@@ -30,7 +31,7 @@ module _ {a : Answer (List ℕ)} (bytes old : List ℕ) (is : a ≡ written byte
   puts_whole h p = rw is (simp (le-leb (length bytes) (length old) h) p)
 
 -- what another writer wrote, where there is room
-pub puts_wrote : (bytes : List ℕ) {old new : List ℕ} {r : Written} {n : ℕ}
+pub puts_wrote : (bytes : List ℕ) {old new : List ℕ} {r : Result ℕ Refusal} {n : ℕ}
     → Writes (written bytes) r old new → length bytes ≤ length old → n ≡ counted r → Puts (written bytes) n old new
 puts_wrote bytes p room e = record { counts = e ∙ room_counted bytes p room; holds = room_leaves bytes p room }
 

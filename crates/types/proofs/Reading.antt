@@ -1,28 +1,39 @@
 -- Laws about reading a string and a value: how each unrolls, what an accepted one says of the bytes, and that bytes
 -- appended change neither it nor any refusal but 3.
+use Rattle.std.specs.Prelude.{Result, Ok, Err}
+use Rattle.answer.specs.declared.Read.{Read}
+use Rattle.answer.specs.declared.Refusal.{Refusal}
+use Rattle.answer.specs.Writes.{read_said}
+use Rattle.types.specs.declared.Value.{Value}
+use Rattle.types.specs.Promise.{record_of, value_said}
 use mathlib.Core.Path.{◌≡◌, refl, sym, ap, ◌∙◌}
 use mathlib.Core.Bool.{true, false, cond, true≢false}
 use mathlib.Core.Logic.{⊎_elim}
 use mathlib.Core.List.{List, [], ◌∷◌, ◌++◌}
 use Prim.Native.Nat.{ℕ, suc, ◌+◌, ◌%◌, ◌^◌, ◌≤◌, ◌<◌}
 use native.Mathlib.Omega.{arith}
-use lib.Seq.{drop-cons}
-use lib.ListN.{length, drop, get_or, length-append, drop_of_length-le}
+use lib.ListN.{length, drop, length-append, drop_of_length-le}
 use borrow.Author.Tests.{le-leb, lt-leb}
+use Rattle.types.specs.declared.Span.{Span}
 use Rattle.answer.specs.Answer.{Answer, done, refused, next, behind}
 use Rattle.varint.specs.Number.{number}
-use Rattle.answer.proofs.Cases.{lt_or_le, answer_cases, not_both}
+use Rattle.answer.proofs.Answers.{done_same, ends}
+use Rattle.answer.proofs.Cases.{Stands, stands_first, lt_or_le, answer_cases, not_both}
 use Rattle.varint.proofs.Reading.{accepted, number_place, number_kept, accepted_kept}
 use Rattle.types.proofs.Shapes.{shape_listed, InWidth, signed_again, Fields, Flags}
-use Rattle.types.specs.Value.{Span, span, string, Shape, nothing, flag, integer, address, text, reserved, Width, signed32, unsigned32, whole64, shape, Record, value, points, moved, narrowed, spanned, content, upper, typed}
+use Rattle.types.specs.Value.{span, string, Shape, nothing, flag, integer, address, text, reserved, Width, signed32, unsigned32, whole64, shape, Record, value, points, moved, narrowed, spanned, content, upper, typed}
 
 -- any answer but 3, which bytes appended may change
-abbrev pub Stands : {A : Type 0} → Answer A → Type 0
-Stands a = (place : ℕ) → a ≡ refused 3 place → ⊥
+abbrev pub Stays : {A : Type 0} → Answer A → Type 0
+Stays a = (place : ℕ) → a ≡ refused 3 place → ⊥
 
 -- a refusal is its number and its place
 refused_same : {A : Type 0} {n place m p : ℕ} → ◌≡◌ {A = Answer A} (refused n place) (refused m p) → (n ≡ m) × (place ≡ p)
 refused_same e = ((cc), (cc))
+
+-- and an accepted string is its parts
+pub span_same : {a b n c d m : ℕ} → done (span a b) n ≡ done (span c d) m → (a ≡ c) × (b ≡ d) × (n ≡ m)
+span_same e = let both = done_same e in (ap (λ (p : Span). p.start) both.0, ap (λ (p : Span). p.len) both.0, both.1)
 
 -- ---- strings
 
@@ -58,9 +69,7 @@ module _ (s : List ℕ) where
       (λ n place r. not_both e (string_refused n place r))
       (λ n u d h.
       let one : done (span u n) (u + n) ≡ done (span start len) used = sym (string_whole n u d h) ∙ e in
-      let p : u ≡ start = cc in
-      let q : n ≡ len = cc in
-      let o : u + n ≡ used = cc in
+      let q = span_same one in
       let k = accepted s n u d in
       omega arith)
       (λ n u d h. not_both e (string_short n u d h))
@@ -73,8 +82,14 @@ string_place s n place e =
     (λ m u d h. not_both (string_whole s m u d h) e)
     (λ m u d h. let q = refused_same (sym (string_short s m u d h) ∙ e) in omega (arith, accepted s m u d))
 
+pub string_ends : (s : List ℕ) → ends (string s) ≤ length s
+string_ends s =
+    answer_cases (string s)
+    (λ x used e. rw e (string_accepted s x.start x.len used e).1)
+    (λ n place e. rw e (string_place s n place e))
+
 -- Law: with bytes appended, every answer but 3 stays as it was: an accepted string and a 7.
-pub string_kept : (s t : List ℕ) (a : Answer Span) → string s ≡ a → Stands a → string (s ++ t) ≡ a
+pub string_kept : (s t : List ℕ) (a : Answer Span) → string s ≡ a → Stays a → string (s ++ t) ≡ a
 string_kept s t a e no3 =
     string_cases s
     (λ n place r.
@@ -103,18 +118,11 @@ unfolding typed
 typed_some b s = refl
 
 -- the same in the code's terms, by the type byte
-abbrev pub type_byte : List ℕ → ℕ
-type_byte s = get_or s 0 0
+pub typed_empty : (s : List ℕ) → length s ≤ 0 → typed s ≡ refused 3 0
+typed_empty s h = ap typed (drop_of_length-le s {i = 0} h) ∙ typed_none
 
-pub typed_empty : (s : List ℕ) → length s ≡ 0 → typed s ≡ refused 3 0
-typed_empty s h = ap typed (drop_of_length-le s {i = 0} (omega arith)) ∙ typed_none
-
-pub typed_front : (s : List ℕ) (kind : ℕ) → 0 < length s → type_byte s % 16 ≡ kind
-    → typed s ≡ behind moved 1 (content (shape kind) kind (upper (type_byte s)) (drop 1 s))
-typed_front s kind h e =
-    ap typed (drop-cons s 0 0 h)
-    ∙ typed_some (type_byte s) (drop 1 s)
-    ∙ ap (λ (k : ℕ). behind moved 1 (content (shape k) k (upper (type_byte s)) (drop 1 s))) e
+pub typed_front : (s : List ℕ) {b : ℕ} → Stands s 0 b → typed s ≡ behind moved 1 (content (shape (b % 16)) (b % 16) (upper b) (drop 1 s))
+typed_front s {b} here = ap typed (stands_first here) ∙ typed_some b (drop 1 s)
 
 -- the DATA of each kind that has some
 module _ (kind flags : ℕ) (s : List ℕ) where
@@ -196,9 +204,9 @@ content_accepted (address n) kind flags s k a b f used low e =
 content_accepted text kind flags s k a b f used low e = go (string s) refl
   where
     go : (x : Answer Span) → string s ≡ x → Found text kind s k a b f used
-    go (done (span start len) u) d =
-        let o = string_accepted s start len u d in
-        let p = value_same (sym (text_whole kind flags s start len u d) ∙ e) in
+    go (done x u) d =
+        let o = string_accepted s x.start x.len u d in
+        let p = value_same (sym (text_whole kind flags s x.start x.len u d) ∙ e) in
         (omega arith, omega arith, omega arith, λ t. omega arith, omega arith)
     go (refused n place) r = not_both e (text_refused kind flags s n place r)
 content_accepted reserved kind flags s k a b f used low e = not_both e refl
@@ -245,7 +253,7 @@ content_place (address m) kind flags s n place e =
 content_place text kind flags s n place e = go (string s) refl
   where
     go : (x : Answer Span) → string s ≡ x → place ≤ length s
-    go (done (span start len) u) d = not_both (text_whole kind flags s start len u d) e
+    go (done x u) d = not_both (text_whole kind flags s x.start x.len u d) e
     go (refused m p) r = let q = refused_same (sym (text_refused kind flags s m p r) ∙ e) in omega (arith, string_place s m p r)
 content_place reserved kind flags s n place e = let q = refused_same e in omega arith
 
@@ -260,13 +268,31 @@ typed_place (x ∷ s) n place e = go (content (shape (x % 16)) (x % 16) (upper x
         let q = refused_same (sym (typed_some x s ∙ ap (behind moved 1) f) ∙ e) in
         omega (arith, content_place (shape (x % 16)) (x % 16) (upper x) s m p f)
 
+pub typed_ends : (s : List ℕ) → ends (typed s) ≤ length s
+typed_ends s =
+    answer_cases (typed s)
+    (λ v used e. typed_whole v used e)
+    (λ n place e. rw e (typed_place s n place e))
+  where
+    typed_whole : (v : Record) (used : ℕ) → typed s ≡ done v used → ends (typed s) ≤ length s
+    typed_whole (value kind a b f) used e = rw e (typed_accepted s kind a b f used e).1
+
+-- What the value reader says is what it gives, by the numbers of a value.
+pub valued : (r : Result (Read Value) Refusal) → value_said r ≡ next (read_said r) (λ v used. done (record_of v) used)
+valued (Ok x) = refl
+valued (Err q) = refl
+
+pub valued_ends : (r : Result (Read Value) Refusal) → ends (value_said r) ≡ ends (read_said r)
+valued_ends (Ok x) = refl
+valued_ends (Err q) = refl
+
 -- ---- bytes appended
 
-next_kept : {A B : Type 0} (x y : Answer A) (f : A → ℕ → Answer B) (a : Answer B) → next x f ≡ a → Stands a → (Stands x → y ≡ x) → next y f ≡ a
+next_kept : {A B : Type 0} (x y : Answer A) (f : A → ℕ → Answer B) (a : Answer B) → next x f ≡ a → Stays a → (Stays x → y ≡ x) → next y f ≡ a
 next_kept (done v u) y f a e no3 same = rw (same (λ p q. not_both refl q)) e
 next_kept (refused n p) y f a e no3 same = rw (same (λ m q. no3 m (sym e ∙ (let z : n ≡ 3 = cc in let o : p ≡ m = cc in cc)))) e
 
-content_kept : (sh : Shape) (kind flags : ℕ) (s t : List ℕ) (a : Answer Record) → content sh kind flags s ≡ a → Stands a → content sh kind flags (s ++ t) ≡ a
+content_kept : (sh : Shape) (kind flags : ℕ) (s t : List ℕ) (a : Answer Record) → content sh kind flags s ≡ a → Stays a → content sh kind flags (s ++ t) ≡ a
 content_kept nothing kind flags s t a e no3 = e
 content_kept flag kind flags s t a e no3 = e
 content_kept (integer w) kind flags s t a e no3 =
@@ -284,7 +310,7 @@ content_kept text kind flags s t a e no3 =
 content_kept reserved kind flags s t a e no3 = e
 
 -- Law: with bytes appended, every answer but 3 stays as it was: an accepted value, a 7 and an 8.
-pub typed_kept : (s t : List ℕ) (a : Answer Record) → typed s ≡ a → Stands a → typed (s ++ t) ≡ a
+pub typed_kept : (s t : List ℕ) (a : Answer Record) → typed s ≡ a → Stays a → typed (s ++ t) ≡ a
 typed_kept [] t a e no3 = absurd (no3 0 (sym e ∙ typed_none))
 typed_kept (x ∷ s) t a e no3 =
     typed_some x (s ++ t)
@@ -293,7 +319,7 @@ typed_kept (x ∷ s) t a e no3 =
     ∙ e
 
 -- in particular
-not_three : {A : Type 0} (n place : ℕ) → (n ≡ 3 → ⊥) → Stands {A = A} (refused n place)
+not_three : {A : Type 0} (n place : ℕ) → (n ≡ 3 → ⊥) → Stays {A = A} (refused n place)
 not_three n place h p e = h (refused_same e).0
 
 pub string_accepted_kept : (s t : List ℕ) (start len used : ℕ) → string s ≡ done (span start len) used → string (s ++ t) ≡ done (span start len) used

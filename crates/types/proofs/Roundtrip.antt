@@ -13,7 +13,7 @@ use Rattle.varint.specs.Number.{number_bytes}
 use Rattle.varint.proofs.Reading.{reads_back}
 use Rattle.types.specs.Value.{span, string, Shape, nothing, flag, integer, address, text, reserved, Width, signed32, unsigned32, whole64, shape, Record, value, points, moved, narrowed, content, upper, typed}
 use Rattle.types.specs.Form.{part, string_bytes, type_of, value_bytes, writable_record, ranged}
-use Rattle.types.proofs.Reading.{string_whole, typed_some, integer_whole, address_whole, text_whole, behind_plain, behind_start}
+use Rattle.types.proofs.Reading.{span_same, string_whole, typed_some, integer_whole, address_whole, text_whole, behind_plain, behind_start}
 use Rattle.types.proofs.Shapes.{signed_below, InWidth, Fields, Flags, shape_cases, writable_fields, writable_flags, writable_kind}
 use Rattle.types.proofs.Writing.{string_bytes_lem, string_length, part_whole, bytes_at}
 
@@ -55,11 +55,9 @@ strings_apart p q t u hp hq e =
     let a = string_reads_back p t hp in
     let b = string_reads_back q u hq in
     let one = sym a.0 ∙ ap string e ∙ b.0 in
-    let f : ahead p ≡ ahead q = cc in
-    let m : length p ≡ length q = cc in
-    let o : length (string_bytes p) ≡ length (string_bytes q) = cc in (
-      sym a.1 ∙ ap₂ take m (ap₂ drop f e) ∙ b.1,
-      sym (drop_at (string_bytes p) t (length (string_bytes p)) refl) ∙ ap₂ drop o e ∙ drop_at (string_bytes q) u (length (string_bytes q)) refl,
+    let same = span_same one in (
+      sym a.1 ∙ ap₂ take same.1 (ap₂ drop same.0 e) ∙ b.1,
+      sym (drop_at (string_bytes p) t (length (string_bytes p)) refl) ∙ ap₂ drop same.2 e ∙ drop_at (string_bytes q) u (length (string_bytes q)) refl,
     )
 
 -- ---- values

@@ -18,14 +18,15 @@
 -- (The line of 5 is misprinted there as 32 bits, UNIT64.) The type is the low half of the first byte and the flags are the high
 -- half, as the Rust has them. A boolean is the lowest flag; the flags of the other kinds are unused, and are kept.
 use Rattle.std.specs.Prelude.{Bool, true, false, cond, ◌&&◌, List, [], ◌∷◌, ℕ, ◌+◌, ◌-◌, ◌/◌, ◌%◌, ◌^◌, ltb, leb, eqb, length, get_or}
+use Rattle.types.specs.declared.Span.{Span}
 use Rattle.answer.specs.Answer.{Answer, done, refused, next, behind}
 use Rattle.varint.specs.Number.{number}
 
 -- ---- strings
 
 -- where some bytes stand: their start, and how many they are
-pub data Span : Type 0 where
-  span : ℕ → ℕ → Span
+abbrev pub span : ℕ → ℕ → Span
+span start len = record { start = start; len = len }
 
 -- The string at the front: a length number and that many bytes. Where they are fewer it is 3, right after the number.
 unfoldable pub string : List ℕ → Answer Span
@@ -94,7 +95,7 @@ narrowed unsigned32 n = n % 2 ^ 32
 narrowed whole64 n = n
 
 abbrev pub spanned : ℕ → ℕ → Span → Record
-spanned kind flags (span start len) = value kind start len flags
+spanned kind flags p = value kind p.start p.len flags
 
 -- The value whose DATA stands at the front, of the kind and with the flags of its type byte. A boolean has its lowest flag as its number
 -- and keeps none. An address that is too short is 3 right after the type byte, which is here.

@@ -11,26 +11,23 @@ mod write;
 ghost use Rattle.std.specs.Prelude.{◌≡◌};
 ghost use Rattle.types.specs.Value.{sign_extended};
 
-use answer::Refusal;
-pub use check::{check_part, check_string, check_value, writable};
+pub use check::{check_part, check_string, check_value, in_range, part_inside, writable};
 pub use read::{read_string, typed_data};
 pub use write::{measure_value, value_len, write_string, write_value};
 
-// What the string reader answers: where the bytes are, and how many the string took with its length number.
-#[derive(Clone, Copy)]
-pub enum StringRead {
-    Done {
-        start: usize,
-        len: usize,
-        used: usize,
-    },
-    Refused(Refusal),
+// Where some bytes stand: their start, and how many they are.
+#[derive(Clone, Copy, Debug, PartialEq, Eq)]
+pub struct Span {
+    pub start: usize,
+    pub len: usize,
 }
 
 // A value as the records have it: its kind and two numbers, as docs/RULES.md sets them out for each kind, and the flags of its type byte, the
 // upper four bits, which a boolean has as its number.
+//
+// C has it as these four numbers, so its kind is one of them and no enum.
 #[repr(C)]
-#[derive(Clone, Copy)]
+#[derive(Clone, Copy, Debug, Default, PartialEq, Eq)]
 pub struct Value {
     pub kind: u64,
     pub a: u64,
@@ -41,19 +38,25 @@ pub struct Value {
 // How many numbers that are.
 pub const VALUE_WIDTH: usize = 4;
 
-// What the value reader answers.
-#[derive(Clone, Copy)]
-pub enum ValueRead {
-    Done { value: Value, used: usize },
-    Refused(Refusal),
+impl From<[u64; VALUE_WIDTH]> for Value {
+    ghost use Rattle.types.specs.Promise.{value_numbers};
+
+    ghost from_gives = { λ numbers value. value_numbers value ≡ numbers };
+
+    fn from(numbers: [u64; VALUE_WIDTH]) -> Value {
+        let [kind, a, b, flags] = numbers;
+        Value { kind, a, b, flags }
+    }
 }
 
-// What checking and measuring a value finds: the number it is refused with, 0 for none, and how many bytes its written form has, 0 where it
-// is refused.
-#[derive(Clone, Copy)]
-pub struct Measured {
-    pub number: u64,
-    pub len: u64,
+impl From<Value> for [u64; VALUE_WIDTH] {
+    ghost use Rattle.types.specs.Promise.{value_numbers};
+
+    ghost from_gives = { λ value numbers. numbers ≡ value_numbers value };
+
+    fn from(value: Value) -> [u64; VALUE_WIDTH] {
+        [value.kind, value.a, value.b, value.flags]
+    }
 }
 
 // The low 32 bits, the highest of them repeated above: what a reader keeps of an i32, and what its number has to be where one is written.

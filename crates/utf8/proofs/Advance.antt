@@ -1,17 +1,17 @@
 -- Going on over several bytes at once: what every walk over a text needs of it.
-use mathlib.Core.Path.{◌≡◌, refl, sym, ap, ◌∙◌}
+use mathlib.Core.Path.{◌≡◌, sym, ap, ◌∙◌}
 use mathlib.Core.Bool.{true, false}
-use mathlib.Core.List.{List, [], ◌∷◌}
+use mathlib.Core.List.{List, []}
 use Prim.Native.Nat.{ℕ, ◌+◌, ◌-◌, ◌≤◌, ◌<◌, zero-le}
 use native.Mathlib.Omega.{arith}
 use mathlib.Core.Logic.{⊎_elim}
 use lib.Dec.{leb}
 use borrow.Author.Tests.{le-leb, lt-leb}
 use Rattle.answer.proofs.Cases.{lt_or_le}
-use lib.ListN.{length, take, drop, length-append, length-drop, take-append-drop}
+use lib.ListN.{length, take, drop, length-append, take-append-drop}
 use lib.Seq.{length-take-le}
 use Rattle.utf8.specs.Text.{Step, ends, char, mark, step, step_size, becomes, is_utf8, lossy}
-use Rattle.utf8.specs.Inner.{Advances, text_size}
+use Rattle.utf8.specs.Inner.{Advances}
 use Rattle.utf8.proofs.Stepping.{Bounded, step_bounds}
 use Rattle.utf8.proofs.Lossy.{lossy_none, lossy_on, is_utf8_on, lossy_front, is_utf8_front}
 
@@ -33,52 +33,31 @@ text_advances s n some there e = record {
   moves = λ h. some;
 }
 
-pub becomes_length : (s : List ℕ) (x : Step) → step_size x ≤ length s → length (becomes x s) ≡ text_size x
-becomes_length s ends h = refl
-becomes_length s (char n) h = length-take-le n s h
-becomes_length s (mark n) h = refl
-
-pub advances_length : (s : List ℕ) (x : Step) → Advances s x → length (lossy s) ≡ text_size x + length (lossy (drop (step_size x) s))
-advances_length s x a =
-    ap length a.text
-    ∙ length-append (becomes x s) (lossy (drop (step_size x) s))
-    ∙ ap (λ (n : ℕ). n + length (lossy (drop (step_size x) s))) (becomes_length s x a.there)
+pub advances_length : (s : List ℕ) (x : Step) → Advances s x → length (lossy s) ≡ length (becomes x s) + length (lossy (drop (step_size x) s))
+advances_length s x a = ap length a.text ∙ length-append (becomes x s) (lossy (drop (step_size x) s))
 
 -- bytes become bytes
 pub lossy_some : (s : List ℕ) → 1 ≤ length s → 1 ≤ length (lossy s)
 lossy_some s h = let e = advances_length s (step s) (step_advances s) in omega (arith, go (step s) (step_bounds s))
   where
-    go : (x : Step) → Bounded x (length s) → 1 ≤ text_size x
+    go : (x : Step) → Bounded x (length s) → 1 ≤ length (becomes x s)
     go ends b = absurd (omega arith)
-    go (char n) b = b.0
+    go (char n) b = rw (length-take-le n s b.1) b.0
     go (mark n) b = omega arith
 
 -- room for a text, less what it becomes, is room for the rest
-pub room_on : (s : List ℕ) (x : Step) (room : ℕ) → Advances s x → text_size x ≤ room
-    → leb (length (lossy s)) room ≡ leb (length (lossy (drop (step_size x) s))) (room - text_size x)
+pub room_on : (s : List ℕ) (x : Step) (room : ℕ) → Advances s x → length (becomes x s) ≤ room
+    → leb (length (lossy s)) room ≡ leb (length (lossy (drop (step_size x) s))) (room - length (becomes x s))
 room_on s x room a h =
     let e = advances_length s x a in
     let m = length (lossy (drop (step_size x) s)) in
     ⊎_elim
-    (λ g. lt-leb (length (lossy s)) room (omega arith) ∙ sym (lt-leb m (room - text_size x) g))
-    (λ g. le-leb (length (lossy s)) room (omega arith) ∙ sym (le-leb m (room - text_size x) g))
-    (lt_or_le (room - text_size x) m)
+    (λ g. lt-leb (length (lossy s)) room (omega arith) ∙ sym (lt-leb m (room - length (becomes x s)) g))
+    (λ g. le-leb (length (lossy s)) room (omega arith) ∙ sym (le-leb m (room - length (becomes x s)) g))
+    (lt_or_le (room - length (becomes x s)) m)
 
-pub room_off : (s : List ℕ) (x : Step) (room : ℕ) → Advances s x → room < text_size x → leb (length (lossy s)) room ≡ false
+pub room_off : (s : List ℕ) (x : Step) (room : ℕ) → Advances s x → room < length (becomes x s) → leb (length (lossy s)) room ≡ false
 room_off s x room a h = lt-leb (length (lossy s)) room (omega (arith, advances_length s x a))
 
 pub room_none : (room : ℕ) → leb (length (lossy [])) room ≡ true
 room_none room = rw lossy_none (le-leb 0 room zero-le)
-
--- one that takes no byte is at the end
-pub advances_end : (s : List ℕ) → Advances s ends → length s ≡ 0
-advances_end [] a = refl
-advances_end (b ∷ s) a = absurd (omega (arith, a.moves (omega arith)))
-
--- What a loop learns that has come to `at`: the bytes from there on are s, and it goes on over n of them.
-module _ (bytes : List ℕ) (at : ℕ) where
-  pub rest_there : (n : ℕ) → n ≤ length (drop at bytes) → at ≤ length bytes → at + n ≤ length bytes
-  rest_there n h g = omega (arith, length-drop at bytes)
-
-  pub rest_some : at < length bytes → 1 ≤ length (drop at bytes)
-  rest_some h = omega (arith, length-drop at bytes)

@@ -2,16 +2,15 @@
 use mathlib.Core.Path.{◌≡◌, refl, sym, ap, ◌∙◌}
 use mathlib.Core.Bool.{Bool, true, ◌&&◌, and_assoc, and-true}
 use mathlib.Core.List.{List, [], ◌∷◌, ◌++◌}
-use Prim.Native.Nat.{ℕ, suc, ◌+◌, ◌-◌, ◌<◌, ◌≤◌, zero-le}
+use Prim.Native.Nat.{ℕ, ◌+◌, ◌-◌, ◌<◌, ◌≤◌, zero-le}
 use native.Mathlib.Numerals.{add-one}
 use native.Mathlib.Omega.{arith}
 use lib.Dec.{ltb}
-use lib.ListN.{length, take, drop, get_or, length-drop, take-append-drop, drop_of_length-le}
-use lib.Seq.{drop-cons, take-add, take-suc}
+use lib.ListN.{length, take, drop, get_or, take-append-drop, drop_of_length-le}
+use lib.Seq.{take-add, take-suc}
 use borrow.Author.Tests.{ltb-true, lt-ltb}
 use Rattle.utf8.specs.Text.{is_utf8}
 use Rattle.utf8.specs.Inner.{ascii, AsciiTo}
-use Rattle.answer.proofs.Output.{lent_tail_lem}
 use Rattle.answer.proofs.Cases.{both_true}
 use Rattle.utf8.proofs.Stepping.{step_ascii}
 use Rattle.utf8.proofs.Lossy.{is_utf8_none, is_utf8_char, is_utf8_front}
@@ -23,23 +22,9 @@ ascii_well (b ∷ s) e =
     let q = both_true (ltb b 128) (ascii s) e in
     is_utf8_char (b ∷ s) 1 (step_ascii b s (ltb-true b 128 q.0)) ∙ ascii_well s q.1
 
--- ---- eight at once
-
-ascii_next : (s : List ℕ) (n i : ℕ) → i < length s → ascii (take (suc n) (drop i s)) ≡ ltb (get_or s i 0) 128 && ascii (take n (drop (suc i) s))
-unfolding ascii
-ascii_next s n i h = rw (drop-cons s i 0 h)
-
 pub ascii_none : ascii [] ≡ true
 unfolding ascii
 ascii_none = refl
-
-pub ascii_eight : (s : List ℕ) → 8 ≤ length s
-    → ltb (get_or s 0 0) 128 && ltb (get_or s 1 0) 128 && ltb (get_or s 2 0) 128 && ltb (get_or s 3 0) 128 && ltb (get_or s 4 0) 128 && ltb (get_or s 5 0) 128 && ltb (get_or s 6 0) 128 && ltb (get_or s 7 0) 128
-    ≡ ascii (take 8 s)
-ascii_eight s h = simp (ascii_next s 7 0 (omega arith), ascii_next s 6 1 (omega arith), ascii_next s 5 2 (omega arith), ascii_next s 4 3 (omega arith), ascii_next s 3 4 (omega arith), ascii_next s 2 5 (omega arith), ascii_next s 1 6 (omega arith), ascii_next s 0 7 (omega arith), ascii_none, and_assoc, and-true)
-
-pub ascii_four : (s : List ℕ) → 4 ≤ length s → ltb (get_or s 0 0) 128 && ltb (get_or s 1 0) 128 && ltb (get_or s 2 0) 128 && ltb (get_or s 3 0) 128 ≡ ascii (take 4 s)
-ascii_four s h = simp (ascii_next s 3 0 (omega arith), ascii_next s 2 1 (omega arith), ascii_next s 1 2 (omega arith), ascii_next s 0 3 (omega arith), ascii_none, and_assoc, and-true)
 
 -- ---- as far as it goes
 
@@ -52,16 +37,8 @@ pub ascii_to_none : (s : List ℕ) → AsciiTo s 0
 ascii_to_none s = record { there = zero-le; are = ascii_none }
 
 -- k more of them, in a block
-ascii_to_block : (s : List ℕ) (n k : ℕ) → AsciiTo s n → k ≤ length s - n → ascii (take k (drop n s)) ≡ true → AsciiTo s (n + k)
+pub ascii_to_block : (s : List ℕ) (n k : ℕ) → AsciiTo s n → k ≤ length s - n → ascii (take k (drop n s)) ≡ true → AsciiTo s (n + k)
 ascii_to_block s n k a h e = record { there = omega (arith, a.there); are = rw (take-add n k s) (ascii_both (take n s) (take k (drop n s)) a.are e) }
-
--- A loop goes on by a block of k, where it lends the rest behind the first n, `&s[n..]`, and is told that its first k are ASCII.
-module _ (s : List ℕ) (n k : ℕ) (h : k ≤ length s - n) where
-  pub block_lent : k ≤ length (take (length s - n) (drop n s))
-  block_lent = rw (lent_tail_lem n s) (omega (arith, length-drop n s))
-
-  pub block_on : AsciiTo s n → {told : Bool} → told ≡ ascii (take k (take (length s - n) (drop n s))) → told ≡ true → AsciiTo s (n + k)
-  block_on a is e = ascii_to_block s n k a h (rw (lent_tail_lem n s) at (sym is ∙ e))
 
 -- a test of one byte more
 ascii_last : (s : List ℕ) (b : ℕ) → ascii (s ++ (b ∷ [])) ≡ ascii s && ltb b 128

@@ -1,84 +1,18 @@
 -- Bytes of which each fits the three before it are well-formed text, so a text can be tested without its steps.
 use mathlib.Core.Path.{◌≡◌, refl, ap, subst, ◌∙◌}
-use mathlib.Core.Bool.{Bool, true, false, not, ◌&&◌, ◌||◌, and-false}
+use mathlib.Core.Bool.{true}
 use mathlib.Core.List.{List, [], ◌∷◌}
-use mathlib.Core.Logic.{◌⊎◌, inl, inr, ⊎_elim}
+use mathlib.Core.Logic.{⊎_elim}
 use Prim.Native.Nat.{ℕ, zero, suc, ◌+◌, ◌-◌, ◌≤◌, ◌<◌, zero-le}
 use native.Mathlib.Omega.{arith}
-use lib.Dec.{ltb, leb, eqb}
 use lib.ListN.{length, drop, get_or}
 use lib.Seq.{get_or-drop}
-use borrow.Author.Tests.{ltb-true, leb-true, le-ltb, le-leb, lt-leb, eq-eqb}
-use Rattle.answer.proofs.Cases.{lt_or_le, bool_cases, true_false, both_true}
+use borrow.Author.Tests.{le-leb, lt-leb}
+use Rattle.answer.proofs.Cases.{lt_or_le}
 use Rattle.utf8.specs.Text.{Range, ◌to◌, row, rows, follow, in_range, matching, led, row_for, char, step, is_utf8}
 use Rattle.utf8.specs.Inner.{Fits, FitsAt, FitTo, FirstFit, EndsWhole}
 use Rattle.utf8.proofs.Stepping.{in_range_in, step_for_lem, step_ascii}
 use Rattle.utf8.proofs.Lossy.{empty, is_utf8_none, is_utf8_char}
-
--- ---- the test of one byte
-
--- the second of two tests decides where the first does not hold
-either : (p q : Bool) → p || q ≡ true → p ≡ false → q ≡ true
-either true q e f = true_false e f
-either false q e f = e
-
-either_not : (p q : Bool) → not p || q ≡ true → p ≡ true → q ≡ true
-either_not true q e f = e
-either_not false q e f = true_false f refl
-
-module _ (a b c d : ℕ) where
-  abbrev leads : Bool
-  leads = leb 0xC0 c || leb 0xE0 b || leb 0xF0 a || ltb d 0x80 || (leb 0xC2 d && leb d 0xF4)
-
-  abbrev unwanted : Bool
-  unwanted = ltb c 0xC0 && ltb b 0xE0 && ltb a 0xF0
-
-  abbrev follows : Bool
-  follows = unwanted || (leb 0x80 d && leb d 0xBF)
-
-  abbrev narrow_e0 : Bool
-  narrow_e0 = not (eqb c 0xE0) || leb 0xA0 d
-
-  abbrev narrow_ed : Bool
-  narrow_ed = not (eqb c 0xED) || leb d 0x9F
-
-  abbrev narrow_f0 : Bool
-  narrow_f0 = not (eqb c 0xF0) || leb 0x90 d
-
-  abbrev narrow_f4 : Bool
-  narrow_f4 = not (eqb c 0xF4) || leb d 0x8F
-
-  -- the tests of `fits`, one by one
-  pub fits_by : leads && follows && narrow_e0 && narrow_ed && narrow_f0 && narrow_f4 ≡ true → Fits a b c d
-  fits_by t =
-      let f4 = both_true (leads && follows && narrow_e0 && narrow_ed && narrow_f0) narrow_f4 t in
-      let f0 = both_true (leads && follows && narrow_e0 && narrow_ed) narrow_f0 f4.0 in
-      let ed = both_true (leads && follows && narrow_e0) narrow_ed f0.0 in
-      let e0 = both_true (leads && follows) narrow_e0 ed.0 in
-      let is = both_true leads follows e0.0 in
-      record {
-        lead = λ h g k. alone (simp (lt-leb 0xC0 c k, lt-leb 0xE0 b g, lt-leb 0xF0 a h) at is.0);
-        second = λ h. wanted is.1 (simp (le-ltb c 0xC0 h));
-        third = λ h. wanted is.1 (simp (le-ltb b 0xE0 h, and-false));
-        fourth = λ h. wanted is.1 (simp (le-ltb a 0xF0 h, and-false));
-        after_e0 = λ q. leb-true 0xA0 d (either_not (eqb c 0xE0) (leb 0xA0 d) e0.1 (eq-eqb c 0xE0 q));
-        after_ed = λ q. leb-true d 0x9F (either_not (eqb c 0xED) (leb d 0x9F) ed.1 (eq-eqb c 0xED q));
-        after_f0 = λ q. leb-true 0x90 d (either_not (eqb c 0xF0) (leb 0x90 d) f0.1 (eq-eqb c 0xF0 q));
-        after_f4 = λ q. leb-true d 0x8F (either_not (eqb c 0xF4) (leb d 0x8F) f4.1 (eq-eqb c 0xF4 q));
-      }
-    where
-      alone : ltb d 0x80 || (leb 0xC2 d && leb d 0xF4) ≡ true → (d < 0x80) ⊎ ((0xC2 ≤ d) × (d ≤ 0xF4))
-      alone e =
-          bool_cases (ltb d 0x80)
-          (λ p. inl (ltb-true d 0x80 p))
-          (λ p.
-          let q = both_true (leb 0xC2 d) (leb d 0xF4) (either (ltb d 0x80) (leb 0xC2 d && leb d 0xF4) e p) in
-          inr (leb-true 0xC2 d q.0, leb-true d 0xF4 q.1))
-
-      wanted : follows ≡ true → unwanted ≡ false → (0x80 ≤ d) × (d ≤ 0xBF)
-      wanted e p =
-          let q = both_true (leb 0x80 d) (leb d 0xBF) (either unwanted (leb 0x80 d && leb d 0xBF) e p) in
-          (leb-true 0x80 d q.0, leb-true d 0xBF q.1)
 
 -- ---- the row of a first byte
 
@@ -169,16 +103,16 @@ Later b = (0x80 ≤ b) × (b ≤ 0xBF)
 
 step_two : (d e : ℕ) (s : List ℕ) → Begun d e 2 → step (d ∷ e ∷ s) ≡ char 2
 unfolding follow matching
-step_two d e s r = step_for_lem (d ∷ e ∷ s) (omega arith) ∙ rw r.is (simp r.can)
+step_two d e s r = step_for_lem (d ∷ e ∷ s) d (omega arith) refl ∙ rw r.is (simp r.can)
 
 step_three : (d e f : ℕ) (s : List ℕ) → Begun d e 3 → Later f → step (d ∷ e ∷ f ∷ s) ≡ char 3
 unfolding follow matching
-step_three d e f s r p = step_for_lem (d ∷ e ∷ f ∷ s) (omega arith) ∙ rw r.is (simp (r.can, in_range_in 0x80 0xBF f p.0 p.1))
+step_three d e f s r p = step_for_lem (d ∷ e ∷ f ∷ s) d (omega arith) refl ∙ rw r.is (simp (r.can, in_range_in 0x80 0xBF f p.0 p.1))
 
 step_four : (d e f g : ℕ) (s : List ℕ) → Begun d e 4 → Later f → Later g → step (d ∷ e ∷ f ∷ g ∷ s) ≡ char 4
 unfolding follow matching
 step_four d e f g s r p q =
-    step_for_lem (d ∷ e ∷ f ∷ g ∷ s) (omega arith) ∙ rw r.is (simp (r.can, in_range_in 0x80 0xBF f p.0 p.1, in_range_in 0x80 0xBF g q.0 q.1))
+    step_for_lem (d ∷ e ∷ f ∷ g ∷ s) d (omega arith) refl ∙ rw r.is (simp (r.can, in_range_in 0x80 0xBF f p.0 p.1, in_range_in 0x80 0xBF g q.0 q.1))
 
 -- ---- the bytes of a text one by one
 
@@ -255,13 +189,7 @@ module _ (s : List ℕ) (at j : ℕ) where
       let o : at + j + 3 ≡ at + (j + 3) = omega arith in
       rw (p, q, o) (rw (get_or-drop at s j 0, get_or-drop at s (j + 1) 0, get_or-drop at s (j + 2) 0, get_or-drop at s (j + 3) 0) at f)
 
--- none, one more, and a block more
-pub fit_none : (s : List ℕ) → FitTo s 0
-fit_none s i h = absurd (omega arith)
-
-pub fit_one : (s : List ℕ) (n : ℕ) → FitTo s n → FitsAt s n → FitTo s (n + 1)
-fit_one s n before f i h = ⊎_elim (λ l. before i l) (λ l. let e : n ≡ i = omega arith in subst (λ (m : ℕ). FitsAt s m) e f) (lt_or_le i n)
-
+-- a block more
 pub fit_on : (s : List ℕ) (at k : ℕ) → FitTo s at → FitTo (drop at s) k → FitTo s (at + k)
 fit_on s at k before more i h =
     ⊎_elim

@@ -1,14 +1,14 @@
 -- Laws about the same bytes, and about texts with the same lossy text.
 use mathlib.Core.Path.{◌≡◌, refl, sym, ap, ap₂, ◌∙◌}
 use mathlib.Core.Logic.{◌↔◌}
-use mathlib.Core.Bool.{true, false}
+use mathlib.Core.Bool.{Bool, true, false, ◌&&◌, and_assoc, and-true}
 use mathlib.Core.List.{List, [], ◌∷◌, ◌++◌}
 use Prim.Native.Nat.{ℕ, ◌+◌, ◌<◌}
 use native.Mathlib.Omega.{arith}
 use lib.Dec.{eqb, eqb-suc-zero}
 use lib.ListN.{length, take, drop, get_or}
 use native.Mathlib.Numerals.{add-one}
-use lib.Seq.{drop-cons, take_at, length-take-le}
+use lib.Seq.{drop-cons, take_at, take-suc, length-take-le}
 use borrow.Author.Tests.{eq-eqb, ne_eqb, eqb-true}
 use Rattle.utf8.specs.Text.{Step, ends, char, mark, step, step_size, becomes, is_utf8, lossy, same_bytes, same_text}
 use Rattle.answer.proofs.Cases.{bool_cases, true_false, both_true}
@@ -44,6 +44,20 @@ module _ (s t : List ℕ) (i : ℕ) (h : i < length s) (g : i < length t) where
   pub same_stop : (get_or s i 0 ≡ get_or t i 0 → ⊥) → same_bytes (drop i s) (drop i t) ≡ false
   unfolding same_bytes
   same_stop ne = rw (drop-cons s i 0 h, drop-cons t i 0 g) (simp (ne_eqb (get_or s i 0) (get_or t i 0) ne))
+
+-- a test of one byte more
+same_last : (s t : List ℕ) (a b : ℕ) → length s ≡ length t → same_bytes (s ++ (a ∷ [])) (t ++ (b ∷ [])) ≡ same_bytes s t && eqb a b
+unfolding same_bytes
+same_last [] [] a b e = and-true (eqb a b)
+same_last [] (y ∷ t) a b e = absurd (omega arith)
+same_last (x ∷ s) [] a b e = absurd (omega arith)
+same_last (x ∷ s) (y ∷ t) a b e = ap (λ (p : Bool). eqb x y && p) (same_last s t a b (omega arith)) ∙ sym (and_assoc (eqb x y) (same_bytes s t) (eqb a b))
+
+pub same_test : (s t : List ℕ) (i : ℕ) → i < length s → i < length t
+    → same_bytes (take i s) (take i t) && eqb (get_or s i 0) (get_or t i 0) ≡ same_bytes (take (i + 1) s) (take (i + 1) t)
+same_test s t i h g =
+    sym (rw (add-one, take-suc s i 0 h, take-suc t i 0 g)
+    (same_last (take i s) (take i t) (get_or s i 0) (get_or t i 0) (length-take-le i s (omega arith) ∙ sym (length-take-le i t (omega arith)))))
 
 pub same_front : (p s t : List ℕ) → same_bytes (p ++ s) (p ++ t) ≡ same_bytes s t
 unfolding same_bytes

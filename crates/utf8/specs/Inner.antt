@@ -1,22 +1,16 @@
 -- What only private contracts cite: the code's own types in the definitions' terms, and what its shorter ways over a text are to come to.
 -- No public promise rests on anything in this file.
 use Rattle.std.specs.Prelude.{◌≡◌, Bool, true, false, ◌&&◌, ◌⊎◌, List, [], ◌∷◌, ◌++◌, ℕ, ◌+◌, ◌-◌, ◌≤◌, ◌<◌, ltb, length, take, drop, get_or}
-use Rattle.utf8.specs.declared.Range as g
-use Rattle.utf8.specs.declared.Row as r
-use Rattle.utf8.specs.declared.Step as t
-use Rattle.utf8.specs.declared.Step.TheVariants as s
-use Rattle.utf8.specs.declared.Lead as l
-use Rattle.utf8.specs.declared.Lead.TheVariants as v
-use Rattle.utf8.specs.declared.Both as b
-use Rattle.utf8.specs.declared.Both.TheVariants as o
-use Rattle.utf8.specs.Text.{Range, ◌to◌, Row, row, Led, unused, led, Step, ends, char, mark, step_size, well_formed, becomes, is_utf8, lossy, same_text}
+use Rattle.std.specs.Prelude.{Option, Some, None}
+use Rattle.std.specs.declared.ops.RangeInclusive.{RangeInclusive}
+use Rattle.std.specs.Range.{range_inclusive_start, range_inclusive_end}
+use Rattle.utf8.specs.declared.step.Step as t
+use Rattle.utf8.specs.declared.step.Step.TheVariants as s
+use Rattle.utf8.specs.Text.{Range, ◌to◌, row, Led, unused, led, Step, ends, char, mark, step_size, well_formed, becomes, is_utf8, lossy, same_text}
 
--- a range and a row of the code's table
-abbrev pub as_range : g.Range → Range
-as_range x = x.low to x.high
-
-abbrev pub as_row : r.Row → Row
-as_row x = row (as_range x.lead) (as_range x.second) x.bytes
+-- a range of the code's table
+abbrev pub as_range : RangeInclusive ℕ → Range
+as_range x = range_inclusive_start x to range_inclusive_end x
 
 -- what the code saw at the front of some bytes
 abbrev pub seen : t.Step → Step
@@ -24,10 +18,15 @@ seen s.End = ends
 seen (s.Char n) = char n
 seen (s.Mark n) = mark n
 
--- the row that it found for a first byte
-abbrev pub led_by : l.Lead → Led
-led_by v.Unused = unused
-led_by (v.In x) = led (as_row x)
+-- what a row says of the bytes behind the first, as the code found it for a first byte
+abbrev pub behind : Option (RangeInclusive ℕ × ℕ) → Option (Range × ℕ)
+behind None = None
+behind (Some x) = Some (as_range x.0, x.1)
+
+-- and as the definition's row has it
+abbrev pub behind_lead : Led → Option (Range × ℕ)
+behind_lead unused = None
+behind_lead (led (row lead second bytes)) = Some (second, bytes)
 
 -- ---- ASCII
 
@@ -48,12 +47,6 @@ pub record Advances (s : List ℕ) (x : Step) : Type 0 where
   pub well : is_utf8 s ≡ well_formed x && is_utf8 (drop (step_size x) s)
   pub there : step_size x ≤ length s
   pub moves : 1 ≤ length s → 1 ≤ step_size x
-
--- how many bytes it becomes
-abbrev pub text_size : Step → ℕ
-text_size ends = 0
-text_size (char n) = n
-text_size (mark n) = 3
 
 -- ---- each byte beside the three before it
 
@@ -93,6 +86,6 @@ pub record EndsWhole (s : List ℕ) : Type 0 where
 
 -- The texts differ; or they start in the same way, with m bytes of the first and n of the second, and are the same exactly
 -- where what is left of them is.
-abbrev pub Walks : List ℕ → List ℕ → b.Both → Type 0
-Walks s t o.Apart = same_text s t ≡ false
-Walks s t (o.On m n) = (same_text s t ≡ same_text (drop m s) (drop n t)) × (m ≤ length s) × (n ≤ length t) × (1 ≤ length s → 1 ≤ m)
+abbrev pub Walks : List ℕ → List ℕ → Option (ℕ × ℕ) → Type 0
+Walks s t None = same_text s t ≡ false
+Walks s t (Some (m, n)) = (same_text s t ≡ same_text (drop m s) (drop n t)) × (m ≤ length s) × (n ≤ length t) × (1 ≤ length s → 1 ≤ m)

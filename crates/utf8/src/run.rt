@@ -1,11 +1,13 @@
 // Strides: over all ASCII that stands at the front, in blocks as long as there are some, or over one step.
-ghost use Rattle.std.specs.Prelude.{◌≡◌, true, ◌≤◌, length, take};
+ghost use Rattle.std.specs.Prelude.{◌≡◌, true, ◌<◌, ◌≤◌, length, take};
 ghost use Rattle.utf8.specs.Inner.{seen, ascii, AsciiTo, Advances};
 
-use crate::Step;
 use crate::rows::front_step;
+use crate::step::Step;
 
-// How far one can go on at once from the front of `s`: over all ASCII that stands there, or over a step.
+// How far one can go on at once from the front of `s`: over all ASCII that stands there, or over a step. Those who go on cut that much off
+// their slice in a `while`: an iterator would have to hand out the bytes that the step stands in front of as well, and be no shorter.
+#[tactic(auto, using(crate::proofs::Ascii::ascii_well, crate::proofs::Advance::step_advances, crate::proofs::Advance::text_advances))]
 pub(crate) fn stride(s: &[u8]) -> Step
     ensures { Advances s.now (seen result) }
 {
@@ -17,18 +19,19 @@ pub(crate) fn stride(s: &[u8]) -> Step
 }
 
 // How many bytes of ASCII stand at the front.
+#[tactic(auto, using(crate::proofs::Ascii::ascii_to_none))]
 pub(crate) fn ascii_front(s: &[u8]) -> usize
     ensures { AsciiTo s.now result }
 {
     // Where other scripts go on, the tests of many bytes are not begun.
-    if s.len() == 0 || 128 <= s[0] {
+    if s.is_empty() || !s[0].is_ascii() {
         return 0;
     }
-    let n = ascii_blocks(s);
+    let n = ascii_blocks::<32>(s, 0);
     if ascii_rest(s, n) {
         return s.len();
     }
-    let m = ascii_eights(s, n);
+    let m = ascii_blocks::<8>(s, n);
     if ascii_rest(s, m) {
         return s.len();
     }
@@ -44,102 +47,58 @@ fn ascii_rest(s: &[u8], n: usize) -> bool
     let len = s.len();
     if 32 <= len {
         let from = len - 32;
-        if n < from {
-            return false;
-        }
-        return block_ascii(&s[from..]);
+        return from <= n && all_ascii::<32>(&s[from..]);
     }
     if 8 <= len {
         let from = len - 8;
-        if n < from {
-            return false;
-        }
-        return eight_ascii(&s[from..]);
+        return from <= n && all_ascii::<8>(&s[from..]);
     }
     if 4 <= len {
         let from = len - 4;
-        return four_ascii(s) & four_ascii(&s[from..]);
+        return all_ascii::<4>(s) & all_ascii::<4>(&s[from..]);
     }
     false
 }
 
-// Whether the first four bytes are ASCII.
-fn four_ascii(s: &[u8]) -> bool
-    requires { 4 ≤ length s.now }
-    ensures { result ≡ ascii (take 4 s.now) }
-{
-    (s[0] < 128) & (s[1] < 128) & (s[2] < 128) & (s[3] < 128)
-}
-
 // How many bytes of ASCII stand at the front, where the first n are: byte by byte.
+#[tactic(auto, using(crate::proofs::Ascii::ascii_to_one))]
 fn ascii_run(s: &[u8], n: usize) -> usize
     requires { AsciiTo s.now n }
     ensures { AsciiTo s.now result }
 {
-    let mut at = n;
-    while at < s.len() {
-        if 128 <= s[at] {
+    for at in n..s.len() {
+        if !s[at].is_ascii() {
             return at;
         }
-        at += 1;
     }
-    at
+    s.len()
 }
 
-// As many of them as come in eights, where the first n are.
-fn ascii_eights(s: &[u8], n: usize) -> usize
-    requires { AsciiTo s.now n }
+// As many of them as come in blocks of N, where the first n are.
+fn ascii_blocks<const N: usize>(s: &[u8], n: usize) -> usize
+    requires some { 0 < N }
+    requires known { AsciiTo s.now n }
     ensures { AsciiTo s.now result }
 {
     let mut at = n;
-    while 8 <= s.len() - at {
-        if !eight_ascii(&s[at..]) {
-            return at;
+    for block in s[n..].chunks_exact(N) {
+        if !all_ascii::<N>(block) {
+            break;
         }
-        at += 8;
+        at += N;
     }
     at
 }
 
-// As many of them as come in blocks of 32.
-fn ascii_blocks(s: &[u8]) -> usize
-    ensures { AsciiTo s.now result }
-{
-    let mut at = 0;
-    while 32 <= s.len() - at {
-        if !block_ascii(&s[at..]) {
-            return at;
-        }
-        at += 32;
-    }
-    at
-}
-
-// Whether the first 32 bytes are ASCII. The loop has no way out before its end, so the compiler can take them together.
-fn block_ascii(s: &[u8]) -> bool
-    requires { 32 ≤ length s.now }
-    ensures { result ≡ ascii (take 32 s.now) }
+// Whether the first N bytes are ASCII. The loop has no way out before its end, so the compiler can take them together.
+#[tactic(auto, using(crate::proofs::Ascii::ascii_test))]
+pub(crate) fn all_ascii<const N: usize>(s: &[u8]) -> bool
+    requires { N ≤ length s.now }
+    ensures { result ≡ ascii (take N s.now) }
 {
     let mut all = true;
-    let mut i = 0;
-    while i < 32 {
-        all = all & (s[i] < 128);
-        i += 1;
+    for i in 0..N {
+        all &= s[i].is_ascii();
     }
     all
-}
-
-// Whether the first eight bytes are ASCII. No test waits for the one before, so the compiler can take them together.
-pub(crate) fn eight_ascii(s: &[u8]) -> bool
-    requires { 8 ≤ length s.now }
-    ensures { result ≡ ascii (take 8 s.now) }
-{
-    (s[0] < 128)
-        & (s[1] < 128)
-        & (s[2] < 128)
-        & (s[3] < 128)
-        & (s[4] < 128)
-        & (s[5] < 128)
-        & (s[6] < 128)
-        & (s[7] < 128)
 }

@@ -3,29 +3,26 @@ ghost use Rattle.std.specs.Prelude.{◌≡◌, true, ◌+◌, ◌≤◌, length}
 ghost use Rattle.utf8.specs.Text.{is_utf8};
 ghost use Rattle.utf8.specs.Inner.{Fits, FitTo, FirstFit, EndsWhole};
 
-use crate::Step;
 use crate::run::{ascii_front, stride};
+use crate::step::Step;
 
 // Whether the bytes are well-formed UTF-8.
 pub fn is_utf8(bytes: &[u8]) -> bool
     ensures { result ≡ is_utf8 bytes.now }
 {
-    if surely_utf8(bytes) {
-        return true;
-    }
-    steps_whole(bytes)
+    surely_utf8(bytes) || steps_whole(bytes)
 }
 
-// The same, step by step.
-fn steps_whole(bytes: &[u8]) -> bool
+// The same, step by step. No index is counted: a step says how many bytes it takes (`run`).
+#[tactic(auto, using(crate::proofs::Lossy::is_utf8_none, crate::proofs::Lossy::empty))]
+fn steps_whole(mut bytes: &[u8]) -> bool
     ensures { result ≡ is_utf8 bytes.now }
 {
-    let mut at = 0;
-    while at < bytes.len() {
-        let Step::Char(n) = stride(&bytes[at..]) else {
+    while !bytes.is_empty() {
+        let Step::Char(n) = stride(bytes) else {
             return false;
         };
-        at += n;
+        bytes = &bytes[n..];
     }
     true
 }
@@ -35,10 +32,7 @@ pub(crate) fn surely_utf8(bytes: &[u8]) -> bool
     ensures { result ≡ true → is_utf8 bytes.now ≡ true }
 {
     let n = ascii_front(bytes);
-    if n == bytes.len() {
-        return true;
-    }
-    all_fit(&bytes[n..])
+    n == bytes.len() || all_fit(&bytes[n..])
 }
 
 // The same by each byte and the three before it: what a byte may be follows from them alone, so the compiler can take many
@@ -46,21 +40,11 @@ pub(crate) fn surely_utf8(bytes: &[u8]) -> bool
 fn all_fit(s: &[u8]) -> bool
     ensures { result ≡ true → is_utf8 s.now ≡ true }
 {
-    let len = s.len();
-    if len < 19 {
+    if s.len() < 19 || !first_fit(s) || !ends_whole(s) {
         return false;
     }
-    if !first_fit(s) {
-        return false;
-    }
-    if !ends_whole(s) {
-        return false;
-    }
-    let last = len - 19;
-    if !blocks_fit(s, last) {
-        return false;
-    }
-    block_fits(&s[last..])
+    let last = s.len() - 19;
+    blocks_fit(s, last) && block_fits(&s[last..])
 }
 
 // Whether the first three bytes fit, where nothing stands before them.
@@ -85,12 +69,10 @@ fn blocks_fit(s: &[u8], last: usize) -> bool
     requires { last + 19 ≤ length s.now }
     ensures { result ≡ true → FitTo s.now last }
 {
-    let mut at = 0;
-    while at < last {
+    for at in (0..last).step_by(16) {
         if !block_fits(&s[at..]) {
             return false;
         }
-        at += 16;
     }
     true
 }
@@ -101,10 +83,8 @@ fn block_fits(s: &[u8]) -> bool
     ensures { result ≡ true → FitTo s.now 16 }
 {
     let mut all = true;
-    let mut i = 0;
-    while i < 16 {
-        all = all & fits(s[i], s[i + 1], s[i + 2], s[i + 3]);
-        i += 1;
+    for i in 0..16 {
+        all &= fits(s[i], s[i + 1], s[i + 2], s[i + 3]);
     }
     all
 }

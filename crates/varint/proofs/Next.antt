@@ -1,57 +1,67 @@
 -- How a number begins and goes on, in the code's terms.
-use Prim.Native.Nat.{ℕ, suc, ◌+◌, ◌*◌, ◌%◌, ◌≤◌, ◌<◌, ◌^◌}
-use mathlib.Core.List.{List}
-use mathlib.Core.Path.{◌≡◌, ap, ◌∙◌}
-use native.Mathlib.Omega.{arith}
-use native.Mathlib.Nat.{mul-le-mul_right}
-use native.Mathlib.Numerals.{add-one}
-use lib.ListN.{length, drop, get_or, drop_of_length-le}
+use Rattle.std.proofs.Common.{◌≡◌, ap, ◌∙◌, ℕ, suc, ◌+◌, ◌-◌, ◌*◌, ◌%◌, ◌≤◌, ◌<◌, ◌^◌, List, length, drop, add-one, arith}
+use native.Mathlib.Nat.{mul-le-mul_right, mod-eq_of_lt}
+use lib.ListN.{drop_of_length-le}
 use lib.Pow.{pow-add, pow_mono}
-use lib.Seq.{drop-cons}
 use Rattle.answer.specs.Answer.{done, refused}
+use Rattle.answer.proofs.Cases.{Stands, stands_first}
 use Rattle.varint.specs.Number.{number, more, worth}
-use Rattle.varint.proofs.Reading.{number_none, number_one, number_more, more_last, more_on, worth_shift}
+use Rattle.varint.proofs.Reading.{number_none, number_one, number_more, more_none, more_tenth, more_over, more_last, more_on}
 
--- the three ways to begin, in the code's terms
-pub begins_none : (s : List ℕ) → length s ≡ 0 → number s ≡ refused 3 0
-begins_none s h = ap number (drop_of_length-le s {i = 0} (omega arith)) ∙ number_none
+-- the three ways to begin
+pub begins_none : (s : List ℕ) → length s ≤ 0 → number s ≡ refused 3 0
+begins_none s h = ap number (drop_of_length-le s {i = 0} h) ∙ number_none
 
-pub begins_one : (s : List ℕ) → 0 < length s → get_or s 0 0 < 240 → number s ≡ done (get_or s 0 0) 1
-begins_one s h l = ap number (drop-cons s 0 0 h) ∙ number_one (get_or s 0 0) (drop 1 s) l
+module _ (s : List ℕ) (b : ℕ) (here : Stands s 0 b) where
+  pub begins_one : b < 240 → number s ≡ done b 1
+  begins_one l = ap number (stands_first here) ∙ number_one b (drop 1 s) l
 
-pub begins_on : (s : List ℕ) → 0 < length s → 240 ≤ get_or s 0 0 → number s ≡ more (get_or s 0 0) 1 (drop 1 s)
-begins_on s h l = ap number (drop-cons s 0 0 h) ∙ number_more (get_or s 0 0) (drop 1 s) l
+  pub begins_on : 240 ≤ b → number s ≡ more b 1 (drop 1 s)
+  begins_on l = ap number (stands_first here) ∙ number_more b (drop 1 s) l
 
--- What the next byte does to the sum: its shift, and its `used + 1`.
-module _ (s : List ℕ) (sum used shift : ℕ) (here : used < length s) (e : shift + 3 ≡ 7 * used) (early : used < 9) (small : get_or s used 0 < 256) (below : sum < 16 * 2 ^ shift) where
-  abbrev pub byte : ℕ
-  byte = get_or s used 0
+-- the bytes end here
+pub ends_here : (s : List ℕ) (sum k : ℕ) → length s ≤ k → more sum k (drop k s) ≡ refused 3 k
+ends_here s sum k h = ap (more sum k) (drop_of_length-le s h) ∙ more_none sum k
 
-  abbrev pub addend : ℕ
-  addend = (byte * 2 ^ shift) % 2 ^ 64
+-- What the next byte does to the sum.
+module _ (s : List ℕ) (sum k b : ℕ) (here : Stands s k b) where
+  -- a tenth byte
+  module _ (tenth : k ≡ 9) where
+    pub high : 15 < b → more sum k (drop k s) ≡ refused 19 (suc k)
+    high h = ap (more sum k) (stands_first here) ∙ more_tenth sum k b tenth h (drop (suc k) s)
 
-  addend_worth : addend ≡ worth used byte
-  addend_worth = ap (λ (k : ℕ). (byte * 2 ^ k) % 2 ^ 64) (omega arith) ∙ worth_shift used byte early small
+  module _ (low : k ≡ 9 → b ≤ 15) (fits : b * 2 ^ (7 * k - 3) < 2 ^ 64) where
+    abbrev pub addend : ℕ
+    addend = (b * 2 ^ (7 * k - 3)) % 2 ^ 64
 
-  addend_whole : addend ≡ byte * 2 ^ shift
-  addend_whole = addend_worth ∙ ap (λ (k : ℕ). byte * 2 ^ k) (omega arith)
+    whole : addend ≡ worth k b
+    whole = mod-eq_of_lt {m = 2 ^ 64} fits
 
-  -- a byte of eight bits, of what is counted in
-  byte_below : byte * 2 ^ shift ≤ 256 * 2 ^ shift
-  byte_below = mul-le-mul_right (2 ^ shift) (omega arith)
+    pub over : 2 ^ 64 ≤ sum + addend → more sum k (drop k s) ≡ refused 7 (suc k)
+    over o = ap (more sum k) (stands_first here) ∙ more_over sum k b low (rw whole at o) (drop (suc k) s)
 
-  pub fits : sum + addend < 2 ^ 64
-  fits = omega (arith, addend_whole, byte_below, pow_mono {i = shift} {j = 53} (omega arith))
+    pub last : sum + addend < 2 ^ 64 → b < 128 → more sum k (drop k s) ≡ done (sum + addend) (k + 1)
+    last o l = rw (add-one, whole) (ap (more sum k) (stands_first here) ∙ more_last sum k b low (rw whole at o) l (drop (suc k) s))
 
-  pub next_below : sum + addend < 16 * 2 ^ (shift + 7)
-  next_below = omega (arith, addend_whole, byte_below, pow-add 2 shift 7)
+    pub on : sum + addend < 2 ^ 64 → 128 ≤ b → more sum k (drop k s) ≡ more (sum + addend) (k + 1) (drop (k + 1) s)
+    on o l = rw (add-one, whole) (ap (more sum k) (stands_first here) ∙ more_on sum k b low (rw whole at o) l (drop (suc k) s))
 
-  pub last : byte < 128 → more sum used (drop used s) ≡ done (sum + addend) (used + 1)
-  last l =
-      rw (add-one, addend_worth, drop-cons s used 0 here)
-      (more_last sum used byte (λ k. absurd (omega arith)) (rw addend_worth at fits) l (drop (suc used) s))
+-- Before the tenth byte nothing is lost, and the sum stays below sixteen times what the next byte counts in.
+module _ (sum k b : ℕ) (early : k < 9) (from : 1 ≤ k) (small : b < 256) (below : sum < 16 * 2 ^ (7 * k - 3)) where
+  pub byte_below : b * 2 ^ (7 * k - 3) ≤ 255 * 2 ^ (7 * k - 3)
+  byte_below = mul-le-mul_right (2 ^ (7 * k - 3)) (omega arith)
 
-  pub on : 128 ≤ byte → more sum used (drop used s) ≡ more (sum + addend) (used + 1) (drop (used + 1) s)
-  on l =
-      rw (add-one, addend_worth, drop-cons s used 0 here)
-      (more_on sum used byte (λ k. absurd (omega arith)) (rw addend_worth at fits) l (drop (suc used) s))
+  pub byte_fits : b * 2 ^ (7 * k - 3) < 2 ^ 64
+  byte_fits = omega (arith, byte_below, pow_mono {i = 7 * k - 3} {j = 53} (omega arith))
+
+  addend_whole : (b * 2 ^ (7 * k - 3)) % 2 ^ 64 ≡ b * 2 ^ (7 * k - 3)
+  addend_whole = mod-eq_of_lt {m = 2 ^ 64} byte_fits
+
+  pub sum_fits : sum + (b * 2 ^ (7 * k - 3)) % 2 ^ 64 < 2 ^ 64
+  sum_fits = omega (arith, addend_whole, byte_below, pow_mono {i = 7 * k - 3} {j = 53} (omega arith))
+
+  pub next_below : sum + (b * 2 ^ (7 * k - 3)) % 2 ^ 64 < 16 * 2 ^ (7 * (k + 1) - 3)
+  next_below =
+      let up : 7 * (k + 1) - 3 ≡ 7 * k - 3 + 7 = omega arith in
+      let e : 2 ^ (7 * (k + 1) - 3) ≡ 2 ^ (7 * k - 3) * 2 ^ 7 = ap (λ (n : ℕ). 2 ^ n) up ∙ pow-add 2 (7 * k - 3) 7 in
+      omega (arith, addend_whole, byte_below)

@@ -11,11 +11,15 @@ use lib.Dec.{eqb}
 use lib.Pow.{pow-add, shl_exact}
 use lib.ListN.{length, take, get_or}
 use borrow.Author.Tests.{lt-ltb, le-ltb, le-leb, lt-leb, eqb-true, eqb-false}
+use Rattle.std.specs.Prelude.{Result}
+use Rattle.answer.specs.declared.Read.{Read}
+use Rattle.answer.specs.declared.Refusal.{Refusal}
 use Rattle.answer.specs.Answer.{Answer, done, refused}
-use Rattle.answer.proofs.Cases.{bool_cases, not_both, lt_or_le}
-use Rattle.varint.specs.declared.NumberRead.{NumberRead}
+use Rattle.answer.specs.Writes.{read_said}
+use Rattle.answer.proofs.Answers.{ends}
+use Rattle.answer.proofs.Cases.{bool_cases, answer_cases, not_both, lt_or_le}
 use Rattle.varint.specs.Number.{worth, tenth_too_high, more, number, groups, number_bytes}
-use Rattle.varint.specs.Promise.{number_said, Exactly, DecodeVarint}
+use Rattle.varint.specs.Promise.{Exactly, DecodeVarint}
 use Rattle.varint.proofs.Writing.{reach, reach_down, groups_last, groups_on, bytes_one, bytes_more, steps_reach}
 
 -- ---- one byte
@@ -240,6 +244,13 @@ number_place (b ∷ s) n place e =
     (λ l. let next = more_place s b 1 n place (sym (number_more b s l) ∙ e) in omega arith)
     (lt_or_le b 240)
 
+-- So it ends within the bytes, whichever answer it is.
+pub number_ends : (s : List ℕ) → ends (number s) ≤ length s
+number_ends s =
+    answer_cases (number s)
+    (λ n used e. rw e (accepted s n used e).2)
+    (λ n place e. rw e (number_place s n place e))
+
 -- ---- bytes appended
 
 -- the byte that decides is there before and after
@@ -342,7 +353,7 @@ pub one_form : (s t : List ℕ) (n u v : ℕ) → Bytes s → Bytes t → number
 one_form s t n u v small other e f = number_exact s n u small e ∙ sym (number_exact t n v other f)
 
 -- so the number reader keeps its promise, of lent bytes, where it answers as the definition does
-pub decoded : (s : List ℕ) (r : NumberRead) → Bytes s → number_said r ≡ number s → DecodeVarint s r
+pub decoded : (s : List ℕ) (r : Result (Read ℕ) Refusal) → Bytes s → read_said r ≡ number s → DecodeVarint s r
 decoded s r small says = record { says = says; exact = go (number s) refl }
   where
     go : (a : Answer ℕ) → number s ≡ a → Exactly s a

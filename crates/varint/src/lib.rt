@@ -4,20 +4,13 @@
 
 #![tactic(auto)]
 
-ghost use Rattle.std.specs.Prelude.{◌≡◌, ◌≤◌, ◌<◌, ◌^◌, length, drop};
+ghost use Rattle.std.specs.Prelude.{◌≡◌, ◌≤◌, ◌<◌, ◌^◌, length, drop, nat_le};
 ghost use Rattle.answer.specs.Answer.{written, leaves};
 ghost use Rattle.varint.specs.Number.{more, groups, number_bytes};
-ghost use Rattle.varint.specs.Promise.{number_said, DecodeVarint};
-ghost use Rattle.answer.specs.Writes.{Writes};
+ghost use Rattle.varint.specs.Promise.{DecodeVarint};
+ghost use Rattle.answer.specs.Writes.{read_said, Writes};
 
-use answer::{NO_ROOM, NOT_FITTING, Refusal, TOO_LARGE, TOO_SOON, Written};
-
-// What the number reader answers.
-#[derive(Clone, Copy)]
-pub enum NumberRead {
-    Done { value: u64, used: usize },
-    Refused(Refusal),
-}
+use answer::{Read, Reason, Refusal};
 
 // How many bytes the written form of i has. From 240 on it is counted in steps of 16, whose bits, seven to a byte, leave two lengths: k and k + 1 bytes
 // behind the first. The longer one starts at 2^7 + 2^14 + ... + 2^7k steps, of which 127 128ths are 2^7k - 1.
@@ -37,27 +30,30 @@ pub fn varint_len(i: u64) -> usize
     }
 }
 
+// Whether i's written form has at most so many bytes.
+fn fits(i: u64, room: usize) -> bool
+    ensures { result ≡ nat_le (length (number_bytes i)) room }
+{
+    // Ten are always enough, and spare the measuring.
+    10 <= room || varint_len(i) <= room
+}
+
 // Writes i at the front of `out`.
-pub fn encode_varint(i: u64, out: &mut [u8]) -> Written
+pub fn encode_varint(i: u64, out: &mut [u8]) -> Result<usize, Refusal>
     ensures { Writes (written (number_bytes i)) result out.old out.new }
 {
-    // Ten bytes are always enough, and spare the measuring.
-    if out.len() < 10 && out.len() < varint_len(i) {
-        return Written::Refused(Refusal {
-            number: NO_ROOM,
-            place: 0,
-        });
+    if !fits(i, out.len()) {
+        return Err(Reason::NoRoom.at(0));
     }
     if i < 240 {
         out[0] = i as u8;
-        return Written::Done(1);
+        return Ok(1);
     }
     out[0] = (240 + i % 16) as u8;
-    let n = encode_more((i - 240) / 16, &mut out[1..]);
-    Written::Done(1 + n)
+    Ok(1 + encode_more((i - 240) / 16, &mut out[1..]))
 }
 
-// Writes what follows the first byte, where there is room.
+// Writes what follows the first byte, where there is room. It goes on by what is left of the number, so there is no range to go over.
 fn encode_more(steps: u64, out: &mut [u8]) -> usize
     requires steps_bound { steps < 2 ^ 60 }
     requires steps_in_bounds { length (groups 9 steps) ≤ length out.old }
@@ -76,71 +72,58 @@ fn encode_more(steps: u64, out: &mut [u8]) -> usize
 }
 
 // Reads the number at the front of `input`.
-pub fn decode_varint(input: &[u8]) -> NumberRead
+pub fn decode_varint(input: &[u8]) -> Result<Read<u64>, Refusal>
     ensures { DecodeVarint input.now result }
 {
-    if input.len() == 0 {
-        return refused(TOO_SOON, 0);
-    }
-    let first = input[0];
+    let Some(&first) = input.first() else {
+        return Err(Reason::TooSoon.at(0));
+    };
     if 240 <= first {
-        return decode_more(first as u64, input);
+        return decode_more(u64::from(first), input);
     }
-    NumberRead::Done {
-        value: first as u64,
+    Ok(Read {
+        value: u64::from(first),
         used: 1,
-    }
+    })
 }
 
 // Reads on after a first byte that is not the number itself. Nine bytes cannot add up to more than 64 bits, so the tenth alone is asked.
-fn decode_more(first: u64, input: &[u8]) -> NumberRead
+fn decode_more(first: u64, input: &[u8]) -> Result<Read<u64>, Refusal>
     requires { first < 256 }
-    ensures { number_said result ≡ more first 1 (drop 1 input.now) }
+    ensures { read_said result ≡ more first 1 (drop 1 input.now) }
 {
     let mut sum = first;
-    let mut used = 1;
-    let mut shift: u64 = 4;
-    let value = loop {
-        if 9 <= used {
-            return decode_tenth(sum, input);
-        }
-        if input.len() <= used {
-            return refused(TOO_SOON, used);
-        }
-        let byte = input[used];
-        sum += (byte as u64) << shift;
-        used += 1;
-        shift += 7;
+    for k in 1..9 {
+        let Some(&byte) = input.get(k) else {
+            return Err(Reason::TooSoon.at(k));
+        };
+        sum += u64::from(byte) << (7 * k - 3);
         if byte < 128 {
-            break sum;
+            return Ok(Read {
+                value: sum,
+                used: k + 1,
+            });
         }
-    };
-    NumberRead::Done { value, used }
+    }
+    decode_tenth(sum, input)
 }
 
 // Reads a tenth byte, after nine that add up to sum.
-fn decode_tenth(sum: u64, input: &[u8]) -> NumberRead
-    ensures { number_said result ≡ more sum 9 (drop 9 input.now) }
+fn decode_tenth(sum: u64, input: &[u8]) -> Result<Read<u64>, Refusal>
+    ensures { read_said result ≡ more sum 9 (drop 9 input.now) }
 {
-    if input.len() <= 9 {
-        return refused(TOO_SOON, 9);
-    }
-    let byte = input[9];
+    let Some(&byte) = input.get(9) else {
+        return Err(Reason::TooSoon.at(9));
+    };
     if 15 < byte {
-        return refused(NOT_FITTING, 10);
+        return Err(Reason::NotFitting.at(10));
     }
-    let addend = (byte as u64) << 60;
+    let addend = u64::from(byte) << 60;
     if u64::MAX - sum < addend {
-        return refused(TOO_LARGE, 10);
+        return Err(Reason::TooLarge.at(10));
     }
-    NumberRead::Done {
+    Ok(Read {
         value: sum + addend,
         used: 10,
-    }
-}
-
-fn refused(number: u64, place: usize) -> NumberRead
-    ensures { result ≡ NumberRead.Refused (record { number = number; place = place }) }
-{
-    NumberRead::Refused(Refusal { number, place })
+    })
 }

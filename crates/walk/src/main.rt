@@ -4,7 +4,7 @@
 #![tactic(auto)]
 
 use std::io;
-use walker::{Place, Step};
+use walker::Place;
 
 fn main(rt: HostRuntime) -> io::Result<()> {
     // A HAPROXY-HELLO with two pairs, "a" with true and "max" with the u32 16380, and nothing behind it.
@@ -38,37 +38,36 @@ fn main(rt: HostRuntime) -> io::Result<()> {
 // Sixteen steps at most: no frame here has so many pairs.
 fn walk(rt: &impl Print, bytes: &[u8], from: Place) -> io::Result<()> {
     let mut place = from;
-    let mut i: usize = 0;
-    while i < 16 {
+    for _ in 0..16 {
         match walker::step_from(bytes, place) {
-            Step::Found { pair, next } => {
-                key(rt, bytes, pair.start as usize, pair.len as usize)?;
-                place = next;
+            Ok(Some(found)) => {
+                key(
+                    rt,
+                    bytes,
+                    found.pair.start as usize,
+                    found.pair.len as usize,
+                )?;
+                place = found.next;
             },
-            Step::End => {
+            Ok(None) => {
                 return rt.write_all(b"end\n");
             },
-            Step::Refused(r) => {
-                let number = r.number;
+            Err(r) => {
+                let number = u64::from(r.reason);
                 let at = r.place;
                 return println!(rt; "refused {number} at {at}");
             },
         }
-        i += 1;
     }
     Ok(())
 }
 
 // A key in quotes, on its own line.
 fn key(rt: &impl Print, bytes: &[u8], start: usize, len: usize) -> io::Result<()> {
-    if bytes.len() < start {
+    let Some(key) = bytes.get(start..).and_then(|rest| rest.get(..len)) else {
         return Ok(());
-    }
-    if bytes.len() - start < len {
-        return Ok(());
-    }
-    let end = start + len;
+    };
     rt.write_all(b"\"")?;
-    rt.write_all(&bytes[start..end])?;
+    rt.write_all(key)?;
     rt.write_all(b"\"\n")
 }

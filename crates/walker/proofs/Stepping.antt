@@ -3,24 +3,26 @@ use mathlib.Core.Path.{◌≡◌, refl, sym, ap, ◌∙◌}
 use mathlib.Core.Bool.{true, false}
 use mathlib.Core.List.{List}
 use Prim.Native.Nat.{ℕ, ◌≤◌}
-use native.Mathlib.Omega.{arith}
-use lib.ListN.{length, drop, drop_of_length-le}
-use Rattle.answer.specs.Answer.{Answer, done, refused}
-use Rattle.answer.proofs.Cases.{bool_cases}
+use lib.ListN.{length, drop_of_length-le}
+use Rattle.std.specs.Prelude.{Option}
+use Rattle.answer.specs.Answer.{Answer, done, refused, behind}
+use Rattle.answer.proofs.Cases.{bool_cases, not_both}
 use Rattle.varint.specs.Number.{number}
 use Rattle.varint.proofs.Reading.{number_none}
 use Rattle.frame.specs.declared.Pair.{Pair}
+use Rattle.frame.specs.Read.{still}
 use Rattle.payload.specs.Pair.{pair_from}
+use Rattle.payload.specs.Item.{one, no_more}
+use Rattle.walker.specs.declared.Found.{Found}
 use Rattle.walker.specs.declared.Place.{Place}
-use Rattle.walker.specs.declared.Step.TheVariants as v
-use Rattle.walker.specs.Walk.{comes, after_place, step_said, walk_step}
+use Rattle.walker.specs.Walk.{end_or, behind_number, comes, after_place, step_said, walk_step}
 
 -- no number stands behind the end
-pub number_past : (s : List ℕ) (at : ℕ) → length s ≤ at → number (drop at s) ≡ refused 3 0
-number_past s at h = ap number (drop_of_length-le s h) ∙ number_none
+pub none_past : (s : List ℕ) (at : ℕ) → length s ≤ at → length s ≡ behind_number s at
+none_past s at h = sym (ap (λ (a : Answer ℕ). end_or (length s) (behind still at a)) (ap number (drop_of_length-le s h) ∙ number_none))
 
 module _ (s : List ℕ) (x : Place) where
-  pub step_end : comes s x ≡ false → walk_step s x ≡ v.End
+  pub step_end : comes s x ≡ false → walk_step s x ≡ no_more
   unfolding walk_step
   step_end e = rw e
 
@@ -35,19 +37,16 @@ module _ (s : List ℕ) (x : Place) where
     pub from : pair_from x.at s ≡ done p end
     pub next : y ≡ after_place x end
 
-  pub step_found : (p : Pair) (y : Place) → walk_step s x ≡ v.Found p y → StepFound p y
-  step_found p y e = bool_cases (comes s x) (λ t. answered t (pair_from x.at s) refl) (λ t. no_end (sym (step_end t) ∙ e))
+  pub step_found : (p : Pair) (y : Place) → walk_step s x ≡ one (record { pair = p; next = y }) → StepFound p y
+  step_found p y e = bool_cases (comes s x) (λ t. on t (pair_from x.at s) refl) (λ t. no_end (sym (step_end t) ∙ e))
     where
-      no_end : v.End ≡ v.Found p y → StepFound p y
-      no_end g = let z : ◌≡◌ {A = ℕ} 0 1 = cc in absurd (omega arith)
+      no_end : ◌≡◌ {A = Answer (Option Found)} no_more (one (record { pair = p; next = y })) → StepFound p y
+      no_end g = absurd (cc g)
 
-      answered : comes s x ≡ true → (a : Answer Pair) → pair_from x.at s ≡ a → StepFound p y
-      answered t (done q end) f =
-          let g : v.Found q (after_place x end) ≡ v.Found p y = sym (step_is t (done q end) f) ∙ e in
-          let same : q ≡ p = cc in
-          let goes : after_place x end ≡ y = cc in
-          record { end = end; from = f ∙ ap (λ (r : Pair). done r end) same; next = sym goes }
-      answered t (refused n place) f =
-          let g : v.Refused (record { number = n; place = place }) ≡ v.Found p y = sym (step_is t (refused n place) f) ∙ e in
-          let z : ◌≡◌ {A = ℕ} 0 1 = cc in
-          absurd (omega arith)
+      on : comes s x ≡ true → (a : Answer Pair) → pair_from x.at s ≡ a → StepFound p y
+      on t (done q end) f =
+          let g : ◌≡◌ {A = Answer (Option Found)} (one (record { pair = q; next = after_place x end })) (one (record { pair = p; next = y })) = sym (step_is t (done q end) f) ∙ e in
+          let both : ◌≡◌ {A = Found} (record { pair = q; next = after_place x end }) (record { pair = p; next = y }) = cc in
+          let same : q ≡ p = ap (λ (z : Found). z.pair) both in
+          record { end = end; from = f ∙ ap (λ (r : Pair). done r end) same; next = sym (ap (λ (z : Found). z.next) both) }
+      on t (refused n place) f = not_both e (step_is t (refused n place) f)

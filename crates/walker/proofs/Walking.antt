@@ -3,6 +3,7 @@
 use mathlib.Core.Path.{◌≡◌, refl, sym, ap, ap₂, ◌∙◌}
 use mathlib.Core.Bool.{true, false}
 use mathlib.Core.List.{List, [], ◌∷◌}
+use Rattle.std.specs.Prelude.{Option}
 use Prim.Native.Nat.{ℕ, suc, ◌+◌, ◌<◌, ◌^◌}
 use native.Mathlib.Omega.{arith}
 use lib.ListN.{length, take, drop, length-drop}
@@ -24,20 +25,25 @@ use Rattle.payload.specs.Pair.{pair_from}
 use Rattle.payload.specs.Payload.{Contents, payload}
 use Rattle.payload.specs.Inner.{Run}
 use Rattle.payload.proofs.Rows.{from_next}
-use Rattle.answer.proofs.Row.{Row, row_as, Found, row_found}
+use Rattle.answer.proofs.Row.{Row, row_as, row_found}
+use Rattle.answer.proofs.Row.{Found as Read}
 use Rattle.payload.proofs.Accepted.{payload_all, kv_run, messages_run, arguments_in, Whole, messages_whole}
 use Rattle.parser.specs.Frame.{payload_of, frame_read}
 use Rattle.parser.proofs.Frames.{frame_cut}
+use Rattle.payload.specs.Item.{one, no_more}
+use Rattle.walker.specs.declared.Found.{Found}
 use Rattle.walker.specs.declared.Place.{Place}
-use Rattle.walker.specs.declared.Step.TheVariants as v
 use Rattle.walker.specs.Walk.{end_or, behind_number, kv_of, arguments_place, walk_step}
 use Rattle.walker.proofs.Stepping.{step_end, step_is}
 
 -- ---- what a walk finds
 
+abbrev found : Pair → Place → Answer (Option Found)
+found p y = one (record { pair = p; next = y })
+
 -- From one place to another the steps find these pairs.
 abbrev pub Steps : List ℕ → Place → Pair → Place → Type 0
-Steps s x p y = walk_step s x ≡ v.Found p y
+Steps s x p y = walk_step s x ≡ found p y
 
 abbrev pub Finds : List ℕ → Place → List Pair → Place → Type 0
 Finds s x ps y = Row (Steps s) x ps y
@@ -46,7 +52,7 @@ Finds s x ps y = Row (Steps s) x ps y
 pub record FindsAll (s : List ℕ) (x : Place) (ps : List Pair) : Type 0 where
   pub last : Place
   pub finds : Finds s x ps last
-  pub ends : walk_step s last ≡ v.End
+  pub ends : walk_step s last ≡ no_more
 
 -- ---- pairs that stand in a row
 
@@ -60,14 +66,14 @@ arguments_at at n = record { at = at; left = n; kv = false }
 kv_finds : (s : List ℕ) (at : ℕ) (ps : List Pair) (end : ℕ) → Run s at ps end → Finds s (kv_at at) ps (kv_at end)
 kv_finds s at ps end r = row_as (Steps s) kv_at one at ps end (row_found (λ n. pair_from n s) at ps end r)
   where
-    one : (n : ℕ) (p : Pair) (m : ℕ) → Found (λ i. pair_from i s) n p m → Steps s (kv_at n) p (kv_at m)
+    one : (n : ℕ) (p : Pair) (m : ℕ) → Read (λ i. pair_from i s) n p m → Steps s (kv_at n) p (kv_at m)
     one n p m e = step_is s (kv_at n) (lt-ltb n (length s) (omega (arith, from_next s n p m e))) _ e
 
 arguments_finds : (s : List ℕ) (at : ℕ) (ps : List Pair) (end left : ℕ) → Run s at ps end → Finds s (arguments_at at (length ps + left)) ps (arguments_at end left)
 arguments_finds s at [] end left r = ap₂ arguments_at r (omega arith)
 arguments_finds s at (p ∷ ps) end left r = (
   arguments_at r.0 (length ps + left),
-  step_is s (arguments_at at (suc (length ps) + left)) (lt-ltb 0 (suc (length ps) + left) (omega arith)) _ r.1 ∙ ap (λ (n : ℕ). v.Found p (arguments_at r.0 n)) (omega arith),
+  step_is s (arguments_at at (suc (length ps) + left)) (lt-ltb 0 (suc (length ps) + left) (omega arith)) _ r.1 ∙ ap (λ (n : ℕ). found p (arguments_at r.0 n)) (omega arith),
   arguments_finds s r.0 ps end left r.2,
 )
 

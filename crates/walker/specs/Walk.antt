@@ -1,14 +1,14 @@
 -- A walk over the pairs of a frame, one step at a time: of a KV list, or of a message's arguments (SPOE.txt, sections 3.2 and 3.2.6). Starts and places
 -- count from the frame's first byte.
-use Rattle.std.specs.Prelude.{Bool, true, false, cond, List, ℕ, ◌+◌, ◌-◌, ◌^◌, ltb, length}
+use Rattle.std.specs.Prelude.{Bool, true, false, cond, List, ℕ, ◌+◌, ◌-◌, ◌^◌, ltb, length, Option}
 use Rattle.answer.specs.Answer.{Answer, done, refused}
 use Rattle.frame.specs.declared.Pair.{Pair}
 use Rattle.frame.specs.declared.Message.{Message}
 use Rattle.frame.specs.Read.{number_from}
 use Rattle.payload.specs.Pair.{pair_from}
+use Rattle.payload.specs.Item.{one, no_more}
+use Rattle.walker.specs.declared.Found.{Found}
 use Rattle.walker.specs.declared.Place.{Place}
-use Rattle.walker.specs.declared.Step.{Step}
-use Rattle.walker.specs.declared.Step.TheVariants as v
 
 -- where a number ends that stands at a place; the end of the bytes where none can be read
 abbrev pub end_or : ℕ → Answer ℕ → ℕ
@@ -36,10 +36,11 @@ comes s x = cond x.kv (ltb x.at (length s)) (ltb 0 x.left)
 abbrev pub after_place : Place → ℕ → Place
 after_place x end = record { at = end; left = x.left - 1; kv = x.kv }
 
-abbrev pub step_said : Place → Answer Pair → Step
-step_said x (done p end) = v.Found p (after_place x end)
-step_said x (refused n place) = v.Refused (record { number = n; place = place })
+-- what was read as a step
+abbrev pub step_said : Place → Answer Pair → Answer (Option Found)
+step_said x (done p end) = one (record { pair = p; next = after_place x end })
+step_said x (refused n place) = refused n place
 
 -- The step: the pair that stands at the place, where one is to come.
-unfoldable pub walk_step : List ℕ → Place → Step
-walk_step s x = cond (comes s x) (step_said x (pair_from x.at s)) v.End
+unfoldable pub walk_step : List ℕ → Place → Answer (Option Found)
+walk_step s x = cond (comes s x) (step_said x (pair_from x.at s)) no_more

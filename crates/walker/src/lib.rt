@@ -6,25 +6,23 @@
 
 mod steps;
 
-use answer::Refusal;
 use frame::Pair;
 pub use steps::{arguments_of, kv_of, moved, new, next, step_from};
 
-// Where a walk over pairs is: the place of the next one, and how many are to come. A KV list goes on to the end of the bytes instead.
-#[derive(Clone, Copy)]
+// Where a walk over pairs is: the place of the next one, and how many are to come. A KV list goes on to the end of the bytes instead; it is a flag
+// beside the count, since callers keep places and `arguments_of` and `kv_of` promise each number of them.
+#[derive(Clone, Copy, Debug, PartialEq, Eq)]
 pub struct Place {
     pub at: usize,
     pub left: usize,
     pub kv: bool,
 }
 
-// What a step finds: the pair, with its starts in the frame, and where the walk goes on behind it; that there is none left; or why it is
-// refused.
-#[derive(Clone, Copy)]
-pub enum Step {
-    Found { pair: Pair, next: Place },
-    End,
-    Refused(Refusal),
+// A pair that a step found, with its starts in the frame, and where the walk goes on behind it.
+#[derive(Clone, Copy, Debug, PartialEq, Eq)]
+pub struct Found {
+    pub pair: Pair,
+    pub next: Place,
 }
 
 // A walker over the pairs of a frame.

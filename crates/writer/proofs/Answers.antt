@@ -1,22 +1,25 @@
 -- Laws about each writer's answer: for each refusal, when.
-use mathlib.Core.Path.{◌≡◌, refl, ◌∙◌}
+use mathlib.Core.Path.{◌≡◌, refl, sym, ap, ◌∙◌}
 use mathlib.Core.Bool.{Bool, true, false, not, ◌||◌}
 use mathlib.Core.List.{List, [], ◌∷◌}
 use Prim.Native.Nat.{ℕ, ◌*◌, ◌≤◌, ◌<◌}
-use native.Mathlib.Omega.{arith}
 use lib.Dec.{eqb}
 use lib.ListN.{length}
-use borrow.Author.Tests.{le-leb, lt-leb, eq-eqb, ne_eqb, eqb-true, eqb-false}
+use borrow.Author.Tests.{le-leb, lt-leb, eq-eqb, ne_eqb}
+use Rattle.std.specs.Prelude.{Ok, Err}
+use Rattle.answer.specs.declared.Reason.TheVariants as reason
+use Rattle.answer.specs.declared.Refusal.{Refusal}
 use Rattle.answer.specs.Answer.{Answer, refused}
+use Rattle.answer.specs.Writes.{refusal_said, Writes}
 use Rattle.answer.specs.Order.{Check, in_order, each_in_order}
 use Rattle.answer.specs.Inner.{Sound}
 use Rattle.answer.specs.Table.{holds}
-use Rattle.answer.proofs.Cases.{bool_cases, true_false}
 use Rattle.answer.proofs.Order.{each_pass}
+use Rattle.answer.proofs.Output.{writes_refusal}
 use Rattle.frame.specs.declared.Head.{Head}
 use Rattle.frame.specs.Records.{pair_width, action_width, message_width}
 use Rattle.writer.specs.Pair.{kv_checks}
-use Rattle.writer.specs.Inner.{pair_order, action_order, message_order}
+use Rattle.writer.specs.Inner.{pair_order, action_order, message_order, Counted}
 use Rattle.writer.specs.Frame.{limited, fin_alone, agent_allowed, kv_allowed, pairs_bytes, kv_answer, actions_bytes, actions_answer, messages_bytes, notify_answer}
 
 -- ---- which metadata is writable
@@ -42,16 +45,6 @@ module _ (h : Head) where
   unfolding kv_allowed
   kv_other a b c d = rw (ne_eqb h.frame_type 1 a, ne_eqb h.frame_type 2 b, ne_eqb h.frame_type 101 c, ne_eqb h.frame_type 102 d)
 
-  -- a writable type is one byte
-  pub kv_type : kv_allowed h ≡ true → h.frame_type < 256
-  kv_type e =
-      bool_cases (eqb h.frame_type 1) (λ t. omega (arith, eqb-true h.frame_type 1 t))
-      (λ a. bool_cases (eqb h.frame_type 2) (λ t. omega (arith, eqb-true h.frame_type 2 t))
-      (λ b. bool_cases (eqb h.frame_type 101) (λ t. omega (arith, eqb-true h.frame_type 101 t))
-      (λ c. bool_cases (eqb h.frame_type 102) (λ t. omega (arith, eqb-true h.frame_type 102 t))
-      (λ d.
-      true_false e (kv_other (eqb-false h.frame_type 1 a) (eqb-false h.frame_type 2 b) (eqb-false h.frame_type 101 c) (eqb-false h.frame_type 102 d))))))
-
 -- ---- metadata, a count of records, and then the records in their order
 
 -- the answer of a list of records: which metadata is allowed, how wide a record is, what refuses one and what comes after
@@ -71,6 +64,23 @@ module _ (allowed : Bool) (width : ℕ) (table : List ℕ) (count : ℕ) (checks
   pub list_held : allowed ≡ true → count * width ≤ length table → list_answer allowed width table count checks a ≡ each_in_order checks 0 count a
   unfolding in_order
   list_held e l = rw (e, le-leb (count * width) (length table) l)
+
+-- what a writer says that has such an answer, by what it asks in turn: the metadata, the table, and the records
+module _ {answer : Answer (List ℕ)} (allowed : Bool) (width : ℕ) (table : List ℕ) (count : ℕ) (checks : ℕ → List Check) (a : Answer (List ℕ))
+    (is : answer ≡ list_answer allowed width table count checks a) (old : List ℕ) where
+  pub list_unwritable : allowed ≡ false → {r : Refusal} → r ≡ record { reason = reason.NotWritable; place = 0 } → Writes answer (Err r) old old
+  list_unwritable e {r} f = writes_refusal r old (is ∙ list_metadata allowed width table count checks a e ∙ sym (ap refusal_said f))
+
+  module _ (e : allowed ≡ true) where
+    pub list_outside : {r : Refusal} → Counted table width count (Err r) → Writes answer (Err r) old old
+    list_outside {r} c = writes_refusal r old (is ∙ list_count allowed width table count checks a e c.0 ∙ sym c.1)
+
+    module _ {n : ℕ} (c : Counted table width count (Ok n)) where
+      pub list_refused : {r : Refusal} → ((b : Answer (List ℕ)) → each_in_order checks 0 n b ≡ refusal_said r) → Writes answer (Err r) old old
+      list_refused {r} f = writes_refusal r old (is ∙ list_held allowed width table count checks a e c.1 ∙ (rw c.0 at (f a)))
+
+      pub list_passed : Sound checks n → answer ≡ a
+      list_passed s = is ∙ list_held allowed width table count checks a e c.1 ∙ each_pass checks a count (rw c.0 at s)
 
 -- both writers of one list have such an answer
 pub kv_list : (h : Head) (limit : ℕ) (buffer pairs : List ℕ) (count : ℕ)

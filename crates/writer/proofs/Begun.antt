@@ -8,10 +8,9 @@ use lib.ListN.{length, take, drop, length-append}
 use borrow.Rule.Slice.PartMut.{put_mid}
 use borrow.Author.Tests.{le-leb, lt-leb}
 use Rattle.answer.specs.declared.Refusal.{Refusal}
-use Rattle.answer.specs.declared.Written.{Written}
-use Rattle.answer.specs.declared.Written.TheVariants as w
+use Rattle.std.specs.Prelude.{Ok, Err}
 use Rattle.answer.specs.Answer.{Answer, done, refused, written, within, tells, leaves}
-use Rattle.answer.specs.Writes.{said, Writes}
+use Rattle.answer.specs.Writes.{refusal_said, Writes}
 use Rattle.answer.specs.Order.{in_order}
 use Rattle.answer.proofs.Cases.{lt_or_le, not_both}
 use Rattle.answer.proofs.Output.{writes_as, writes_whole}
@@ -74,8 +73,8 @@ module _ (room limit : ℕ) (h : Head) (len : ℕ) where
   begun_in l g = rw (le-leb (length (head_bytes h) + len) limit l, le-leb (4 + (length (head_bytes h) + len)) room g)
 
 -- a refusal, as such an answer is kept
-pub begins_refused : {a : Answer (List ℕ)} (n : ℕ) (old : List ℕ) → a ≡ refused n 0 → Begins a (w.Refused (record { number = n; place = 0 })) old old
-begins_refused n old e = rw e (record { says = refl; holds = refl })
+pub begins_refused : {a : Answer (List ℕ)} (r : Refusal) (old : List ℕ) → a ≡ refusal_said r → Begins a (Err r) old old
+begins_refused r old e = rw e (record { says = refl; holds = refl })
 
 -- A frame that is begun: its payload's length is the measured one, its front is written, and there is room for all.
 pub record Begun (limit : ℕ) (h : Head) (payload old : List ℕ) (len start : ℕ) (out : List ℕ) : Type 0 where
@@ -87,8 +86,7 @@ pub record Begun (limit : ℕ) (h : Head) (payload old : List ℕ) (len start : 
   pub room : length (front h len ++ payload) ≤ length old
 
 -- What whoever begins a frame learns, where the payload was measured as far as the limit.
-module _ (limit : ℕ) (h : Head) (payload : List ℕ) {old out : List ℕ} (len : ℕ) (is : len ≡ capped limit (length payload)) {r : Written}
-    (p : Begins (begun (length old) limit h len) r old out) where
+module _ (limit : ℕ) (h : Head) (payload : List ℕ) (room len : ℕ) (is : len ≡ capped limit (length payload)) where
   within_limit : length (head_bytes h) + len ≤ limit → len ≡ length payload
   within_limit l = is ∙ capped_below limit (length payload) (omega arith)
 
@@ -96,55 +94,46 @@ module _ (limit : ℕ) (h : Head) (payload : List ℕ) {old out : List ℕ} (len
   over_limit l = ⊎_elim (λ g. omega arith) (λ g. omega (arith, capped_in limit (length payload) g)) (lt_or_le limit (length payload))
 
   -- by the front's answer: over the limit, without room, or begun
-  begun_cases : {G : Type 0} → (begun (length old) limit h len ≡ refused 12 0 → limit < length (head_bytes h) + length payload → G)
-      → (begun (length old) limit h len ≡ refused 11 0 → len ≡ length payload → length (head_bytes h) + length payload ≤ limit → length old < 4 + (length (head_bytes h) + length payload) → G)
-      → (begun (length old) limit h len ≡ written (front h len) → len ≡ length payload → length (head_bytes h) + length payload ≤ limit
-      → 4 + (length (head_bytes h) + length payload) ≤ length old → G)
+  begun_cases : {G : Type 0} → (begun room limit h len ≡ refused 12 0 → limit < length (head_bytes h) + length payload → G)
+      → (begun room limit h len ≡ refused 11 0 → length (head_bytes h) + length payload ≤ limit → room < 4 + (length (head_bytes h) + length payload) → G)
+      → (begun room limit h len ≡ written (front h len) → len ≡ length payload → length (head_bytes h) + length payload ≤ limit
+      → 4 + (length (head_bytes h) + length payload) ≤ room → G)
       → G
   begun_cases over short in' =
-      ⊎_elim (λ l. over (begun_over (length old) limit h len l) (over_limit l))
+      ⊎_elim (λ l. over (begun_over room limit h len l) (over_limit l))
       (λ l.
       let m = within_limit l in
-      ⊎_elim (λ g. short (begun_short (length old) limit h len l g) m (omega arith) (omega arith)) (λ g. in' (begun_in (length old) limit h len l g) m (omega arith) (omega arith))
-      (lt_or_le (length old) (4 + (length (head_bytes h) + len))))
+      ⊎_elim (λ g. short (begun_short room limit h len l g) (omega arith) (omega arith)) (λ g. in' (begun_in room limit h len l g) m (omega arith) (omega arith))
+      (lt_or_le room (4 + (length (head_bytes h) + len))))
       (lt_or_le limit (length (head_bytes h) + len))
 
-  -- what the call then said
-  said_refused : (n : ℕ) → begun (length old) limit h len ≡ refused n 0 → said r ≡ refused n 0
-  said_refused n a = p.says ∙ ap tells a
-
-  said_done : (bytes : List ℕ) → begun (length old) limit h len ≡ written bytes → said r ≡ done tt (length bytes)
-  said_done bytes a = p.says ∙ ap tells a
-
+module _ (limit : ℕ) (h : Head) (payload : List ℕ) {old out : List ℕ} (len : ℕ) (is : len ≡ capped limit (length payload)) where
   -- a refusal is the frame's
-  pub begun_refused : (x : Refusal) → r ≡ w.Refused x → Writes (limited limit h payload) (w.Refused x) old out
-  begun_refused x e =
-      begun_cases
+  pub begun_refused : (x : Refusal) → Begins (begun (length old) limit h len) (Err x) old out → Writes (limited limit h payload) (Err x) old out
+  begun_refused x p =
+      begun_cases limit h payload (length old) len is
       (λ a l. refused_as 12 a (rw (limited_over limit h payload l)))
-      (λ a m l g. refused_as 11 a (rw (limited_in limit h payload l) (simp (lt-leb (length (frame_bytes h payload)) (length old) (omega (arith, frame_length limit h payload))))))
-      (λ a m l g. not_both (said_done (front h len) a) (ap said e))
+      (λ a l g. refused_as 11 a (rw (limited_in limit h payload l) (simp (lt-leb (length (frame_bytes h payload)) (length old) (omega (arith, frame_length limit h payload))))))
+      (λ a m l g. not_both (ap tells a) (sym p.says))
     where
       refused_as : (n : ℕ) → begun (length old) limit h len ≡ refused n 0 → within (length old) (limited limit h payload) ≡ refused n 0
-          → Writes (limited limit h payload) (w.Refused x) old out
-      refused_as n a b =
-          let says : said (w.Refused x) ≡ refused n 0 = sym (ap said e) ∙ said_refused n a in
-          let holds : out ≡ old = p.holds ∙ ap (λ (y : Answer (List ℕ)). leaves y old) a in
-          writes_as b says holds
+          → Writes (limited limit h payload) (Err x) old out
+      refused_as n a b = writes_as b (p.says ∙ ap tells a) (p.holds ∙ ap (λ (y : Answer (List ℕ)). leaves y old) a)
 
   -- and else it is begun
-  pub begun_done : (start : ℕ) → r ≡ w.Done start → Begun limit h payload old len start out
-  begun_done start e =
-      begun_cases
-      (λ a l. not_both (ap said e) (said_refused 12 a))
-      (λ a m l g. not_both (ap said e) (said_refused 11 a))
+  pub begun_done : (start : ℕ) → Begins (begun (length old) limit h len) (Ok start) old out → Begun limit h payload old len start out
+  begun_done start p =
+      begun_cases limit h payload (length old) len is
+      (λ a l. not_both refl (p.says ∙ ap tells a))
+      (λ a l g. not_both refl (p.says ∙ ap tells a))
       (λ a m l g.
       let long = front_length h len in
-      let is : done tt start ≡ done tt (length (front h len)) = sym (ap said e) ∙ said_done (front h len) a in
+      let said : done tt start ≡ done tt (length (front h len)) = p.says ∙ ap tells a in
       record {
         measured = m;
         fits = l;
         whole = frame_parts limit h payload ∙ ap (λ (k : ℕ). front h k ++ payload) (sym m);
-        count = cc is;
+        count = cc said;
         first = p.holds ∙ ap (λ (y : Answer (List ℕ)). leaves y old) a;
         room = omega (arith, long, length-append (front h len) payload);
       })
@@ -161,7 +150,7 @@ module _ {limit : ℕ} {h : Head} {payload old : List ℕ} {len start : ℕ} {ou
   begun_most = omega (arith, b.measured, b.count, b.room, length-append (front h len) payload)
 
   pub begun_whole : (tail : List ℕ) → tail ≡ leaves (written payload) (take (length out - start) (drop start out))
-      → Writes (limited limit h payload) (w.Done (start + len)) old (put_mid start (length out - start) out tail)
+      → Writes (limited limit h payload) (Ok (start + len)) old (put_mid start (length out - start) out tail)
   begun_whole tail e =
       writes_whole (frame_bytes h payload) old (limited_in limit h payload b.fits) _ _
       (rw b.whole b.room)

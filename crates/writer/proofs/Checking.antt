@@ -1,15 +1,21 @@
 -- The loop that checks and measures a table's records: those before i pass, and `len` is how many bytes they have as far as it matters.
-use mathlib.Core.Path.{◌≡◌, refl, sym, ap, ◌∙◌}
+use mathlib.Core.Path.{◌≡◌, sym, ap, ◌∙◌}
 use mathlib.Core.List.{List, [], ◌∷◌, ◌++◌, append-nil}
 use Prim.Native.Nat.{ℕ, ◌+◌, ◌≤◌, ◌<◌}
 use native.Mathlib.Omega.{arith}
 use lib.ListN.{length, length-append}
+use Rattle.answer.specs.declared.Reason.{Reason}
+use Rattle.answer.specs.declared.Refusal.{Refusal}
+use Rattle.answer.specs.Answer.{Answer}
+use Rattle.answer.specs.Reason.{number_of}
+use Rattle.answer.specs.Writes.{refusal_said}
 use Rattle.answer.specs.Table.{records, joined}
-use Rattle.answer.specs.Order.{Check}
+use Rattle.answer.specs.Order.{Check, in_order, each_in_order}
 use Rattle.answer.specs.Inner.{Passes, Sound}
-use Rattle.answer.proofs.Order.{Refuses, sound_none, sound_on, each_refuse}
+use Rattle.answer.proofs.Order.{sound_none, sound_on, lines_refuse, each_refuse}
+use Rattle.answer.proofs.Same.{reason_some}
 use Rattle.answer.proofs.Records.{records_none, records_snoc, joined_none, joined_on, joined_both}
-use Rattle.writer.specs.Inner.{capped, Checks}
+use Rattle.writer.specs.Inner.{capped}
 use Rattle.writer.proofs.Capped.{capped_in, capped_most, capped_left, capped_right}
 
 pub record Checking {A : Type 0} (checks : ℕ → List Check) (bytes : A → List ℕ) (at : ℕ → A) (most len i : ℕ) : Type 0 where
@@ -50,21 +56,7 @@ module _ {A : Type 0} {checks : ℕ → List Check} {bytes : A → List ℕ} {at
       }
 
   -- record i is refused
-  pub checking_here : (count n : ℕ) → i < count → Refuses (checks i) n → (n ≡ 0 → ⊥) → (all : List ℕ)
-      → Checks checks count most all (record { refusal = record { number = n; place = i }; len = 0 })
-  checking_here count n h r ne all =
-      record {
-        refuses = λ ne a. each_refuse checks a count i n h c.sound r;
-        sound = λ z. absurd (ne z);
-        measured = λ z. absurd (ne z);
-      }
-
-  -- none is
-  pub checking_all : (count : ℕ) → i ≡ count
-      → Checks checks count most (joined bytes (records at 0 count)) (record { refusal = record { number = 0; place = 0 }; len = len })
-  checking_all count e =
-      record {
-        refuses = λ ne. absurd (ne refl);
-        sound = λ z. rw e at c.sound;
-        measured = λ z. c.measured ∙ ap (λ (k : ℕ). capped most (length (joined bytes (records at 0 k)))) e;
-      }
+  pub checking_here : (count : ℕ) → i < count → (why : Reason) → number_of why ≡ in_order (checks i) 0 → {r : Refusal} → r ≡ record { reason = why; place = i }
+      → (a : Answer (List ℕ)) → each_in_order checks 0 count a ≡ refusal_said r
+  checking_here count h why is e a =
+      each_refuse checks a count i (number_of why) h c.sound (lines_refuse (checks i) (number_of why) is (reason_some why)) ∙ sym (ap refusal_said e)

@@ -5,7 +5,7 @@ use mathlib.Core.Bool.{Bool}
 use mathlib.Core.List.{List, [], ◌++◌}
 use Prim.Native.Nat.{ℕ, ◌+◌, ◌*◌, ◌^◌, ◌≤◌, ◌<◌}
 use lib.ListN.{length, take}
-use Rattle.answer.specs.declared.Written.TheVariants as w
+use Rattle.std.specs.Prelude.{Ok}
 use Rattle.answer.specs.Table.{records}
 use Rattle.answer.proofs.Output.{Given, given}
 use Rattle.answer.proofs.Records.{records_none, records_apart}
@@ -21,7 +21,7 @@ use Rattle.writer.specs.Message.{message_bytes}
 use Rattle.writer.specs.Frame.{head_of, kv_answer, actions_answer, notify_answer}
 use Rattle.writer.proofs.Pairs.{formed_passed, kv_passed}
 use Rattle.writer.proofs.Messages.{all_ready}
-use Rattle.writer.proofs.Laws.{kv_accepted, kv_wrote, actions_accepted, actions_wrote, notify_accepted, notify_passed_records, notify_wrote}
+use Rattle.writer.proofs.Laws.{kv_accepted, kv_wrote, actions_accepted, actions_wrote, notify_passed_records, notify_wrote}
 use Rattle.writer.proofs.Spelled.{Item, item_of, item_at, item_bytes, item_bytes_lem, ItemOk, item_ok, item_some, item_front, Act, act_of, act_bytes, act_bytes_lem, ActOk, act_ok, act_some, act_front, Say, say_of, say_bytes, say_bytes_lem, SayOk, say_ok, say_some, say_front}
 use Rattle.writer.proofs.Payload.{Spelled, spelled, spelled_joined, spelled_apart, spelled_none}
 use Rattle.answer.specs.Writes.{Writes}
@@ -43,7 +43,7 @@ pub record AckCall : Type 0 where
   pub old : List ℕ
   pub new : List ℕ
   pub small : limit < 2 ^ 32
-  pub kept : Writes (actions_answer (head_of 103 fin abort stream frame) limit buffer actions count) (w.Done n) old new
+  pub kept : Writes (actions_answer (head_of 103 fin abort stream frame) limit buffer actions count) (Ok n) old new
 
 abbrev pub ack_head : AckCall → Head
 ack_head a = head_of 103 a.fin a.abort a.stream a.frame
@@ -119,7 +119,7 @@ pub record KvCall : Type 0 where
   pub old : List ℕ
   pub new : List ℕ
   pub small : limit < 2 ^ 32
-  pub kept : Writes (kv_answer (head_of type fin abort stream frame) limit buffer pairs count) (w.Done n) old new
+  pub kept : Writes (kv_answer (head_of type fin abort stream frame) limit buffer pairs count) (Ok n) old new
 
 abbrev pub kv_head : KvCall → Head
 kv_head a = head_of a.type a.fin a.abort a.stream a.frame
@@ -188,7 +188,7 @@ pub record NotifyCall : Type 0 where
   pub old : List ℕ
   pub new : List ℕ
   pub small : limit < 2 ^ 32
-  pub kept : Writes (notify_answer (head_of 3 fin abort stream frame) limit buffer messages count pairs total) (w.Done n) old new
+  pub kept : Writes (notify_answer (head_of 3 fin abort stream frame) limit buffer messages count pairs total) (Ok n) old new
 
 abbrev pub notify_head : NotifyCall → Head
 notify_head a = head_of 3 a.fin a.abort a.stream a.frame
@@ -209,11 +209,10 @@ module _ (a : NotifyCall) where
   notify_spelled : Spelled say_bytes SayOk (notify_head a) a.n a.new (says_of a)
   notify_spelled =
       let g = notify_given in
-      let held = (notify_accepted (notify_head a) a.limit a.buffer a.messages a.count a.pairs a.total g.bytes a.n g.is).2 in
       let passed = notify_passed_records (notify_head a) a.limit a.buffer a.messages a.count a.pairs a.total g.bytes a.n g.is in
-      let ready = all_ready a.buffer a.messages a.pairs a.count a.total held passed.0 passed.1 in
+      let ready = all_ready a.buffer a.messages a.pairs a.count a.total passed.0 passed.1 in
       spelled (message_bytes a.buffer a.pairs) (message_at a.messages) say_bytes SayOk (say_at a) (λ i. say_bytes_lem a.buffer a.pairs (message_at a.messages i)) a.count
-      (λ i h l. say_ok a.buffer a.pairs (message_at a.messages i) (ready.each i h) l)
+      (λ i h l. say_ok a.buffer a.pairs (message_at a.messages i) (ready i h) l)
       (notify_head a) a.limit a.small g
       (notify_wrote (notify_head a) a.limit a.buffer a.messages a.count a.pairs a.total g.bytes a.n g.is)
 

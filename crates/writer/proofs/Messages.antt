@@ -1,50 +1,36 @@
 -- Laws about messages: how their checks and bytes unroll, what a list that passes has, and that the arguments of all messages are all the
 -- pairs, in their order.
 use mathlib.Core.Path.{◌≡◌, refl, sym, ap, ap₂, ◌∙◌}
-use mathlib.Core.Bool.{Bool, true, false, not, ◌||◌}
+use mathlib.Core.Bool.{Bool, true, not, ◌||◌}
 use mathlib.Core.List.{List, [], ◌∷◌, ◌++◌, append_assoc, append-nil}
-use Prim.Native.Nat.{ℕ, zero, suc, ◌+◌, ◌-◌, ◌*◌, ◌≤◌, ◌<◌}
+use Prim.Native.Nat.{ℕ, zero, suc, ◌+◌, ◌-◌, ◌≤◌, ◌<◌}
 use native.Mathlib.Numerals.{add-one}
 use native.Mathlib.Omega.{arith}
 use lib.Dec.{eqb}
 use lib.ListN.{length, length-append}
-use borrow.Author.Tests.{le-leb, lt-leb, eq-eqb, eqb-true, eqb-false, leb-true}
+use borrow.Author.Tests.{le-leb, eq-eqb, eqb-true, eqb-false, leb-true}
 use Rattle.answer.specs.Order.{in_order}
 use Rattle.answer.specs.Table.{records, joined}
 use Rattle.answer.specs.Inner.{Passes, Sound}
 use Rattle.answer.proofs.Cases.{bool_cases}
-use Rattle.answer.proofs.Order.{order_fails}
 use Rattle.answer.proofs.Records.{records_snoc, records_both, joined_both}
 use Rattle.varint.specs.Number.{number_bytes}
 use Rattle.types.specs.Form.{part, string_bytes}
 use Rattle.types.specs.Check.{string_checks}
 use Rattle.frame.specs.declared.Pair.{Pair}
 use Rattle.frame.specs.declared.Message.{Message}
-use Rattle.frame.specs.Records.{message_at, pair_width, pair_at}
+use Rattle.frame.specs.Records.{message_at, pair_at}
 use Rattle.writer.specs.Pair.{pair_bytes}
 use Rattle.writer.specs.Message.{name_bytes, message_bytes, message_checks, run_start}
 use Rattle.writer.specs.Frame.{pairs_bytes, messages_bytes}
-use Rattle.writer.specs.Inner.{pair_order, message_order, AllReady}
+use Rattle.writer.specs.Inner.{pair_order, message_order, Ready}
 use Rattle.types.proofs.Writing.{string_long}
 use Rattle.types.proofs.Checking.{string_range}
 use Rattle.writer.proofs.Pairs.{formed_passed}
 
--- ---- a message's checks, line by line
+-- ---- a message's checks: past its numbers they are its name's
 
 module _ (buffer : List ℕ) (total from : ℕ) (last : Bool) (m : Message) where
-  pub message_start : eqb m.first from ≡ false → in_order (message_checks buffer total from last m) 0 ≡ 14
-  message_start h = order_fails 14 _ _ 0 h
-
-  pub message_end : eqb m.first from ≡ true → last ≡ true → eqb total (m.first + m.count) ≡ false → in_order (message_checks buffer total from last m) 0 ≡ 14
-  unfolding in_order
-  message_end h l e = rw (h, l, e)
-
-  pub message_many : eqb m.first from ≡ true → (last ≡ true → eqb total (m.first + m.count) ≡ true) → 255 < m.count
-      → in_order (message_checks buffer total from last m) 0 ≡ 17
-  unfolding in_order
-  message_many h e l =
-      bool_cases last (λ t. rw (h, t, e t, lt-leb m.count 255 l)) (λ t. rw (h, t, lt-leb m.count 255 l))
-
   pub message_name : eqb m.first from ≡ true → (last ≡ true → eqb total (m.first + m.count) ≡ true) → m.count ≤ 255
       → in_order (message_checks buffer total from last m) 0 ≡ in_order (string_checks buffer m.start m.len) 0
   unfolding in_order
@@ -101,19 +87,12 @@ module _ (buffer : List ℕ) (total : ℕ) (messages : List ℕ) (count : ℕ) (
       ap (run_start messages) (sym last) ∙ run_next messages i ∙ sym ((passes i (omega arith)).ends (eq-eqb (i + 1) count last)))
 
 -- Messages and pairs that pass are ready to be written.
-pub all_ready : (buffer messages pairs : List ℕ) (count total : ℕ) → total * pair_width ≤ length pairs
-    → Sound (message_order buffer total messages count) count → Sound (pair_order buffer pairs) total → AllReady buffer pairs messages count
-all_ready buffer messages pairs count total held ms ps =
-    record {
-      each = λ i h.
-          let end = runs_inside buffer total messages count ms i h in
-          let p = passes buffer total messages count ms i h in
-          record {
-            name = p.name;
-            few = omega (arith, p.few);
-            run = record { held = omega arith; each = λ j l. formed_passed buffer _ (ps.each ((message_at messages i).first + j) (omega arith)) };
-          };
-    }
+pub all_ready : (buffer messages pairs : List ℕ) (count total : ℕ) → Sound (message_order buffer total messages count) count
+    → Sound (pair_order buffer pairs) total → (i : ℕ) → i < count → Ready buffer pairs (message_at messages i)
+all_ready buffer messages pairs count total ms ps i h =
+    let p = passes buffer total messages count ms i h in
+    let end = runs_inside buffer total messages count ms i h in
+    record { name = p.name; few = omega (arith, p.few); run = λ j l m. formed_passed buffer (pair_at pairs j) (ps.each j (omega arith)) }
 
 -- ---- a message's bytes
 

@@ -2,11 +2,12 @@
 use mathlib.Core.Path.{◌≡◌, refl, sym, ◌∙◌}
 use mathlib.Core.Bool.{true, false}
 use mathlib.Core.List.{List, [], ◌∷◌, ◌++◌}
-use Prim.Native.Nat.{ℕ, ◌+◌, ◌-◌, ◌*◌, ◌≤◌, ◌<◌}
+use Prim.Native.Nat.{ℕ, ◌+◌, ◌≤◌}
 use native.Mathlib.Omega.{arith}
-use lib.ListN.{length, take, drop, length-append}
+use lib.ListN.{length, length-append}
 use borrow.Author.Tests.{not-true, leb-true}
-use Rattle.answer.specs.declared.Written.{Written}
+use Rattle.std.specs.Prelude.{Result}
+use Rattle.answer.specs.declared.Refusal.{Refusal}
 use Rattle.answer.specs.Answer.{written, leaves}
 use Rattle.answer.specs.Writes.{Writes, counted}
 use Rattle.answer.specs.Order.{Check, in_order}
@@ -15,15 +16,15 @@ use Rattle.answer.specs.Inner.{Passes, Sound}
 use Rattle.answer.proofs.Order.{order_fails, order_holds, passes_both, passes_parts, order_front, order_past, Refuses, lines_refuse}
 use Rattle.answer.proofs.Parts.{room_counted, room_leaves}
 use Rattle.varint.specs.Number.{number_bytes}
-use Rattle.types.specs.Form.{part, string_bytes, value_bytes, writable_record, ranged, value_answer}
+use Rattle.types.specs.Form.{string_bytes, value_bytes, writable_record, ranged, value_answer}
 use Rattle.types.specs.Check.{string_checks, part_checks}
 use Rattle.types.specs.declared.Value.{Value}
 use Rattle.types.specs.Promise.{record_of}
-use Rattle.types.proofs.Writing.{part_lent, string_long, form_whole}
+use Rattle.types.proofs.Writing.{string_long, form_whole}
 use Rattle.frame.specs.declared.Pair.{Pair}
-use Rattle.frame.specs.Records.{pair_width, pair_at, key_of, same_key}
+use Rattle.frame.specs.Records.{pair_at, key_of, same_key}
 use Rattle.writer.specs.Pair.{pair_bytes, pair_checks, new_key, kv_checks}
-use Rattle.writer.specs.Inner.{pair_order, Formed, FormedRun}
+use Rattle.writer.specs.Inner.{pair_order, Formed}
 
 -- ---- a pair's checks, line by line
 
@@ -61,8 +62,11 @@ module _ (buffer pairs : List ℕ) (i : ℕ) where
   abbrev new : List Check
   new = (9, new_key buffer pairs i) ∷ []
 
+  pub kv_first : (n : ℕ) → n ≡ in_order (pair_order buffer pairs i) 0 → (n ≡ 0 → ⊥) → n ≡ in_order (kv_checks buffer pairs i) 0
+  kv_first n e ne = order_front (pair_order buffer pairs i) new n e ne
+
   pub kv_own : (n : ℕ) → n ≡ in_order (pair_order buffer pairs i) 0 → (n ≡ 0 → ⊥) → Refuses (kv_checks buffer pairs i) n
-  kv_own n e ne = lines_refuse (kv_checks buffer pairs i) n (order_front (pair_order buffer pairs i) new n e ne) ne
+  kv_own n e ne = lines_refuse (kv_checks buffer pairs i) n (kv_first n e ne) ne
 
   pub kv_passed : Passes (kv_checks buffer pairs i) → Passes (pair_order buffer pairs i)
   kv_passed p = (passes_parts (pair_order buffer pairs i) new p).0
@@ -73,9 +77,9 @@ module _ (buffer pairs : List ℕ) (i : ℕ) where
   kv_fresh p = not-true _ (passes_parts (pair_order buffer pairs i) new p).1.0
 
   module _ (p : Passes (pair_order buffer pairs i)) where
-    pub kv_met : some (same_key buffer (pair_at pairs i)) (records (pair_at pairs) 0 i) ≡ true → Refuses (kv_checks buffer pairs i) 9
+    pub kv_met : some (same_key buffer (pair_at pairs i)) (records (pair_at pairs) 0 i) ≡ true → 9 ≡ in_order (kv_checks buffer pairs i) 0
     unfolding new_key
-    kv_met h = lines_refuse (kv_checks buffer pairs i) 9 (sym (order_past (pair_order buffer pairs i) new p ∙ order_fails 9 _ [] 0 (rw h))) (λ z. omega arith)
+    kv_met h = sym (order_past (pair_order buffer pairs i) new p ∙ order_fails 9 _ [] 0 (rw h))
 
     pub kv_new : some (same_key buffer (pair_at pairs i)) (records (pair_at pairs) 0 i) ≡ false → Passes (kv_checks buffer pairs i)
     unfolding new_key
@@ -85,38 +89,10 @@ module _ (buffer pairs : List ℕ) (i : ℕ) where
 pub kv_sound : (buffer pairs : List ℕ) {n : ℕ} → Sound (kv_checks buffer pairs) n → Sound (pair_order buffer pairs) n
 kv_sound buffer pairs s = record { each = λ i h. kv_passed buffer pairs i (s.each i h) }
 
--- ---- runs
-
--- a part of a run
-pub run_pair : {buffer pairs : List ℕ} {first count : ℕ} → FormedRun buffer pairs first count → (i : ℕ) → i < count
-    → ((first + i) * pair_width + pair_width ≤ length pairs) × Formed buffer (pair_at pairs (first + i))
-run_pair r i h = (omega (arith, r.held), r.each i h)
-
--- all pairs of a table that pass are a run
-pub run_sound : (buffer pairs : List ℕ) (count : ℕ) → count * pair_width ≤ length pairs → Sound (pair_order buffer pairs) count → FormedRun buffer pairs 0 count
-run_sound buffer pairs count h s =
-    record {
-      held = omega arith;
-      each = λ i l. let here : 0 + i ≡ i = omega arith in rw here (formed_passed buffer (pair_at pairs i) (s.each i l));
-    }
-
 -- ---- what a writer that has room has written
 
--- a string that is lent as a part of the buffer, `&buffer[from..to]`
-module _ (buffer : List ℕ) (start len : ℕ) {r : Written} {n : ℕ} {old new : List ℕ}
-    (p : Writes (written (string_bytes (take (start + len - start) (drop start buffer)))) r old new) (w : n ≡ counted r)
-    (room : length (string_bytes (part buffer start len)) ≤ length old) where
-  lent : Writes (written (string_bytes (part buffer start len))) r old new
-  lent = rw (part_lent buffer start len) at p
-
-  pub string_count : n ≡ length (string_bytes (part buffer start len))
-  string_count = w ∙ room_counted (string_bytes (part buffer start len)) lent room
-
-  pub string_leaves : new ≡ leaves (written (string_bytes (part buffer start len))) old
-  string_leaves = room_leaves (string_bytes (part buffer start len)) lent room
-
 -- a value
-module _ (buffer : List ℕ) (v : Value) {r : Written} {n : ℕ} {old new : List ℕ} (p : Writes (value_answer buffer (record_of v)) r old new) (w : n ≡ counted r)
+module _ (buffer : List ℕ) (v : Value) {r : Result ℕ Refusal} {n : ℕ} {old new : List ℕ} (p : Writes (value_answer buffer (record_of v)) r old new) (w : n ≡ counted r)
     (h : writable_record (record_of v) ≡ true) (g : ranged buffer (record_of v) ≡ true)
     (room : length (value_bytes buffer (record_of v)) ≤ length old) where
   whole : Writes (written (value_bytes buffer (record_of v))) r old new

@@ -5,7 +5,7 @@ use mathlib.Core.Path.{◌≡◌, refl, sym, ap, ap₂, ◌∙◌}
 use mathlib.Core.Bool.{true, cond}
 use mathlib.Core.Logic.{◌⊎◌, inl, inr, ⊎_elim}
 use mathlib.Core.List.{List, [], ◌∷◌, ◌++◌, append_assoc, append_cancel_right, head-eq_of_cons-eq, tail-eq_of_cons-eq}
-use Prim.Native.Nat.{ℕ, ◌+◌, ◌-◌, ◌^◌, ◌≤◌, ◌<◌}
+use Prim.Native.Nat.{ℕ, ◌^◌, ◌≤◌, ◌<◌}
 use native.Mathlib.Omega.{arith}
 use lib.Dec.{eqb}
 use lib.ListN.{length, length-append}
@@ -29,7 +29,6 @@ use Rattle.writer.specs.Pair.{pair_bytes}
 use Rattle.writer.specs.Action.{action_bytes, action_checks}
 use Rattle.writer.specs.Message.{name_bytes, message_bytes}
 use Rattle.writer.specs.Inner.{Formed, Ready}
-use Rattle.writer.proofs.Pairs.{run_pair}
 use Rattle.writer.proofs.Actions.{passed_scope, passed_form, writable_other}
 use Rattle.writer.proofs.Messages.{message_bytes_lem, name_bytes_lem}
 
@@ -157,8 +156,7 @@ say_ok buffer pairs m r l =
       short = omega (arith, ap length (name_bytes_lem buffer m), length-append (string_bytes name) (m.count ∷ []), string_length name);
       each = each_record ItemOk (item_at buffer pairs) m.count m.first
           (λ i k h.
-          let here : m.first + (i - m.first) ≡ i = omega arith in
-          item_ok buffer (pair_at pairs i) (rw here at (run_pair r.run (i - m.first) (omega arith)).1)
+          item_ok buffer (pair_at pairs i) (r.run i k h)
           (omega (arith, one_of_all (pair_bytes buffer) (pair_at pairs) m.count m.first i k h)));
     }
 

@@ -9,4 +9,4 @@ pub returns : goal.returns
 returns c =
     let a = c.args in
     let e = c.read_frame-answer.ensures in
-    record { told = c.tell_frame.ensures (frame_read side.HAProxy a.limit (rooms_of a.messages.now a.pairs.now []) a.input.now) e.says; fills = e.fills }
+    record { told = c.tell_side.ensures (frame_read side.HAProxy a.limit (rooms_of a.messages.now a.pairs.now []) a.input.now) e.says; fills = e.fills }

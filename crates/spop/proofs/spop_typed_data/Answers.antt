@@ -5,9 +5,9 @@ use Rattle.spop.proofs.Telling.{told_done, told_refused}
 use Rattle.spop.specs.Values.{record_numbers}
 use Rattle.spop.proofs.spop_typed_data.Goals as goal
 
-pub returns-in-Done : goal.returns-in-Done
-returns-in-Done c = told_done record_numbers _ (sym c.typed_data.ensures ∙ ap value_said c.in-Done.is)
+pub returns-in-Ok : goal.returns-in-Ok
+returns-in-Ok c = rw c.into.ensures (told_done record_numbers _ (sym c.typed_data.ensures ∙ ap value_said c.in-Ok.is))
 
-pub returns-in-Refused : goal.returns-in-Refused
-returns-in-Refused c =
-    told_refused record_numbers _ (sym c.typed_data.ensures ∙ ap value_said c.in-Refused.is) c.refuse.ensures
+pub returns-in-Err : goal.returns-in-Err
+returns-in-Err c =
+    told_refused record_numbers _ (sym c.typed_data.ensures ∙ ap value_said c.in-Err.is) c.refuse.ensures

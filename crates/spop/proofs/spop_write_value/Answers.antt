@@ -7,6 +7,7 @@ use Rattle.answer.specs.Answer.{Answer}
 use Rattle.answer.specs.Writes.{Writes}
 use Rattle.types.specs.Form.{value_answer}
 use Rattle.spop.proofs.Telling.{left_writes}
+use Rattle.spop.specs.Values.{record_in}
 use Rattle.spop.proofs.spop_write_value.Goals as goal
 
 pub returns : goal.returns
@@ -15,5 +16,5 @@ returns c =
     let w =
     subst
     (λ (x : Answer (List ℕ)). Writes x c.write_value-answer.result a.out.now c.write_value-answer.new.out)
-    (ap (value_answer a.buffer.now) c.value_of.ensures) c.write_value-answer.ensures in
+    (ap (value_answer a.buffer.now) (ap record_in c.from.ensures)) c.write_value-answer.ensures in
     left_writes w c.tell.ensures

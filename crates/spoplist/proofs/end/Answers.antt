@@ -6,5 +6,5 @@ use Rattle.spoplist.proofs.end.Goals as goal
 
 pub print-requires : goal.print-requires
 print-requires g c =
-    fits_lies (end_fits _ _ _ _ c.ranges.used.fits (omega (arith, c.well_formed)) (omega (arith, c.well_formed)) (omega (arith, c.requires)))
+    fits_lies (end_fits _ _ _ _ (omega (arith, c.well_formed)) (omega (arith, c.end_numbers-number.type_inv)) (omega (arith, c.end_numbers-number.type_inv)) (omega arith))
     c.write_end_line.ensures c.write_end_line.auto.out

@@ -10,7 +10,7 @@ invariant-loop-at g l =
     record {
       in_range : l.at ≤ length l.input;
       passed : l.index ≤ l.at;
-      stopping : Stopping (side_in l.agents l.initial.messages l.initial.pairs l.initial.actions) l.input l.at;
+      stopping : Stopping (side_in l.side) l.input l.at;
     }
 
 abbrev pub decreases-loop-at : goal.decreases-loop-at

@@ -1,76 +1,52 @@
 -- `spoplist::list_one` meets its contract: what it answers is what the frame was read as, and the frame's records stand in the
 -- tables, so none of their lines is refused.
 use mathlib.Core.Path.{◌≡◌, sym, ap, ◌∙◌}
-use mathlib.Core.Bool.{Bool}
 use mathlib.Core.List.{List}
-use Prim.Native.Nat.{ℕ, ◌-◌}
+use Prim.Native.Nat.{ℕ}
 use native.Mathlib.Omega.{arith}
-use lib.ListN.{take}
-use Rattle.frame.specs.declared.Head.{Head}
-use Rattle.payload.specs.declared.Counts.{Counts}
-use Rattle.parser.specs.declared.FrameRead.{FrameRead}
-use Rattle.parser.specs.declared.FrameRead.TheVariants as f
+use lib.ListN.{take, length-take}
+use Rattle.frame.specs.declared.Side.{Side}
+use Rattle.std.specs.Prelude.{Result, Ok}
+use Rattle.answer.specs.declared.Read.{Read}
+use Rattle.frame.specs.declared.Stop.{Stop}
+use Rattle.parser.specs.declared.Frame.{Frame}
 use Rattle.parser.specs.Promise.{frame_said}
 use Rattle.listing.proofs.Fitting.{frame_fits}
+use Rattle.spoplist.specs.declared.Tables.{Tables}
 use Rattle.spoplist.specs.Inner.{ReadsIn, side_in, Accepts}
 use Rattle.spoplist.proofs.Standing.{fits_lies, Stood, read_stood}
-use Rattle.spoplist.proofs.Stopping.{said_taken}
+use Rattle.spoplist.proofs.Stopping.{said_taken, said_stopped}
 use Rattle.spoplist.proofs.list_one.Goals as goal
 
-module _ (agents : Bool) (s old_messages messages old_pairs pairs old_actions actions : List ℕ) {r : FrameRead} {h : Head} {k : Counts} {used : ℕ}
-    (is : r ≡ f.Done h k used) (x : ReadsIn agents s r old_messages messages old_pairs pairs old_actions actions) where
-  taken : Accepts s (side_in agents old_messages old_pairs old_actions s) used
-  taken = said_taken agents old_messages old_pairs old_actions s h k used (sym (ap frame_said is) ∙ x.says)
+module _ (x : Side) (s : List ℕ) (old new : Tables) {r : Result (Read Frame) Stop} {read : Read Frame} (is : r ≡ Ok read) (reads : ReadsIn x s r old new) where
+  taken : Accepts s (side_in x s) read.used
+  taken = said_taken x s read.value.head read.value.counts read.used (sym (ap frame_said is) ∙ reads.says)
 
   -- the records stand in the tables
-  stood : Stood (take (used - 0) s) messages pairs actions k
-  stood =
-      let all : used - 0 ≡ used = omega arith in
-      rw all (read_stood agents s old_messages messages old_pairs pairs old_actions actions h k used is x)
+  stood : Stood (take read.used s) new.messages new.pairs new.actions read.value.counts
+  stood = read_stood x s old new read is reads
 
 pub print-requires : goal.print-requires
 print-requires g c =
     fits_lies
-    (frame_fits _ _ _ _ c.ranges.index.fits (omega (arith, c.in-Done)) (omega (arith, c.in-Done)) (omega (arith, c.in-Done)) (omega (arith, c.in-Done))
-    (omega (arith, c.requires)))
+    (frame_fits _ _ _ _ c.ranges.index.fits (omega (arith, c.in-Ok)) (omega (arith, c.in-Ok)) (omega (arith, c.in-Ok)) (omega (arith, c.in-Ok)) (omega arith))
     c.write_frame_line.ensures c.write_frame_line.auto.out
 
 pub slice_bounds-frame-end : goal.slice_bounds-frame-end
 slice_bounds-frame-end g c =
-    (taken c.args.agents c.args.rest.now c.args.messages.now _ c.args.pairs.now _ c.args.actions.now _ c.in-Done.is c.read_one.ensures).most
+    omega (arith, (taken c.args.side c.args.rest.now c.args.tables.now _ c.in-Ok.is c.read.ensures).most, length-take c.in-Ok.read.used c.args.rest.now)
 
-pub list_records-requires-clause-stand_messages : goal.list_records-requires-clause-stand_messages
-list_records-requires-clause-stand_messages g c =
-    (stood c.args.agents c.args.rest.now c.args.messages.now _ c.args.pairs.now _ c.args.actions.now _ c.in-Done.is c.read_one.ensures).in_messages
+pub list_records-requires : goal.list_records-requires
+list_records-requires g c =
+    let s = stood c.args.side c.args.rest.now c.args.tables.now _ c.in-Ok.is c.read.ensures in
+    record { stand_messages = s.in_messages; stand_pairs = s.in_pairs_lem; frame_in_bounds = s.short }
 
-pub list_records-requires-clause-stand_pairs : goal.list_records-requires-clause-stand_pairs
-list_records-requires-clause-stand_pairs g c =
-    (stood c.args.agents c.args.rest.now c.args.messages.now _ c.args.pairs.now _ c.args.actions.now _ c.in-Done.is c.read_one.ensures).in_pairs_lem
+pub list_actions-requires : goal.list_actions-requires
+list_actions-requires g c =
+    let s = stood c.args.side c.args.rest.now c.args.tables.now _ c.in-Ok.is c.read.ensures in record { stand_actions = s.in_actions; frame_in_bounds = s.short }
 
--- and what is lent has room for their lines
-pub list_records-requires-clause-frame_in_bounds : goal.list_records-requires-clause-frame_in_bounds
-list_records-requires-clause-frame_in_bounds g c =
-    omega (
-      arith,
-      c.requires,
-      c.write_frame_line.auto.out,
-      (stood c.args.agents c.args.rest.now c.args.messages.now _ c.args.pairs.now _ c.args.actions.now _ c.in-Done.is c.read_one.ensures).short,
-    )
+pub returns-in_ok-list_actions-in-Ok : goal.returns-in_ok-list_actions-in-Ok
+returns-in_ok-list_actions-in-Ok g c = taken c.args.side c.args.rest.now c.args.tables.now _ c.in-Ok.is c.read.ensures
 
-pub list_actions-requires-clause-stand_actions : goal.list_actions-requires-clause-stand_actions
-list_actions-requires-clause-stand_actions g c =
-    (stood c.args.agents c.args.rest.now c.args.messages.now _ c.args.pairs.now _ c.args.actions.now _ c.in-Done.is c.read_one.ensures).in_actions
-
-pub list_actions-requires-clause-frame_in_bounds : goal.list_actions-requires-clause-frame_in_bounds
-list_actions-requires-clause-frame_in_bounds g c =
-    omega (
-      arith,
-      c.requires,
-      c.write_frame_line.auto.out,
-      c.list_records.auto.out,
-      (stood c.args.agents c.args.rest.now c.args.messages.now _ c.args.pairs.now _ c.args.actions.now _ c.in-Done.is c.read_one.ensures).short,
-    )
-
-pub returns-else-not-list_actions : goal.returns-else-not-list_actions
-returns-else-not-list_actions g c =
-    taken c.args.agents c.args.rest.now c.args.messages.now _ c.args.pairs.now _ c.args.actions.now _ c.in-Done.is c.read_one.ensures
+pub returns-in-Err : goal.returns-in-Err
+returns-in-Err g c = said_stopped _ c.in-Err.stop (sym (ap frame_said c.in-Err.is) ∙ c.read.ensures.says)

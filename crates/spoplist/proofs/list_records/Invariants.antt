@@ -3,8 +3,8 @@
 use Rattle.std.proofs.Common.{◌≡◌, ◌+◌, ◌-◌, length}
 use Rattle.spoplist.proofs.list_records.Given as goal
 
-abbrev pub invariant-loop-len : goal.invariant-loop-len
-invariant-loop-len g l = length l.out ≡ length l.initial.out
+abbrev pub invariant-loop-line : goal.invariant-loop-line
+invariant-loop-line g l = length l.out ≡ length l.initial.out
 
-abbrev pub decreases-loop-len : goal.decreases-loop-len
-decreases-loop-len g l = (l.count - l.place.messages) + (l.total - l.place.pairs)
+abbrev pub decreases-loop-line : goal.decreases-loop-line
+decreases-loop-line g l = (l.counts.messages - l.place.messages) + (l.counts.pairs - l.place.pairs)

@@ -1,6 +1,6 @@
 -- `varint::encode_more` meets its contract. The loop's invariant: the groups are partly written, and what is left to write are the
 -- groups of `rest`. Each turn writes the first of them, and the store after the loop the last.
-use Prim.Native.Nat.{◌-◌, ◌<◌, ◌^◌}
+use Prim.Native.Nat.{◌<◌, ◌^◌}
 use Rattle.varint.specs.Number.{groups}
 use Rattle.answer.proofs.Output.{Partly}
 use Rattle.varint.proofs.encode_more.Given as goal

@@ -1,5 +1,6 @@
 -- `writer::begin_frame` meets its contract: past the two tests the head finds its room too.
-use borrow.Author.Rules.{rules}
+use mathlib.Core.Path.{sym, ap, ◌∙◌}
+use Rattle.answer.specs.Writes.{refusal_said}
 use mathlib.Core.List.{◌++◌}
 use Prim.Native.Nat.{◌+◌, ◌^◌, ◌≤◌, ◌<◌}
 use native.Mathlib.Omega.{arith}
@@ -15,10 +16,7 @@ use Rattle.writer.proofs.begin_frame.Goals.{After-head_len}
 pub returns-then-limit-len : goal.returns-then-limit-len
 returns-then-limit-len c =
     let a = c.args in
-    begins_refused 12 a.out.now (begun_over (length a.out.now) a.limit a.head a.len (omega (arith, c.if-limit-len.true)))
-
-pub head_len-requires : goal.head_len-requires
-head_len-requires c = search rules
+    begins_refused c.at.result a.out.now (begun_over (length a.out.now) a.limit a.head a.len (omega (arith, c.if-limit-len.true)) ∙ sym (ap refusal_said c.at.ensures))
 
 -- what follows the length bytes is little over the limit at most
 small : (c : After-head_len) → c.head_len.result + c.args.len < 2 ^ 33
@@ -35,22 +33,15 @@ overflow_add-whole c = omega (arith, small ((goal.at.overflow_add-whole c).After
 pub returns-then-most-behind : goal.returns-then-most-behind
 returns-then-most-behind c =
     let a = c.args in
-    begins_refused 12 a.out.now (begun_over (length a.out.now) a.limit a.head a.len (omega (arith, c.if-most-behind.true, c.head_len.ensures)))
+    begins_refused c.at-then-most-behind.result a.out.now
+    (begun_over (length a.out.now) a.limit a.head a.len (omega (arith, c.if-most-behind.true, c.head_len.ensures)) ∙ sym (ap refusal_said c.at-then-most-behind.ensures))
 
 pub returns-then-room-whole : goal.returns-then-room-whole
 returns-then-room-whole c =
     let a = c.args in
     let n = c.head_len.ensures in
-    begins_refused 11 a.out.now (begun_short (length a.out.now) a.limit a.head a.len (omega (arith, c.if-most-behind.false, n)) (omega (arith, c.if-room-whole.true, n)))
-
-pub overflow_cast-behind : goal.overflow_cast-behind
-overflow_cast-behind c = search rules
-
-pub write_head-requires : goal.write_head-requires
-write_head-requires c = search rules
-
-pub shape_of-out : goal.shape_of-out
-shape_of-out c = search rules
+    begins_refused c.at-then-room-whole.result a.out.now
+    (begun_short (length a.out.now) a.limit a.head a.len (omega (arith, c.if-most-behind.false, n)) (omega (arith, c.if-room-whole.true, n)) ∙ sym (ap refusal_said c.at-then-room-whole.ensures))
 
 pub returns : goal.returns
 returns c =

@@ -1,35 +1,20 @@
 -- `frame::read::cut` meets its contract: the lines of the cut, one after the other.
-use borrow.Author.Rules.{rules}
 use mathlib.Core.Path.{sym, ap, ◌∙◌}
 use Prim.Native.Nat.{ℕ, ◌+◌, ◌-◌}
 use lib.ListN.{length, take}
 use Rattle.answer.specs.Answer.{done}
+use Rattle.answer.specs.Writes.{refusal_said}
 use Rattle.frame.specs.Read.{wait, answered}
 use Rattle.frame.proofs.Cutting.{cut_start, cut_over, cut_wait, cut_whole}
 use Rattle.frame.proofs.read.cut.Goals as goal
 
-pub overflow_sub-result : goal.overflow_sub-result
-overflow_sub-result c = search rules
-
 pub returns-then-have-lt4 : goal.returns-then-have-lt4
 returns-then-have-lt4 c = let a = c.args in sym (cut_start a.limit a.input.now c.if-have-lt4.true)
-
-pub four-len-requires : goal.four-len-requires
-four-len-requires c = search rules
 
 pub returns-then-limit-len : goal.returns-then-limit-len
 returns-then-limit-len c =
     let a = c.args in
-    sym (cut_over a.limit a.input.now c.if-have-lt4.false (rw (sym c.four-len.ensures) c.if-limit-len.true))
-
-pub overflow_cast-end : goal.overflow_cast-end
-overflow_cast-end c = search rules
-
-pub overflow_add-end : goal.overflow_add-end
-overflow_add-end c = search rules
-
-pub overflow_sub-result-then-have-end : goal.overflow_sub-result-then-have-end
-overflow_sub-result-then-have-end c = search rules
+    ap (λ r. answered (refusal_said r)) c.at.ensures ∙ sym (cut_over a.limit a.input.now c.if-have-lt4.false (rw (sym c.four-len.ensures) c.if-limit-len.true))
 
 pub returns-then-have-end : goal.returns-then-have-end
 returns-then-have-end c =

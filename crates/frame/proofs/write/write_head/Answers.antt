@@ -1,88 +1,72 @@
 -- `frame::write::write_head` meets its contract: with no room nothing is written; else the nine bytes of fixed places are, and the two
 -- numbers into the tail behind them, one after the other.
-use borrow.Author.Rules.{rules}
-use mathlib.Core.Path.{◌≡◌, ap, ◌∙◌}
-use mathlib.Core.List.{List, ◌++◌}
-use Prim.Native.Nat.{ℕ, ◌+◌, ◌-◌, ◌≤◌}
-use native.Mathlib.Omega.{arith}
-use lib.ListN.{length, length-append}
+use Rattle.std.proofs.Common.{◌≡◌, refl, sym, ap, ◌∙◌, List, ◌++◌, ℕ, ◌+◌, ◌-◌, ◌≤◌, length, take, drop, length-append, Result, arith}
 use borrow.Rule.Slice.PartMut.{put_mid}
+use Rattle.answer.specs.declared.Refusal.{Refusal}
+use Rattle.answer.specs.Writes.{Writes, counted}
 use Rattle.answer.specs.Answer.{written, leaves}
+use Rattle.answer.proofs.Output.{writes_none, writes_all}
+use Rattle.answer.proofs.Parts.{both_start, both_wrote, both_written}
 use Rattle.varint.specs.Number.{number_bytes}
 use Rattle.varint.proofs.Writing.{length_most}
-use Rattle.answer.proofs.Output.{leaves_length, leaves_writes, writes_none, writes_all}
+use Rattle.frame.specs.declared.Head.{Head}
 use Rattle.frame.specs.Head.{four_bytes, head_bytes}
 use Rattle.frame.proofs.Laws.{four_long, start_bytes, start_long, head_length, head_parts}
 use Rattle.frame.proofs.write.write_head.Goals as goal
-use Rattle.frame.proofs.write.write_head.Goals.{After-encode_varint, After-encode_varint-2, After-put_start, Else-out-head_len}
 
--- There is room for all of it past the first test.
-room : (c : Else-out-head_len)
-    → let a = c.args in
-    length (four_bytes a.behind ++ head_bytes a.head) ≤ length a.out.now
-room c =
-    let a = c.args in
-    simp length-append (omega (arith, c.if-out-head_len.false, c.head_len.ensures, four_long a.behind))
+-- Of a head for which there is room.
+module _ (behind : ℕ) (h : Head) (old : List ℕ) (room : 9 + length (number_bytes h.stream) + length (number_bytes h.frame) ≤ length old) where
+  -- the nine bytes, and the first number behind them
+  abbrev start : List ℕ
+  start = start_bytes behind h
 
-parts_room : (c : Else-out-head_len)
-    → let a = c.args in
-    9 + length (number_bytes a.head.stream) + length (number_bytes a.head.frame) ≤ length a.out.now
-parts_room c = let a = c.args in omega (arith, c.if-out-head_len.false, c.head_len.ensures, head_length a.head)
+  start_count : 9 ≡ length start
+  start_count = sym (start_long behind h)
 
--- What the output holds once the nine bytes of fixed places are written, and the first and the second number behind them.
-start : (c : After-put_start)
-    → let a = c.args in
-    c.put_start.new.out ≡ leaves (written (start_bytes a.behind a.head)) a.out.now
-start c =
-    let a = c.args in
-    c.put_start.ensures
+  stream_room : length (start ++ number_bytes h.stream) ≤ length old
+  stream_room = omega (arith, length-append start (number_bytes h.stream), start_count)
 
-one : (c : After-encode_varint)
-    → let a = c.args in
-    let out = c.put_start.new.out in
-    put_mid 9 (length out - 9) out c.encode_varint.new.out ≡ leaves (written (start_bytes a.behind a.head ++ number_bytes a.head.stream)) a.out.now
-one c =
-    let a = c.args in
-    leaves_writes (start_bytes a.behind a.head) (number_bytes a.head.stream) a.out.now c.put_start.new.out c.encode_varint.new.out 9
-    (start_long a.behind a.head) (let it : let a = c.args in c.put_start.new.out ≡ leaves (written (start_bytes a.behind a.head)) a.out.now = let a = c.args in
-    c.put_start.ensures in it)
-    (omega (arith, start_long a.behind a.head, (let it : let a = c.args in 9 + length (number_bytes a.head.stream) + length (number_bytes a.head.frame) ≤ length a.out.now = let a = c.args in omega (arith, c.if-out-head_len.false, c.head_len.ensures, head_length a.head) in it)))
-    c.encode_varint.ensures
+  stream_count : (n : ℕ) → n ≡ length (number_bytes h.stream) → 9 + n ≡ length (start ++ number_bytes h.stream)
+  stream_count n e = omega (arith, length-append start (number_bytes h.stream), start_count)
 
-one_front : (c : After-encode_varint)
-    → let a = c.args in
-    length (start_bytes a.behind a.head ++ number_bytes a.head.stream) ≡ 9 + c.varint_len-n.result
-one_front c =
-    let a = c.args in
-    omega (arith, length-append (start_bytes a.behind a.head) (number_bytes a.head.stream), start_long a.behind a.head, c.varint_len-n.ensures)
+  frame_room : length ((start ++ number_bytes h.stream) ++ number_bytes h.frame) ≤ length old
+  frame_room = omega (arith, length-append (start ++ number_bytes h.stream) (number_bytes h.frame), stream_count (length (number_bytes h.stream)) refl)
 
-two : (c : After-encode_varint-2)
-    → let a = c.args in
-    let out = c.put_start.new.out in
-    let then = put_mid 9 (length out - 9) out c.encode_varint.new.out in
-    put_mid (9 + c.varint_len-n.result) (length then - (9 + c.varint_len-n.result)) then c.encode_varint-2.new.out ≡ leaves (written (four_bytes a.behind ++ head_bytes a.head)) a.out.now
-two c =
-    let a = c.args in
-    leaves_writes (start_bytes a.behind a.head ++ number_bytes a.head.stream) (number_bytes a.head.frame) a.out.now _ c.encode_varint-2.new.out (9 + c.varint_len-n.result)
-    (let it : let a = c.args in length (start_bytes a.behind a.head ++ number_bytes a.head.stream) ≡ 9 + c.varint_len-n.result = let a = c.args in
-    omega (arith, length-append (start_bytes a.behind a.head) (number_bytes a.head.stream), start_long a.behind a.head, c.varint_len-n.ensures) in it) (let it : let a = c.args in let out = c.put_start.new.out in put_mid 9 (length out - 9) out c.encode_varint.new.out ≡ leaves (written (start_bytes a.behind a.head ++ number_bytes a.head.stream)) a.out.now = let a = c.args in
-    leaves_writes (start_bytes a.behind a.head) (number_bytes a.head.stream) a.out.now c.put_start.new.out c.encode_varint.new.out 9
-    (start_long a.behind a.head) (let it : let a = c.args in c.put_start.new.out ≡ leaves (written (start_bytes a.behind a.head)) a.out.now = let a = c.args in
-    c.put_start.ensures in it)
-    (omega (arith, start_long a.behind a.head, (let it : let a = c.args in 9 + length (number_bytes a.head.stream) + length (number_bytes a.head.frame) ≤ length a.out.now = let a = c.args in omega (arith, c.if-out-head_len.false, c.head_len.ensures, head_length a.head) in it)))
-    c.encode_varint.ensures in it)
-    (omega (
-      arith,
-      (let it : let a = c.args in length (start_bytes a.behind a.head ++ number_bytes a.head.stream) ≡ 9 + c.varint_len-n.result = let a = c.args in
-          omega (arith, length-append (start_bytes a.behind a.head) (number_bytes a.head.stream), start_long a.behind a.head, c.varint_len-n.ensures) in it),
-      c.varint_len-n.ensures,
-      (let it : let a = c.args in 9 + length (number_bytes a.head.stream) + length (number_bytes a.head.frame) ≤ length a.out.now = let a = c.args in omega (arith, c.if-out-head_len.false, c.head_len.ensures, head_length a.head) in it),
-    ))
-    c.encode_varint-2.ensures
-    ∙ ap (λ (l : List ℕ). leaves (written l) a.out.now) (head_parts a.behind a.head)
+  -- the first number was written behind them, and counted n bytes
+  module _ {out tail : List ℕ} {r : Result ℕ Refusal} (first : out ≡ leaves (written start) old)
+      (then : Writes (written (number_bytes h.stream)) r (take (length out - 9) (drop 9 out)) tail) (n : ℕ) (is : n ≡ counted r) where
+    one_count : n ≡ length (number_bytes h.stream)
+    one_count = is ∙ both_wrote start (number_bytes h.stream) old out 9 start_count first stream_room tail then
 
-pub head_len-requires : goal.head_len-requires
-head_len-requires c = search rules
+    abbrev both : List ℕ
+    both = put_mid 9 (length out - 9) out tail
+
+    one : both ≡ leaves (written (start ++ number_bytes h.stream)) old
+    one = both_written start (number_bytes h.stream) old out 9 start_count first stream_room tail then
+
+    two_start : 9 + n ≤ length both
+    two_start = both_start (start ++ number_bytes h.stream) (number_bytes h.frame) old both (9 + n) (stream_count n one_count) one frame_room
+
+    -- and the second
+    module _ {last : List ℕ} {q : Result ℕ Refusal} (and : Writes (written (number_bytes h.frame)) q (take (length both - (9 + n)) (drop (9 + n) both)) last) (m : ℕ) (so : m ≡ counted q) where
+      two_count : m ≡ length (number_bytes h.frame)
+      two_count = so ∙ both_wrote (start ++ number_bytes h.stream) (number_bytes h.frame) old both (9 + n) (stream_count n one_count) one frame_room last and
+
+      two : put_mid (9 + n) (length both - (9 + n)) both last ≡ leaves (written (four_bytes behind ++ head_bytes h)) old
+      two =
+          both_written (start ++ number_bytes h.stream) (number_bytes h.frame) old both (9 + n) (stream_count n one_count) one frame_room last and
+          ∙ ap (λ (l : List ℕ). leaves (written l) old) (head_parts behind h)
+
+      whole : 9 + n + m ≡ length (four_bytes behind ++ head_bytes h)
+      whole = omega (arith, one_count, two_count, length-append (four_bytes behind) (head_bytes h), four_long behind, head_length h)
+
+      fits : length (four_bytes behind ++ head_bytes h) ≤ length old
+      fits = omega (arith, room, length-append (four_bytes behind) (head_bytes h), four_long behind, head_length h)
+
+-- past the first test there is
+room : (length_is : ℕ) (old : List ℕ) (h : Head) → length_is ≡ length (head_bytes h) → 4 + length_is ≤ length old
+    → 9 + length (number_bytes h.stream) + length (number_bytes h.frame) ≤ length old
+room length_is old h is fits = omega (arith, head_length h)
 
 pub overflow_add-head_len : goal.overflow_add-head_len
 overflow_add-head_len c = let h = c.args.head in omega (arith, c.head_len.ensures, head_length h, length_most h.stream, length_most h.frame)
@@ -90,59 +74,47 @@ overflow_add-head_len c = let h = c.args.head in omega (arith, c.head_len.ensure
 pub returns-then-out-head_len : goal.returns-then-out-head_len
 returns-then-out-head_len c =
     let a = c.args in
-    writes_none (four_bytes a.behind ++ head_bytes a.head) _ (simp length-append (omega (arith, c.if-out-head_len.true, c.head_len.ensures, four_long a.behind)))
-
-pub varint_len-n-requires : goal.varint_len-n-requires
-varint_len-n-requires c = search rules
-
-pub overflow_add-n : goal.overflow_add-n
-overflow_add-n c = omega (arith, c.varint_len-n.ensures, length_most c.args.head.stream)
+    writes_none (four_bytes a.behind ++ head_bytes a.head) _ c.at.ensures (simp length-append (omega (arith, c.if-out-head_len.true, c.head_len.ensures, four_long a.behind)))
 
 pub put_start-requires : goal.put_start-requires
-put_start-requires c = omega (arith, parts_room ((goal.at.put_start-requires c).Else-out-head_len))
+put_start-requires c = omega (arith, c.head_len.ensures, head_length c.args.head)
 
 pub slice_bounds-encode_varint-count : goal.slice_bounds-encode_varint-count
 slice_bounds-encode_varint-count c =
     let a = c.args in
-    omega (arith, parts_room ((goal.at.slice_bounds-encode_varint-count c).Else-out-head_len), ap length (start ((goal.at.slice_bounds-encode_varint-count c).After-put_start)), leaves_length (start_bytes a.behind a.head) a.out.now (omega (arith, start_long a.behind a.head, parts_room ((goal.at.slice_bounds-encode_varint-count c).Else-out-head_len))))
+    let space = room c.head_len.result a.out.now a.head c.head_len.ensures c.if-out-head_len.false in
+    both_start (start a.behind a.head a.out.now space) (number_bytes a.head.stream) a.out.now c.put_start.new.out 9 (start_count a.behind a.head a.out.now space) c.put_start.ensures (stream_room a.behind a.head a.out.now space)
 
 pub slice_bounds-encode_varint-start : goal.slice_bounds-encode_varint-start
 slice_bounds-encode_varint-start c = slice_bounds-encode_varint-count c
 
-pub slice_bounds-encode_varint-end : goal.slice_bounds-encode_varint-end
-slice_bounds-encode_varint-end c = search rules
-
-pub encode_varint-requires : goal.encode_varint-requires
-encode_varint-requires c = search rules
-
 pub slice_bounds-encode_varint-count-2 : goal.slice_bounds-encode_varint-count-2
 slice_bounds-encode_varint-count-2 c =
     let a = c.args in
-    omega (arith, parts_room ((goal.at.slice_bounds-encode_varint-count-2 c).Else-out-head_len), c.varint_len-n.ensures, ap length (one ((goal.at.slice_bounds-encode_varint-count-2 c).After-encode_varint)), leaves_length (start_bytes a.behind a.head ++ number_bytes a.head.stream) a.out.now (omega (arith, one_front ((goal.at.slice_bounds-encode_varint-count-2 c).After-encode_varint), c.varint_len-n.ensures, parts_room ((goal.at.slice_bounds-encode_varint-count-2 c).Else-out-head_len))))
+    two_start a.behind a.head a.out.now (room c.head_len.result a.out.now a.head c.head_len.ensures c.if-out-head_len.false) c.put_start.ensures c.encode_varint.ensures _ c.wrote-n.ensures
 
 pub slice_bounds-encode_varint-start-2 : goal.slice_bounds-encode_varint-start-2
 slice_bounds-encode_varint-start-2 c = slice_bounds-encode_varint-count-2 c
 
-pub slice_bounds-encode_varint-end-2 : goal.slice_bounds-encode_varint-end-2
-slice_bounds-encode_varint-end-2 c = search rules
-
-pub encode_varint-requires-2 : goal.encode_varint-requires-2
-encode_varint-requires-2 c = search rules
-
-pub varint_len-requires : goal.varint_len-requires
-varint_len-requires c = search rules
+pub overflow_add-n : goal.overflow_add-n
+overflow_add-n c =
+    let a = c.args in
+    let n = one_count a.behind a.head a.out.now (room c.head_len.result a.out.now a.head c.head_len.ensures c.if-out-head_len.false) c.put_start.ensures c.encode_varint.ensures _ c.wrote-n.ensures in
+    omega (arith, n, length_most a.head.stream)
 
 pub overflow_add-result : goal.overflow_add-result
 overflow_add-result c =
-    let h = c.args.head in
-    omega (arith, c.varint_len-n.ensures, c.varint_len.ensures, length_most h.stream, length_most h.frame)
-
-pub shape_of-out : goal.shape_of-out
-shape_of-out c = search rules
+    let a = c.args in
+    let space = room c.head_len.result a.out.now a.head c.head_len.ensures c.if-out-head_len.false in
+    let n = one_count a.behind a.head a.out.now space c.put_start.ensures c.encode_varint.ensures _ c.wrote-n.ensures in
+    let m = two_count a.behind a.head a.out.now space c.put_start.ensures c.encode_varint.ensures _ c.wrote-n.ensures c.encode_varint-2.ensures _ c.wrote.ensures in
+    omega (arith, n, m, length_most a.head.stream, length_most a.head.frame)
 
 pub returns : goal.returns
 returns c =
     let a = c.args in
-    writes_all (four_bytes a.behind ++ head_bytes a.head) _ _ _ (room ((goal.at.returns c).Else-out-head_len))
-    (omega (arith, length-append (four_bytes a.behind) (head_bytes a.head), four_long a.behind, head_length a.head, c.varint_len-n.ensures, c.varint_len.ensures))
-    (two ((goal.at.returns c).After-encode_varint-2))
+    let space = room c.head_len.result a.out.now a.head c.head_len.ensures c.if-out-head_len.false in
+    writes_all (four_bytes a.behind ++ head_bytes a.head) _ _ _
+    (fits a.behind a.head a.out.now space c.put_start.ensures c.encode_varint.ensures _ c.wrote-n.ensures c.encode_varint-2.ensures _ c.wrote.ensures)
+    (whole a.behind a.head a.out.now space c.put_start.ensures c.encode_varint.ensures _ c.wrote-n.ensures c.encode_varint-2.ensures _ c.wrote.ensures)
+    (two a.behind a.head a.out.now space c.put_start.ensures c.encode_varint.ensures _ c.wrote-n.ensures c.encode_varint-2.ensures _ c.wrote.ensures)

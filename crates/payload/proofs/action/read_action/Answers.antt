@@ -2,21 +2,18 @@
 use mathlib.Core.Path.{◌≡◌, sym, ap, ◌∙◌}
 use mathlib.Core.Bool.{true, ◌||◌}
 use Prim.Native.Nat.{ℕ, ◌≤◌}
-use native.Mathlib.Omega.{arith}
 use lib.Dec.{eqb}
 use lib.ListN.{length, get_or}
 use borrow.Author.Tests.{ne_eqb, eqb-true, not-true, not-false}
+use Rattle.answer.specs.Writes.{refusal_said}
 use Rattle.payload.specs.Action.{argument_count}
-use Rattle.payload.specs.Inner.{action_behind, Headed}
+use Rattle.payload.specs.Inner.{Headed}
 use Rattle.payload.proofs.Actions.{action_none, action_verb, action_short, action_count, action_shorter, action_scope, action_headed}
 use Rattle.payload.proofs.action.read_action.Goals as goal
 use Rattle.payload.proofs.action.read_action.Goals.{Else-input-arguments, Else-scope-gt-RESPONSE, Else-unknown}
 
 pub returns-then-have-lt1 : goal.returns-then-have-lt1
-returns-then-have-lt1 c = ap action_behind c.refused_at.ensures ∙ sym (action_none _ c.if-have-lt1.true)
-
-pub overflow_cast-verb : goal.overflow_cast-verb
-overflow_cast-verb c = omega (arith, c.type_inv.input 0)
+returns-then-have-lt1 c = ap refusal_said c.at.ensures ∙ sym (action_none _ c.if-have-lt1.true)
 
 one : (e : Else-unknown) → 1 ≤ length (e.args.input.now)
 one e = e.if-have-lt1.false
@@ -37,30 +34,24 @@ second {n} t ne = eqb-true n 2 (rw (ne_eqb n 1 ne) at t)
 
 pub returns-then-unknown : goal.returns-then-unknown
 returns-then-unknown c =
-    ap action_behind c.refused_at-then-unknown.ensures ∙ sym (action_verb _ c.if-have-lt1.false (not-true _ (sym c.unknown.ensures ∙ c.if-unknown.true)))
+    ap refusal_said c.at-then-unknown.ensures ∙ sym (action_verb _ c.if-have-lt1.false (not-true _ (sym c.unknown.ensures ∙ c.if-unknown.true)))
 
 pub returns-then-have-lt2 : goal.returns-then-have-lt2
 returns-then-have-lt2 c =
-    ap action_behind c.refused_at-then-have-lt2.ensures ∙ sym (action_short _ (one ((goal.at.returns-then-have-lt2 c).Else-unknown)) (known ((goal.at.returns-then-have-lt2 c).Else-unknown)) c.if-have-lt2.true)
-
-pub overflow_cast-input : goal.overflow_cast-input
-overflow_cast-input c = omega (arith, c.type_inv.input 1)
+    ap refusal_said c.at-then-have-lt2.ensures ∙ sym (action_short _ (one ((goal.at.returns-then-have-lt2 c).Else-unknown)) (known ((goal.at.returns-then-have-lt2 c).Else-unknown)) c.if-have-lt2.true)
 
 pub returns-then-input-arguments : goal.returns-then-input-arguments
 returns-then-input-arguments c =
-    ap action_behind c.refused_at-then-input-arguments.ensures
+    ap refusal_said c.at-then-input-arguments.ensures
     ∙ sym (action_count _ (one ((goal.at.returns-then-input-arguments c).Else-unknown)) (known ((goal.at.returns-then-input-arguments c).Else-unknown)) c.if-have-lt2.false (λ z. c.if-input-arguments.true (z ∙ sym c.arguments.ensures)))
 
 pub returns-then-have-lt3 : goal.returns-then-have-lt3
 returns-then-have-lt3 c =
-    ap action_behind c.refused_at-then-have-lt3.ensures ∙ sym (action_shorter _ (one ((goal.at.returns-then-have-lt3 c).Else-unknown)) (known ((goal.at.returns-then-have-lt3 c).Else-unknown)) c.if-have-lt2.false (counted ((goal.at.returns-then-have-lt3 c).Else-input-arguments)) c.if-have-lt3.true)
-
-pub overflow_cast-scope : goal.overflow_cast-scope
-overflow_cast-scope c = omega (arith, c.type_inv.input 2)
+    ap refusal_said c.at-then-have-lt3.ensures ∙ sym (action_shorter _ (one ((goal.at.returns-then-have-lt3 c).Else-unknown)) (known ((goal.at.returns-then-have-lt3 c).Else-unknown)) c.if-have-lt2.false (counted ((goal.at.returns-then-have-lt3 c).Else-input-arguments)) c.if-have-lt3.true)
 
 pub returns-then-scope-gt-RESPONSE : goal.returns-then-scope-gt-RESPONSE
 returns-then-scope-gt-RESPONSE c =
-    ap action_behind c.refused_at-then-scope-gt-RESPONSE.ensures ∙ sym (action_scope _ (one ((goal.at.returns-then-scope-gt-RESPONSE c).Else-unknown)) (known ((goal.at.returns-then-scope-gt-RESPONSE c).Else-unknown)) c.if-have-lt2.false (counted ((goal.at.returns-then-scope-gt-RESPONSE c).Else-input-arguments)) c.if-have-lt3.false c.if-scope-gt-RESPONSE.true)
+    ap refusal_said c.at-then-scope-gt-RESPONSE.ensures ∙ sym (action_scope _ (one ((goal.at.returns-then-scope-gt-RESPONSE c).Else-unknown)) (known ((goal.at.returns-then-scope-gt-RESPONSE c).Else-unknown)) c.if-have-lt2.false (counted ((goal.at.returns-then-scope-gt-RESPONSE c).Else-input-arguments)) c.if-have-lt3.false c.if-scope-gt-RESPONSE.true)
 
 pub read_set-requires : goal.read_set-requires
 read_set-requires c = rw (sym c.if-verb-eq-SET_VAR.true) (headed ((goal.at.read_set-requires c).Else-scope-gt-RESPONSE))

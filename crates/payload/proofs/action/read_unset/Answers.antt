@@ -1,32 +1,27 @@
 -- `payload::action::read_unset` meets its contract: what is read behind the three bytes.
-use mathlib.Core.Path.{◌≡◌, sym, ap, ◌∙◌}
-use native.Mathlib.Omega.{arith}
-use lib.ListN.{drop, length-drop}
-use Rattle.answer.specs.Answer.{Answer}
-use Rattle.answer.proofs.Answers.{lent}
-use Rattle.payload.specs.Inner.{action_behind}
+use Rattle.std.proofs.Common.{◌≡◌, ◌∙◌, sym, ap, arith}
+use Rattle.std.proofs.lemmas.Result.{err_from_is_err_and}
+use Rattle.answer.specs.Answer.{refused}
+use Rattle.answer.specs.Reason.{number_of}
+use Rattle.answer.specs.Writes.{read_said}
+use Rattle.answer.proofs.Answers.{at_done, at_refused, itself}
+use Rattle.types.specs.Value.{string}
+use Rattle.types.proofs.Reading.{string_ends}
+use Rattle.types.proofs.Unique.{value_numbers_unique}
 use Rattle.payload.proofs.Actions.{name_refused, name_done}
-use Rattle.types.specs.Value.{Span, string}
-use Rattle.types.specs.Promise.{string_said}
-use Rattle.types.proofs.Reading.{string_accepted, string_place}
 use Rattle.payload.proofs.action.read_unset.Goals as goal
-use Rattle.payload.proofs.action.read_unset.Goals.{After-read_string}
 
-read : (t : After-read_string) (a : Answer Span) → string_said t.read_string.result ≡ a → string (drop 3 ((t.args.input.now))) ≡ a
-read t a e = lent string ((t.args.input.now)) 3 t.read_string.ensures e
+pub returns-in_err-name : goal.returns-in_err-name
+returns-in_err-name c =
+    let s = c.args.input.now in
+    let p = err_from_is_err_and c.from_residual.result c.from_residual.ensures.1 in
+    let o = at_refused read_said (λ x. x) itself string string_ends s 3 c.requires.long (omega (arith, c.well_formed)) c.read_string.result c.read_string.ensures c.in_err-name.ensures in
+    rw (p.1, p.2) (ap (refused (number_of c.in_err-name.field-0.0.reason)) o.2 ∙ sym (name_refused s _ c.requires _ _ o.1))
 
-pub overflow_add-r : goal.overflow_add-r
-overflow_add-r c =
-    omega (arith, string_place _ _ _ (read ((goal.at.overflow_add-r c).After-read_string) _ (ap string_said c.in-Refused.is)), length-drop 3 ((c.args.input.now)), c.well_formed, c.requires.long)
-
-pub returns-in-Refused : goal.returns-in-Refused
-returns-in-Refused c =
-    ap action_behind c.refused_at.ensures ∙ sym (name_refused _ _ c.requires _ _ (read ((goal.at.returns-in-Refused c).After-read_string) _ (ap string_said c.in-Refused.is)))
-
-pub overflow_add-result : goal.overflow_add-result
-overflow_add-result c =
-    omega (arith, (string_accepted _ _ _ _ (read ((goal.at.overflow_add-result c).After-read_string) _ (ap string_said c.in-Done.is))).1, length-drop 3 ((c.args.input.now)), c.well_formed, c.requires.long)
-
-pub returns-in-Done : goal.returns-in-Done
-returns-in-Done c =
-    sym (name_done _ _ c.requires _ _ _ (read ((goal.at.returns-in-Done c).After-read_string) _ (ap string_said c.in-Done.is)))
+pub returns : goal.returns
+returns c =
+    let s = c.args.input.now in
+    let o = at_done read_said (λ x. x) itself string string_ends s 3 c.requires.long (omega (arith, c.well_formed)) c.read_string.result c.read_string.ensures c.in_ok-name.ensures in
+    let e = c.default.ensures in
+    let zero : c.default.result ≡ record { kind = 0; a = 0; b = 0; flags = 0 } = value_numbers_unique _ _ (cc (e.0, e.1.0, e.1.1.0, e.1.1.1)) in
+    rw (zero, o.2) (sym (name_done s _ c.requires _ _ _ o.1))

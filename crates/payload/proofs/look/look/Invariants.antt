@@ -2,11 +2,12 @@
 use Prim.Native.Nat.{◌-◌}
 use lib.ListN.{length}
 use Rattle.payload.specs.Payload.{Contents, payload}
-use Rattle.payload.specs.Inner.{Stands, Goes}
+use Rattle.payload.specs.Inner.{Stands}
+use Rattle.payload.proofs.Passing.{Goes}
 use Rattle.payload.proofs.look.look.Given as goal
 
-abbrev pub invariant-loop-y : goal.invariant-loop-y
-invariant-loop-y l = (c : Contents) × Stands l.kind l.start l.input l.x c × Goes l.kind l.rooms l.input l.x c (payload l.kind l.rooms l.start l.input)
+abbrev pub invariant-loop-next : goal.invariant-loop-next
+invariant-loop-next l = (c : Contents) × Stands l.kind l.start l.input l.x c × Goes l.kind l.rooms l.input l.x c (payload l.kind l.rooms l.start l.input)
 
-abbrev pub decreases-loop-y : goal.decreases-loop-y
-decreases-loop-y l = length l.input - l.x.at
+abbrev pub decreases-loop-next : goal.decreases-loop-next
+decreases-loop-next l = length l.input - l.x.at

@@ -1,4 +1,5 @@
 -- `payload::look::pair_tested` meets its contract: 9, 10, or the pair, as the tests have them in that order.
+use Rattle.answer.specs.Writes.{refusal_said}
 use borrow.Author.Tests.{ne_eqb}
 use mathlib.Core.Path.{◌≡◌, sym, ap, ◌∙◌}
 use mathlib.Core.Bool.{Bool, false, ◌&&◌}
@@ -34,10 +35,10 @@ new j d r = elim j.if-x-eq0.branch [
 
 pub returns-then-key_met : goal.returns-then-key_met
 returns-then-key_met c d r =
-    c.refused_at.ensures ∙ sym (pair_met _ _ _ d _ _ c.if-x-eq0.true (sym (asked c.args.input.now c.args.pair d (c.key_met.ensures d.pairs (r c.if-x-eq0.true))) ∙ c.if-key_met.true))
+    ap refusal_said c.at.ensures ∙ sym (pair_met _ _ _ d _ _ c.if-x-eq0.true (sym (asked c.args.input.now c.args.pair d (c.key_met.ensures d.pairs (r c.if-x-eq0.true))) ∙ c.if-key_met.true))
 
 pub returns-then-rooms-x : goal.returns-then-rooms-x
-returns-then-rooms-x c d r = c.refused_at-then-rooms-x.ensures ∙ sym (pair_full _ _ _ d _ _ (new ((goal.at.returns-then-rooms-x c).Joined-x-eq0) d r) c.if-rooms-x.true)
+returns-then-rooms-x c d r = ap refusal_said c.at-then-rooms-x.ensures ∙ sym (pair_full _ _ _ d _ _ (new ((goal.at.returns-then-rooms-x c).Joined-x-eq0) d r) c.if-rooms-x.true)
 
 pub returns : goal.returns
 returns c d r = rw c.after.ensures (sym (pair_taken _ _ _ d _ _ (new ((goal.at.returns c).Joined-x-eq0) d r) c.if-rooms-x.false))

@@ -1,59 +1,62 @@
 -- `payload::pair::read_pair` meets its contract: the key's refusal, the value's behind the key, or both.
-use mathlib.Core.Path.{◌≡◌, sym, ap, ◌∙◌}
-use Prim.Native.Nat.{◌+◌, ◌≤◌}
-use native.Mathlib.Omega.{arith}
-use lib.ListN.{length, drop, length-drop}
-use Rattle.answer.specs.Answer.{Answer, done}
+use Rattle.std.proofs.Common.{◌≡◌, ◌∙◌, sym, ap, arith, ℕ, ◌+◌, ◌-◌, ◌^◌, ◌<◌, ◌≤◌, List, length, take, drop, Result, Ok}
+use lib.ListN.{length-drop}
+use Rattle.answer.specs.declared.Read.{Read}
+use Rattle.answer.specs.declared.Refusal.{Refusal}
+use Rattle.answer.specs.Writes.{read_behind}
+use Rattle.types.specs.declared.Value.{Value}
+use Rattle.std.proofs.lemmas.Result.{err_from_is_err_and}
+use Rattle.answer.specs.Answer.{done, refused}
+use Rattle.answer.specs.Reason.{number_of}
+use Rattle.answer.proofs.Answers.{at_done, at_refused}
 use Rattle.types.specs.Value.{span, string, Record, typed}
-use Rattle.types.specs.Promise.{string_said, value_said}
+use Rattle.types.specs.Promise.{record_of, value_said}
+use Rattle.types.proofs.Reading.{string_accepted, typed_accepted, typed_ends, valued}
 use Rattle.types.proofs.Shapes.{points_yes}
-use Rattle.types.proofs.Reading.{string_accepted, typed_accepted, typed_place}
 use Rattle.payload.specs.Pair.{pair_of}
 use Rattle.payload.proofs.Pairs.{pair_key, pair_value, pair_whole}
-use Rattle.answer.proofs.Answers.{lent}
 use Rattle.payload.proofs.pair.read_pair.Goals as goal
-use Rattle.payload.proofs.pair.read_pair.Goals.{After-typed_data, In-Done}
 
-pub returns-in_default : goal.returns-in_default
-returns-in_default c =
-    let e = ap string_said c.in_default.is in
-    c.key_refused.ensures _ _ e ∙ sym (pair_key _ _ _ (sym c.read_string-key.ensures ∙ e))
-
--- the key that was read, and the behind.before.before.before.before.before.before.before.args.input.now it
-key : (c : In-Done)
-    → string c.args.input.now ≡ done (span c.in-Done.start c.in-Done.len) c.in-Done.used
-key c = sym c.read_string-key.ensures ∙ ap string_said c.in-Done.is
-
-behind_key : (c : In-Done) → c.in-Done.used ≤ length c.args.input.now
-behind_key c = (string_accepted _ _ _ _ (key c)).1
+pub returns-in_err-key : goal.returns-in_err-key
+returns-in_err-key c =
+    let p = err_from_is_err_and c.from_residual.result c.from_residual.ensures.1 in
+    rw (p.1, p.2) (sym (pair_key c.args.input.now _ _ (sym c.in_err-key.ensures)))
 
 pub slice_bounds-typed_data-count : goal.slice_bounds-typed_data-count
-slice_bounds-typed_data-count c = behind_key ((goal.at.slice_bounds-typed_data-count c).In-Done)
+slice_bounds-typed_data-count c = (string_accepted c.args.input.now _ _ _ (sym c.in_ok-key.ensures)).1
 
 pub slice_bounds-typed_data-start : goal.slice_bounds-typed_data-start
-slice_bounds-typed_data-start c = behind_key ((goal.at.slice_bounds-typed_data-start c).In-Done)
+slice_bounds-typed_data-start c = slice_bounds-typed_data-count c
 
-value_read : (t : After-typed_data) (a : Answer Record) → value_said t.typed_data.result ≡ a → typed (drop (t.in-Done.used) (t.args.input.now)) ≡ a
-value_read t a e = lent typed (t.args.input.now) (t.in-Done.used) t.typed_data.ensures e
+pub returns-in_err-value : goal.returns-in_err-value
+returns-in_err-value c =
+    let s = c.args.input.now in
+    let key = sym c.in_ok-key.ensures in
+    let p = err_from_is_err_and c.from_residual-in_err-value.result c.from_residual-in_err-value.ensures.1 in
+    let o =
+    at_refused value_said record_of valued typed typed_ends s c.in_ok-key.field-0.used (string_accepted s _ _ _ key).1 (omega (arith, c.well_formed))
+    c.typed_data.result c.typed_data.ensures c.in_err-value.ensures in
+    rw (p.1, p.2) (ap (refused (number_of c.in_err-value.field-0.0.reason)) o.2 ∙ sym (pair_value s _ _ c.in_ok-key.field-0.used key _ _ o.1))
 
-pub overflow_add-result : goal.overflow_add-result
-overflow_add-result c =
-    omega (arith, typed_place _ _ _ (value_read ((goal.at.overflow_add-result c).After-typed_data) _ (ap value_said c.in-Refused.is)), behind_key ((goal.at.overflow_add-result c).In-Done), length-drop (c.in-Done.used) (c.args.input.now), c.well_formed)
-
-pub returns-in-Refused : goal.returns-in-Refused
-returns-in-Refused c =
-    sym (pair_value (c.args.input.now) _ _ (c.in-Done.used) (key ((goal.at.returns-in-Refused c).In-Done)) _ _ (value_read ((goal.at.returns-in-Refused c).After-typed_data) _ (ap value_said c.in-Refused.is)))
+-- the value, behind the key
+found : (s : List ℕ) {start len used : ℕ} (key : string s ≡ done (span start len) used) (long : length s < 2 ^ 63) (r : Result (Read Value) Refusal)
+    → value_said r ≡ typed (take (length s - used) (drop used s)) → {x : Read Value} → Ok x ≡ read_behind used r
+    → (n : ℕ) × (typed (drop used s) ≡ done (record_of x.value) n) × (x.used ≡ used + n) × (x.used ≤ length s)
+found s {used = used} key long r says {x} e =
+    at_done value_said record_of valued typed typed_ends s used (string_accepted s _ _ _ key).1 long r says e
 
 pub moved_value-requires : goal.moved_value-requires
 moved_value-requires c h l =
-    let v = typed_accepted _ _ _ _ _ _ (value_read ((goal.at.moved_value-requires c).After-typed_data) _ (ap value_said c.in-Done-typed_data.is)) in
-    omega (arith, v.4 (points_yes _ h l), v.1, behind_key ((goal.at.moved_value-requires c).In-Done), length-drop (c.in-Done.used) (c.args.input.now), c.well_formed)
+    let s = c.args.input.now in
+    let o = found s (sym c.in_ok-key.ensures) (omega (arith, c.well_formed)) c.typed_data.result c.typed_data.ensures c.in_ok-value.ensures in
+    let v = typed_accepted _ _ _ _ _ _ o.1 in
+    omega (arith, v.4 (points_yes _ h l), v.1, o.2, o.3, length-drop c.in_ok-key.field-0.used s, c.well_formed)
 
-pub overflow_add-result-in-Done-typed_data : goal.overflow_add-result-in-Done-typed_data
-overflow_add-result-in-Done-typed_data c =
-    omega (arith, (typed_accepted _ _ _ _ _ _ (value_read ((goal.at.overflow_add-result-in-Done-typed_data c).After-typed_data) _ (ap value_said c.in-Done-typed_data.is))).1, behind_key ((goal.at.overflow_add-result-in-Done-typed_data c).In-Done), length-drop (c.in-Done.used) (c.args.input.now), c.well_formed)
-
-pub returns-in-Done-typed_data : goal.returns-in-Done-typed_data
-returns-in-Done-typed_data c =
-    ap (λ (v : Record). done (pair_of (span c.in-Done.start c.in-Done.len) v) (c.in-Done.used + c.in-Done-typed_data.n)) c.moved_value.ensures
-    ∙ sym (pair_whole (c.args.input.now) _ _ (c.in-Done.used) (key ((goal.at.returns-in-Done-typed_data c).In-Done)) _ _ (value_read ((goal.at.returns-in-Done-typed_data c).After-typed_data) _ (ap value_said c.in-Done-typed_data.is)))
+pub returns : goal.returns
+returns c =
+    let s = c.args.input.now in
+    let key = sym c.in_ok-key.ensures in
+    let o = found s key (omega (arith, c.well_formed)) c.typed_data.result c.typed_data.ensures c.in_ok-value.ensures in
+    rw o.2
+    (ap (λ (v : Record). done (pair_of c.in_ok-key.field-0.value v) (c.in_ok-key.field-0.used + o.0)) c.moved_value.ensures
+    ∙ sym (pair_whole s _ _ c.in_ok-key.field-0.used key _ _ o.1))

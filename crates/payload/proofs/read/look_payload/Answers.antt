@@ -2,15 +2,16 @@
 use mathlib.Core.Path.{◌≡◌, sym, ap, ◌∙◌}
 use mathlib.Core.List.{List}
 use Prim.Native.Nat.{ℕ}
+use Rattle.answer.specs.Writes.{refusal_said}
 use Rattle.payload.specs.declared.Counts.{Counts}
 use Rattle.payload.specs.declared.Payload.{Payload}
 use Rattle.payload.specs.Payload.{payload}
-use Rattle.payload.specs.Promise.{payload_said, payload_tells}
+use Rattle.payload.specs.Promise.{payload_tells}
 use Rattle.payload.proofs.Fitting.{behind_tells}
 use Rattle.payload.proofs.read.look_payload.Goals as goal
 
 pub returns-then-input-start : goal.returns-then-input-start
-returns-then-input-start c = ap payload_said c.behind_end.ensures ∙ behind_tells _ _ _ _ c.if-input-start.true
+returns-then-input-start c = ap refusal_said c.at.ensures ∙ behind_tells _ _ _ _ c.if-input-start.true
 
 -- each kind has its own copy of the pass
 of_kind : (rooms : Counts) (start : ℕ) (s : List ℕ) {kind q : Payload} → kind ≡ q → payload_tells (payload kind rooms start s) ≡ payload_tells (payload q rooms start s)

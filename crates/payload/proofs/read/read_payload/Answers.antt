@@ -1,13 +1,13 @@
 -- `payload::read::read_payload` meets its contract: 3 where it starts behind the bytes, and else each kind has its own copy of the passes.
 use mathlib.Core.Path.{ap, ◌∙◌}
-use Rattle.payload.specs.Promise.{payload_said}
+use Rattle.answer.specs.Writes.{refusal_said}
 use Rattle.payload.proofs.Fitting.{behind_tells, behind_fills}
 use Rattle.payload.proofs.read.read_payload.Goals as goal
 
 pub returns-then-input-start : goal.returns-then-input-start
 returns-then-input-start c =
     let h = c.if-input-start.true in
-    record { says = ap payload_said c.behind_end.ensures ∙ behind_tells _ _ _ _ h; fills = behind_fills _ _ _ _ h _ _ _ }
+    record { says = ap refusal_said c.at.ensures ∙ behind_tells _ _ _ _ h; fills = behind_fills _ _ _ _ h _ _ _ }
 
 pub returns-in-KvList : goal.returns-in-KvList
 returns-in-KvList c = rw c.in-KvList.is c.read_within.ensures

@@ -1,73 +1,76 @@
-use mathlib.Core.Path.{◌≡◌, sym, ap, subst, ◌∙◌}
-use native.Mathlib.Omega.{arith}
+use Rattle.std.proofs.Common.{◌∙◌, sym, ap, arith}
 use Rattle.answer.proofs.Cases.{not_both}
-use Rattle.payload.specs.declared.Step.{Step}
-use Rattle.payload.specs.Promise.{rooms_of}
 use Rattle.payload.specs.Inner.{tests}
-use Rattle.payload.proofs.Passing.{goes_then, Then, key_inside, low, sought, passes_done, passes_refused}
-use Rattle.payload.proofs.Filling.{filling_start, tables_length, tests_room, filling_fits, filling_on, filling_fills}
+use Rattle.payload.specs.Promise.{rooms_of}
+use Rattle.payload.proofs.Passing.{comes, key_inside, low, sought, then_on, then_end, then_not, tests_not, passes_done, passes_refused}
+use Rattle.payload.proofs.Filling.{filling_start, filling_fits, filling_on, filling_fills, tests_room}
 use Rattle.payload.proofs.take.take.Goals as goal
-use Rattle.payload.proofs.take.take.Goals.{After-tested}
 
-pub loop-y-init : goal.loop-y-init
-loop-y-init c = rw c.begin-x.ensures (filling_start _ _ _ _ _ _ c.requires)
+pub loop-next-init : goal.loop-next-init
+loop-next-init c = rw c.begin-x.ensures (filling_start _ _ _ _ _ _ c.requires)
 
-pub item-next-requires : goal.item-next-requires
-item-next-requires c = c.loop-y.invariant.stands.place
+pub returns-in-Ok-None-clause-passes : goal.returns-in-Ok-None-clause-passes
+returns-in-Ok-None-clause-passes c =
+    let i = c.loop-next.invariant in
+    passes_done i.stands (then_end i.stands i.goes (comes c.in-Ok-None.field-0-is c.in-Ok-None.ensures))
 
-pub tested-requires : goal.tested-requires
-tested-requires c =
-    record { at_in_bounds = c.loop-y.invariant.stands.place; key_inside = key_inside _ _ _ _ c.item-next.ensures; low = low c.loop-y.invariant.stands (omega (arith, c.well_formed)) }
+pub returns-in-Ok-None-clause-leaves_accepted : goal.returns-in-Ok-None-clause-leaves_accepted
+returns-in-Ok-None-clause-leaves_accepted c =
+    let i = c.loop-next.invariant in
+    λ ok. filling_fills _ _ _ _ _ _ i (then_end i.stands i.goes (comes c.in-Ok-None.field-0-is c.in-Ok-None.ensures))
 
--- what the tests of what comes next say
-asked : (t : After-tested)
-    → let a = t.args in
-    tests ((rooms_of t.args.messages.now t.args.pairs.now t.args.actions.now)) a.input.now t.loop-y.x t.loop-y.invariant.met t.item-next.result ≡ t.tested.result
-asked t =
-    sym (t.tested.ensures t.loop-y.invariant.met (sought t.loop-y.invariant.stands t.item-next.result t.item-next.ensures))
+pub returns-in-Err-clause-passes : goal.returns-in-Err-clause-passes
+returns-in-Err-clause-passes c =
+    let i = c.loop-next.invariant in
+    let a = c.args in
+    let rooms = rooms_of a.messages.now a.pairs.now a.actions.now in
+    passes_refused i.stands c.in-Err.refusal
+    (ap (tests rooms a.input.now c.loop-next.x i.met) (sym c.in-Err.ensures) ∙ tests_not rooms a.input.now c.loop-next.x i.met _ _)
+    (then_not i.stands i.goes _ _ c.in-Err.ensures)
 
--- and so the reading
-then : (t : After-tested) (r : Step) → t.tested.result ≡ r
-    → Then t.loop-y.invariant.stands t.loop-y.invariant.goes t.item-next.result r
-then t r e =
-    subst (λ (z : Step). Then t.loop-y.invariant.stands t.loop-y.invariant.goes t.item-next.result z) (asked t ∙ e)
-    (rw t.item-next.ensures (goes_then t.loop-y.invariant.stands t.loop-y.invariant.goes))
+pub returns-in-Err-clause-leaves_accepted : goal.returns-in-Err-clause-leaves_accepted
+returns-in-Err-clause-leaves_accepted c = let i = c.loop-next.invariant in λ ok. not_both ok.is (then_not i.stands i.goes _ _ c.in-Err.ensures)
+
+pub tested-requires-clause-key_inside : goal.tested-requires-clause-key_inside
+tested-requires-clause-key_inside c = key_inside _ _ _ _ (comes c.in-Ok-Some.field-0-is c.in-Ok-Some.ensures)
+
+pub tested-requires-clause-low : goal.tested-requires-clause-low
+tested-requires-clause-low c = low c.loop-next.invariant.stands (omega (arith, c.well_formed))
 
 pub store-requires : goal.store-requires
 store-requires c =
-    filling_fits _ _ _ _ _ _ c.loop-y.invariant c.item-next.result (tests_room ((rooms_of c.args.messages.now c.args.pairs.now c.args.actions.now)) _ _ c.loop-y.invariant.met c.item-next.result _ (asked ((goal.at.store-requires c).After-tested) ∙ c.in-On.is)).1
+    let i = c.loop-next.invariant in
+    let a = c.args in
+    let is = comes c.in-Ok-Some.field-0-is c.in-Ok-Some.ensures in
+    filling_fits _ _ _ _ _ _ i c.in-Ok-Some.next
+    (tests_room (rooms_of a.messages.now a.pairs.now a.actions.now) a.input.now c.loop-next.x i.met c.in-Ok-Some.next c.in-Ok.y (sym (c.in-Ok.ensures i.met (sought i.stands c.in-Ok-Some.next is))))
 
-pub loop-y-smaller : goal.loop-y-smaller
-loop-y-smaller c =
-    let n = then ((goal.at.loop-y-smaller c).After-tested) _ c.in-On.is in
+pub loop-next-smaller : goal.loop-next-smaller
+loop-next-smaller c =
+    let i = c.loop-next.invariant in
+    let is = comes c.in-Ok-Some.field-0-is c.in-Ok-Some.ensures in
+    let n = then_on i.stands i.goes c.in-Ok-Some.next is (c.in-Ok.ensures i.met (sought i.stands c.in-Ok-Some.next is)) in
     omega (arith, n.1, n.2.place)
 
-pub loop-y-preserved : goal.loop-y-preserved
-loop-y-preserved c =
-    (filling_on _ _ _ _ _ _ c.loop-y.invariant c.item-next.result _ c.item-next.ensures (asked ((goal.at.loop-y-preserved c).After-tested) ∙ c.in-On.is) _ _ _ c.store.ensures).1
+pub loop-next-preserved : goal.loop-next-preserved
+loop-next-preserved c =
+    let i = c.loop-next.invariant in
+    let is = comes c.in-Ok-Some.field-0-is c.in-Ok-Some.ensures in
+    (filling_on _ _ _ _ _ _ i c.in-Ok-Some.next c.in-Ok.y is (sym (c.in-Ok.ensures i.met (sought i.stands c.in-Ok-Some.next is))) _ _ _ c.store.ensures).1
 
-pub shape_of-messages-in-End : goal.shape_of-messages-in-End
-shape_of-messages-in-End c = (tables_length _ _ _ _ _ _ c.loop-y.invariant).0
+pub returns-in-Err-tested-clause-passes : goal.returns-in-Err-tested-clause-passes
+returns-in-Err-tested-clause-passes c =
+    let i = c.loop-next.invariant in
+    let a = c.args in
+    let rooms = rooms_of a.messages.now a.pairs.now a.actions.now in
+    let is = comes c.in-Ok-Some.field-0-is c.in-Ok-Some.ensures in
+    let t = c.in-Err-tested.ensures i.met (sought i.stands c.in-Ok-Some.next is) in
+    passes_refused i.stands c.in-Err-tested.refusal
+    (ap (tests rooms a.input.now c.loop-next.x i.met) (sym is) ∙ sym t)
+    (then_on i.stands i.goes c.in-Ok-Some.next is t)
 
-pub shape_of-pairs-in-End : goal.shape_of-pairs-in-End
-shape_of-pairs-in-End c = (tables_length _ _ _ _ _ _ c.loop-y.invariant).1
-
-pub shape_of-actions-in-End : goal.shape_of-actions-in-End
-shape_of-actions-in-End c = (tables_length _ _ _ _ _ _ c.loop-y.invariant).2
-
-pub returns-in-End : goal.returns-in-End
-returns-in-End c =
-    let i = c.loop-y.invariant in let e = then ((goal.at.returns-in-End c).After-tested) _ c.in-End.is in record { passes = passes_done i.stands e; leaves_accepted = λ ok. filling_fills _ _ _ _ _ _ i e }
-
-pub shape_of-messages-in-Refused : goal.shape_of-messages-in-Refused
-shape_of-messages-in-Refused c = (tables_length _ _ _ _ _ _ c.loop-y.invariant).0
-
-pub shape_of-pairs-in-Refused : goal.shape_of-pairs-in-Refused
-shape_of-pairs-in-Refused c = (tables_length _ _ _ _ _ _ c.loop-y.invariant).1
-
-pub shape_of-actions-in-Refused : goal.shape_of-actions-in-Refused
-shape_of-actions-in-Refused c = (tables_length _ _ _ _ _ _ c.loop-y.invariant).2
-
-pub returns-in-Refused : goal.returns-in-Refused
-returns-in-Refused c =
-    record { passes = passes_refused c.loop-y.invariant.stands _ (ap (tests ((rooms_of c.args.messages.now c.args.pairs.now c.args.actions.now)) _ _ c.loop-y.invariant.met) (sym c.item-next.ensures) ∙ asked ((goal.at.returns-in-Refused c).After-tested) ∙ c.in-Refused.is) (then ((goal.at.returns-in-Refused c).After-tested) _ c.in-Refused.is); leaves_accepted = λ ok. not_both ok.is (then ((goal.at.returns-in-Refused c).After-tested) _ c.in-Refused.is) }
+pub returns-in-Err-tested-clause-leaves_accepted : goal.returns-in-Err-tested-clause-leaves_accepted
+returns-in-Err-tested-clause-leaves_accepted c =
+    let i = c.loop-next.invariant in
+    let is = comes c.in-Ok-Some.field-0-is c.in-Ok-Some.ensures in
+    λ ok. not_both ok.is (then_on i.stands i.goes c.in-Ok-Some.next is (c.in-Err-tested.ensures i.met (sought i.stands c.in-Ok-Some.next is)))

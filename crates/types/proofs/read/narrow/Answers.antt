@@ -25,11 +25,11 @@ rest kind n low high no2 no3 w e =
     four : 4 ≤ kind
     four = ⊎_elim (λ h. ⊎_elim (λ l. absurd (no2 (omega arith))) (λ l. absurd (no3 (omega arith))) (lt_or_le kind 3)) (λ h. h) (lt_or_le kind 4)
 
-pub returns-then-kind-eq2 : goal.returns-then-kind-eq2
-returns-then-kind-eq2 c = λ w e. c.sign_extend.ensures ∙ bits 2 _ signed32 _ c.if-kind-eq2.true shape_is.2 w e
+pub returns-in-2 : goal.returns-in-2
+returns-in-2 c = λ w e. c.sign_extend.ensures ∙ bits 2 _ signed32 _ c.in-2.is shape_is.2 w e
 
-pub returns-then-kind-eq3 : goal.returns-then-kind-eq3
-returns-then-kind-eq3 c = λ w e. bits 3 _ unsigned32 _ c.if-kind-eq3.true shape_is.3 w e
+pub returns-in-3 : goal.returns-in-3
+returns-in-3 c = λ w e. bits 3 _ unsigned32 _ c.in-3.is shape_is.3 w e
 
-pub returns : goal.returns
-returns c = λ w e. rest _ _ c.requires.0 c.requires.1 c.if-kind-eq2.false c.if-kind-eq3.false w e
+pub returns-in_default : goal.returns-in_default
+returns-in_default c = λ w e. rest _ _ c.requires.0 c.requires.1 (λ e. omega arith) (λ e. omega arith) w e

@@ -1,8 +1,7 @@
 -- `types::write::number_fits` meets its contract: eleven bytes are enough for any number, and else it is measured.
-use Prim.Native.Nat.{ℕ, ◌+◌}
-use mathlib.Core.Path.{sym, ap}
+use Prim.Native.Nat.{◌+◌}
+use mathlib.Core.Path.{sym}
 use native.Mathlib.Omega.{arith}
-use lib.Dec.{leb}
 use lib.ListN.{length}
 use borrow.Author.Tests.{le-leb}
 use Rattle.varint.specs.Number.{number_bytes}
@@ -14,6 +13,3 @@ returns-then-room-ge11 c = let a = c.args in sym (le-leb (1 + length (number_byt
 
 pub overflow_add-result : goal.overflow_add-result
 overflow_add-result c = omega (arith, c.varint_len.ensures, length_most c.args.n)
-
-pub returns : goal.returns
-returns c = ap (λ (m : ℕ). leb (1 + m) c.args.room) c.varint_len.ensures

@@ -1,5 +1,5 @@
 -- `types::write::put_address` meets its contract: the length is not the address's, the bytes lie outside, there is no room,
--- or the type byte is stored and the bytes are what `put_few` leaves in the tail behind it.
+-- or the type byte is stored and the bytes are what `put_bytes` leaves in the tail behind it.
 use Prim.Native.Nat.{◌+◌, ◌-◌, ◌≤◌}
 use mathlib.Core.Path.{◌≡◌, sym, ◌∙◌}
 use mathlib.Core.Bool.{true}
@@ -9,7 +9,7 @@ use lib.ListN.{length, take, drop, set}
 use borrow.Author.Tests.{not-true, not-false, leb-true}
 use Rattle.types.specs.Form.{type_of, inside}
 use Rattle.types.proofs.Writing.{lent_length, form_length, form_address, form_address_outside}
-use Rattle.types.proofs.Output.{puts_refusal, puts_short, puts_whole, Begun, begun_known, begun_start, begun_room, begun_both, begun_most, begun_length}
+use Rattle.types.proofs.Output.{puts_refusal, puts_short, puts_whole, Begun, begun_known, begun_both}
 use Rattle.types.proofs.write.put_address.Goals as goal
 use Rattle.types.proofs.write.put_address.Goals.{After-type_byte, Else-not-part_inside}
 
@@ -47,32 +47,8 @@ returns-then-out-len c = let v = c.args.value in
     (form_address c.args.buffer.now v.kind v.a v.b v.flags c.args.len c.requires.kind_value c.requires.kind_bound.2 c.if-value-len.false (within_buffer ((goal.at.returns-then-out-len c).Else-not-part_inside)))
     (omega (arith, c.if-out-len.true, long ((goal.at.returns-then-out-len c).Else-not-part_inside)))
 
-pub type_byte-requires : goal.type_byte-requires
-type_byte-requires c = (omega (arith, c.requires.kind_bound.0), c.requires.kind_bound.2)
-
-pub overflow_add-to : goal.overflow_add-to
-overflow_add-to c = omega (arith, ends ((goal.at.overflow_add-to c).Else-not-part_inside), c.well_formed)
-
-pub slice_bounds-put_few-end : goal.slice_bounds-put_few-end
-slice_bounds-put_few-end c = ends ((goal.at.slice_bounds-put_few-end c).Else-not-part_inside)
-
-pub slice_bounds-put_few-count-2 : goal.slice_bounds-put_few-count-2
-slice_bounds-put_few-count-2 c = begun_start (begun ((goal.at.slice_bounds-put_few-count-2 c).After-type_byte))
-
-pub slice_bounds-put_few-start-2 : goal.slice_bounds-put_few-start-2
-slice_bounds-put_few-start-2 c = begun_start (begun ((goal.at.slice_bounds-put_few-start-2 c).After-type_byte))
-
-pub put_few-requires : goal.put_few-requires
-put_few-requires c = begun_room (begun ((goal.at.put_few-requires c).After-type_byte))
-
-pub overflow_add-result : goal.overflow_add-result
-overflow_add-result c = omega (arith, begun_most (begun ((goal.at.overflow_add-result c).After-type_byte)) c.put_few.ensures)
-
-pub shape_of-out : goal.shape_of-out
-shape_of-out c = begun_length (begun ((goal.at.shape_of-out c).After-type_byte)) c.put_few.ensures
-
 pub returns : goal.returns
 returns c = let v = c.args.value in
     puts_whole _ c.args.out.now
     (form_address c.args.buffer.now v.kind v.a v.b v.flags c.args.len c.requires.kind_value c.requires.kind_bound.2 c.if-value-len.false (within_buffer ((goal.at.returns c).Else-not-part_inside)))
-    (begun ((goal.at.returns c).After-type_byte)).room (begun_both (begun ((goal.at.returns c).After-type_byte)) c.put_few.ensures)
+    (begun ((goal.at.returns c).After-type_byte)).room (begun_both (begun ((goal.at.returns c).After-type_byte)) c.put_bytes.ensures)

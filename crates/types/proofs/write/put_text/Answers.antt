@@ -12,7 +12,7 @@ use Rattle.varint.specs.Number.{number_bytes}
 use Rattle.types.specs.Form.{type_of, inside, string_bytes, value_answer}
 use Rattle.types.specs.Promise.{record_of}
 use Rattle.types.proofs.Writing.{part_lent, string_long, form_text, form_text_outside}
-use Rattle.types.proofs.Output.{puts_refusal, puts_short, puts_whole, Begun, begun_known, begun_start, begun_room, begun_both, begun_most, begun_length}
+use Rattle.types.proofs.Output.{puts_refusal, puts_short, puts_whole, Begun, begun_known, begun_room, begun_both}
 use Rattle.types.proofs.write.put_text.Goals as goal
 use Rattle.types.proofs.write.put_text.Goals.{After-type_byte, Else-not-part_inside}
 
@@ -65,32 +65,8 @@ returns-then-not-number_fits c = let a = c.args in
     let h = leb-false (1 + length (number_bytes a.value.b)) (length a.out.now - a.value.b) (sym c.number_fits.ensures ∙ not-true _ c.if-not-number_fits.true-raw) in
     puts_short _ _ (bytes ((goal.at.returns-then-not-number_fits c).Else-not-part_inside)) (omega (arith, h, long ((goal.at.returns-then-not-number_fits c).Else-not-part_inside)))
 
-pub type_byte-requires : goal.type_byte-requires
-type_byte-requires c = (omega (arith, c.requires.1), c.requires.2)
-
-pub bounds-out-0 : goal.bounds-out-0
-bounds-out-0 c = omega (arith, (begun ((goal.at.bounds-out-0 c).After-type_byte)).room)
-
-pub overflow_add-to : goal.overflow_add-to
-overflow_add-to c = omega (arith, ends ((goal.at.overflow_add-to c).Else-not-part_inside), c.well_formed)
-
-pub slice_bounds-put_string-end : goal.slice_bounds-put_string-end
-slice_bounds-put_string-end c = ends ((goal.at.slice_bounds-put_string-end c).Else-not-part_inside)
-
-pub slice_bounds-put_string-count-2 : goal.slice_bounds-put_string-count-2
-slice_bounds-put_string-count-2 c = begun_start (begun ((goal.at.slice_bounds-put_string-count-2 c).After-type_byte))
-
-pub slice_bounds-put_string-start-2 : goal.slice_bounds-put_string-start-2
-slice_bounds-put_string-start-2 c = begun_start (begun ((goal.at.slice_bounds-put_string-start-2 c).After-type_byte))
-
 pub put_string-requires : goal.put_string-requires
 put_string-requires c = begun_room (begun ((goal.at.put_string-requires c).After-type_byte))
-
-pub overflow_add-result : goal.overflow_add-result
-overflow_add-result c = omega (arith, begun_most (begun ((goal.at.overflow_add-result c).After-type_byte)) c.put_string.ensures)
-
-pub shape_of-out : goal.shape_of-out
-shape_of-out c = begun_length (begun ((goal.at.shape_of-out c).After-type_byte)) c.put_string.ensures
 
 pub returns : goal.returns
 returns c = puts_whole _ _ (bytes ((goal.at.returns c).Else-not-part_inside)) (begun ((goal.at.returns c).After-type_byte)).room (begun_both (begun ((goal.at.returns c).After-type_byte)) c.put_string.ensures)

@@ -10,7 +10,7 @@ use Rattle.types.proofs.write.write_string.Goals.{Else-not-string_fits}
 
 pub returns-then-not-string_fits : goal.returns-then-not-string_fits
 returns-then-not-string_fits c = let a = c.args in
-    writes_none (string_bytes a.text.now) a.out.now (leb-false _ _ (sym c.string_fits.ensures ∙ not-true c.string_fits.result c.if-not-string_fits.true-raw))
+    writes_none (string_bytes a.text.now) a.out.now c.at.ensures (leb-false _ _ (sym c.string_fits.ensures ∙ not-true c.string_fits.result c.if-not-string_fits.true-raw))
 
 room : (e : Else-not-string_fits) → let a = e.args in length (string_bytes a.text.now) ≤ length a.out.now
 room e = leb-true _ _ (sym e.string_fits.ensures ∙ not-false e.string_fits.result e.if-not-string_fits.false-raw)

@@ -1,29 +1,17 @@
-use mathlib.Core.Path.{refl, sym, ◌∙◌}
-use mathlib.Core.List.{[]}
-use native.Mathlib.Omega.{arith}
-use lib.ListN.{drop_of_length-le}
-use Rattle.utf8.proofs.Same.{same_next, same_stop, same_length, same_refl}
+use Rattle.std.proofs.Common.{sym, ◌∙◌, rules, tests}
+use borrow.Author.Tests.{ne_eqb}
+use Rattle.std.proofs.lemmas.Bool.Decides.{same_from_decides}
+use Rattle.std.proofs.lemmas.Iterator.{same_from_all, YieldsList-from_slice, YieldsList-from_zip}
+use Rattle.utf8.proofs.Same.{same_iff, same_length}
 use Rattle.utf8.proofs.equal.same_bytes.Goals as goal
 
 pub returns-then-a-b : goal.returns-then-a-b
-returns-then-a-b c = sym (same_length _ _ c.if-a-b.true)
+returns-then-a-b c =
+    let a = c.args.a.now in
+    let b = c.args.b.now in
+    same_from_decides _ _
+    (same_from_all c.all.new.self _ _ a b c.all.ensures.ran (YieldsList-from_zip (YieldsList-from_slice a cc) (YieldsList-from_slice b cc)) c.if-a-b.true (λ x q k. search (rules, tests)) (λ x q k. search (rules, tests)))
+    (same_iff a b)
 
-pub bounds-b-i : goal.bounds-b-i
-bounds-b-i c = omega (arith, c.if-a-b.false)
-
-pub returns-then-a-i : goal.returns-then-a-i
-returns-then-a-i c = let h = c.loop-i-test.true in
-    sym (c.loop-i.invariant ∙ same_stop c.args.a.now c.args.b.now c.loop-i.i h (omega (arith, h, c.if-a-b.false)) c.if-a-i.true)
-
-pub loop-i-preserved : goal.loop-i-preserved
-loop-i-preserved c = let h = c.loop-i-test.true in
-    c.loop-i.invariant ∙ same_next c.args.a.now c.args.b.now c.loop-i.i h (omega (arith, h, c.if-a-b.false)) c.if-a-i.false
-
-pub returns : goal.returns
-returns c = let h = c.loop-i-test.false in
-    sym
-    (c.loop-i.invariant
-    ∙ rw (drop_of_length-le c.args.a.now h, drop_of_length-le c.args.b.now {i = c.loop-i.i} (omega (arith, h, c.if-a-b.false))) (same_refl []))
-
-pub loop-i-init : goal.loop-i-init
-loop-i-init c = refl
+pub returns-else-a-b : goal.returns-else-a-b
+returns-else-a-b c = ne_eqb _ _ c.if-a-b.false ∙ sym (same_length _ _ c.if-a-b.false)

@@ -1,27 +1,19 @@
--- `utf8::equal::surely_same` meets its contract: the first bytes are the same, and so are the last eight. A no promises nothing.
-use mathlib.Core.Path.{refl, sym, ◌∙◌}
-use Prim.Native.Nat.{◌-◌}
-use native.Mathlib.Omega.{arith}
-use lib.ListN.{length}
-use borrow.Author.Tests.{not-false}
-use Rattle.answer.proofs.Cases.{true_false}
+use Rattle.std.proofs.Common.{◌≡◌, true, ◌-◌, ℕ, Bool, List, length, take, drop, sym, ◌∙◌, arith}
 use Rattle.answer.proofs.Output.{lent_tail_lem}
-use Rattle.utf8.proofs.Walk.{equal_all}
+use Rattle.utf8.specs.Text.{same_bytes}
+use Rattle.utf8.proofs.Walk.{equal_on, equal_less, equal_all}
 use Rattle.utf8.proofs.equal.surely_same.Goals as goal
 
+-- eight more, as the call was told of the bytes that it was lent
+eight : (s t : List ℕ) (at : ℕ) {told : Bool} → told ≡ same_bytes (take 8 (take (length s - at) (drop at s))) (take 8 (take (length t - at) (drop at t))) → told ≡ true → same_bytes (take 8 (drop at s)) (take 8 (drop at t)) ≡ true
+eight s t at is e = rw (lent_tail_lem at s, lent_tail_lem at t) at (sym is ∙ e)
+
+pub loop-at-preserved : goal.loop-at-preserved
+loop-at-preserved c = equal_on _ _ c.loop-at.at c.loop-at.invariant (eight _ _ c.loop-at.at c.all_same.ensures c.if-not-all_same.false)
+
 pub returns : goal.returns
-returns c = λ t.
+returns c = λ e.
     let a = c.args.a.now in
     let b = c.args.b.now in
     let last = length a - 8 in
-    equal_all a b last (c.eights_equal.ensures (not-false _ c.if-not-eights_equal.false-raw)) (omega arith) (omega arith)
-    (rw (lent_tail_lem last a, lent_tail_lem last b) at (sym c.eight_equal.ensures ∙ t))
-
-pub returns-then-len-b : goal.returns-then-len-b
-returns-then-len-b c = λ t. true_false t refl
-
-pub returns-then-len-lt8 : goal.returns-then-len-lt8
-returns-then-len-lt8 c = λ t. true_false t refl
-
-pub returns-then-not-eights_equal : goal.returns-then-not-eights_equal
-returns-then-not-eights_equal c = λ t. true_false t refl
+    equal_all a b last (equal_less a b c.loop-at.at c.loop-at.invariant last c.loop-at-test.false) (omega arith) (omega arith) (eight a b last c.all_same-2.ensures e)

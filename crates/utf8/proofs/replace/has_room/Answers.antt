@@ -1,8 +1,6 @@
 -- `utf8::replace::has_room` meets its contract: a lossy text is at most three times as long as its bytes, and else the steps are measured.
-use mathlib.Core.Path.{sym}
+use Rattle.std.proofs.Common.{length, ◌/◌, arith, sym, ◌∙◌}
 use native.Mathlib.Nat.{div-add-mod'}
-use native.Mathlib.Omega.{arith}
-use lib.ListN.{length}
 use borrow.Author.Tests.{le-leb}
 use Rattle.utf8.specs.Text.{lossy}
 use Rattle.utf8.proofs.Lossy.{lossy_length}
@@ -10,4 +8,7 @@ use Rattle.utf8.proofs.replace.has_room.Goals as goal
 
 pub returns-then-bytes-room : goal.returns-then-bytes-room
 returns-then-bytes-room c =
-    sym (le-leb (length (lossy c.args.bytes.now)) c.args.room (omega (arith, c.if-bytes-room.true, lossy_length c.args.bytes.now, div-add-mod' c.args.room 3)))
+    let bytes = c.args.bytes.now in
+    let h = c.if-bytes-room.true in
+    le-leb (length bytes) (c.args.room / 3) h
+    ∙ sym (le-leb (length (lossy bytes)) c.args.room (omega (arith, lossy_length bytes, div-add-mod' c.args.room 3)))

@@ -1,30 +1,25 @@
 -- `utf8::rows::front_step` meets its contract: there is no byte, the first is ASCII, or its row decides, if it has one.
-use mathlib.Core.Path.{◌≡◌, sym, ap, ◌∙◌}
-use Prim.Native.Nat.{◌≤◌}
-use native.Mathlib.Omega.{arith}
-use lib.ListN.{length}
-use Rattle.utf8.specs.Text.{Led, step}
-use Rattle.utf8.specs.Inner.{led_by}
-use Rattle.utf8.proofs.Stepping.{step_behind, step_ends, step_for_lem, step_ascii_front}
+use Rattle.std.proofs.Common.{◌≡◌, sym, ap, ◌∙◌, arith}
+use borrow.Author.Tests.{ltb-true}
+use Rattle.utf8.specs.Text.{step}
+use Rattle.utf8.specs.Inner.{behind}
+use Rattle.utf8.proofs.Stepping.{step_behind, step_for_lem, step_ends, step_ascii_front}
 use Rattle.utf8.proofs.rows.front_step.Goals as goal
-use Rattle.utf8.proofs.rows.front_step.Goals.{After-lead_row, Else-s-eq0}
+use Rattle.utf8.proofs.rows.front_step.Goals.{After-row_of}
 
-some : (c : Else-s-eq0) → 1 ≤ length c.args.s.now
-some c = omega (arith, c.if-s-eq0.false)
+which : (c : After-row_of) → step c.args.s.now ≡ step_behind (behind c.row_of.result) c.args.s.now
+which c =
+    step_for_lem _ c.in-Some.field-0.now c.in-Some.ensures.item.3.0 (sym (c.in-Some.ensures.item.3.1 0))
+    ∙ ap (λ x. step_behind x c.args.s.now) (sym c.row_of.ensures.row)
 
-which : (c : After-lead_row)
-    → step c.args.s.now ≡ step_behind (led_by c.lead_row.result) c.args.s.now
-which c = let s = c.args.s.now in
-    step_for_lem s (let it : 1 ≤ length c.args.s.now = omega (arith, c.if-s-eq0.false) in it) ∙ ap (λ (x : Led). step_behind x s) (sym c.lead_row.ensures)
+pub returns-in_default : goal.returns-in_default
+returns-in_default c = let h = rw c.in_default.is at c.first.ensures.item in sym (step_ends _ (omega (arith, h.3)))
 
-pub returns-then-s-eq0 : goal.returns-then-s-eq0
-returns-then-s-eq0 c = sym (step_ends _ c.if-s-eq0.true)
+pub returns-then-is_ascii : goal.returns-then-is_ascii
+returns-then-is_ascii c = let h = c.in-Some.ensures.item.3 in sym (step_ascii_front _ h.0 (rw (sym (h.1 0)) (ltb-true _ _ (sym c.is_ascii.ensures ∙ c.if-is_ascii.true))))
 
-pub returns-then-lead-lt128 : goal.returns-then-lead-lt128
-returns-then-lead-lt128 c = sym (step_ascii_front _ (some ((goal.at.returns-then-lead-lt128 c).Else-s-eq0)) c.if-lead-lt128.true)
+pub returns-in-Some-row_of : goal.returns-in-Some-row_of
+returns-in-Some-row_of c = c.step_on.ensures ∙ sym (rw c.in-Some-row_of.is at (which ((goal.at.returns-in-Some-row_of c).After-row_of)))
 
-pub returns-in-Unused : goal.returns-in-Unused
-returns-in-Unused c = sym (rw c.in-Unused.is at (which ((goal.at.returns-in-Unused c).After-lead_row)))
-
-pub returns-in-In : goal.returns-in-In
-returns-in-In c = c.step_on.ensures ∙ sym (rw c.in-In.is at (which ((goal.at.returns-in-In c).After-lead_row)))
+pub returns-in-None : goal.returns-in-None
+returns-in-None c = sym (rw c.in-None.is at (which ((goal.at.returns-in-None c).After-row_of)))

@@ -1,48 +1,56 @@
--- `writer::notify::put_message` meets its contract: the name with its count byte, and the run in the tail behind it.
-use borrow.Author.Rules.{rules}
-use mathlib.Core.List.{◌++◌}
-use Prim.Native.Nat.{◌≤◌}
-use native.Mathlib.Omega.{arith}
-use lib.ListN.{length, length-append}
-use Rattle.answer.proofs.Parts.{both_start, both_room, both_count, both_leaves}
+-- `writer::notify::put_message` meets its contract: the name with its count byte, and the arguments in the tail behind it.
+use Rattle.std.proofs.Common.{◌≡◌, ◌+◌, ◌-◌, ◌≤◌, ◌++◌, List, ℕ, length, length-append, arith}
 use Rattle.answer.specs.Table.{records, joined}
-use Rattle.writer.specs.Pair.{pair_bytes}
-use Rattle.writer.specs.Message.{name_bytes}
+use Rattle.answer.proofs.Parts.{both_room, both_count, both_leaves}
+use Rattle.frame.specs.declared.Message.{Message}
 use Rattle.frame.specs.Records.{pair_at}
+use Rattle.writer.specs.Pair.{pair_bytes}
+use Rattle.writer.specs.Message.{name_bytes, message_bytes}
 use Rattle.writer.proofs.Messages.{message_bytes_lem}
 use Rattle.writer.proofs.notify.put_message.Goals as goal
 
-pub put_name-n-requires : goal.put_name-n-requires
-put_name-n-requires c =
-    record { len_in_bounds = c.requires.ready.name; count_bound = c.requires.ready.few; message_in_bounds = omega (arith, (let it : length ((name_bytes c.args.buffer.now c.args.message) ++ (let a = c.args in joined (pair_bytes a.buffer.now) (records (pair_at a.pairs.now) a.message.first a.message.count))) ≤ length c.args.out.now = rw (message_bytes_lem c.args.buffer.now c.args.pairs.now c.args.message) at c.requires.message_in_bounds in it), length-append ((name_bytes c.args.buffer.now c.args.message)) ((let a = c.args in joined (pair_bytes a.buffer.now) (records (pair_at a.pairs.now) a.message.first a.message.count)))) }
+-- the arguments, written
+abbrev arguments : List ℕ → List ℕ → Message → List ℕ
+arguments buffer pairs m = joined (pair_bytes buffer) (records (pair_at pairs) m.first m.count)
 
-pub slice_bounds-put_pairs-count : goal.slice_bounds-put_pairs-count
-slice_bounds-put_pairs-count c = both_start ((name_bytes c.args.buffer.now c.args.message)) ((let a = c.args in joined (pair_bytes a.buffer.now) (records (pair_at a.pairs.now) a.message.first a.message.count))) c.args.out.now _ _ c.put_name-n.ensures.value c.put_name-n.ensures.out_after ((let it : length ((name_bytes c.args.buffer.now c.args.message) ++ (let a = c.args in joined (pair_bytes a.buffer.now) (records (pair_at a.pairs.now) a.message.first a.message.count))) ≤ length c.args.out.now = rw (message_bytes_lem c.args.buffer.now c.args.pairs.now c.args.message) at c.requires.message_in_bounds in it))
+-- there is room for the name and the arguments
+both : (buffer pairs : List ℕ) (m : Message) (old : List ℕ) → length (message_bytes buffer pairs m) ≤ length old
+    → length (name_bytes buffer m ++ arguments buffer pairs m) ≤ length old
+both buffer pairs m old room = rw (message_bytes_lem buffer pairs m) at room
 
-pub slice_bounds-put_pairs-start : goal.slice_bounds-put_pairs-start
-slice_bounds-put_pairs-start c = slice_bounds-put_pairs-count c
+-- as many as the message says
+run : (m : Message) → m.first + m.count - m.first ≡ m.count
+run m = omega arith
 
-pub slice_bounds-put_pairs-end : goal.slice_bounds-put_pairs-end
-slice_bounds-put_pairs-end c = search rules
+pub put_name-n-requires-clause-message_in_bounds : goal.put_name-n-requires-clause-message_in_bounds
+put_name-n-requires-clause-message_in_bounds c =
+    let a = c.args in
+    let p = a.pairs.now in
+    omega (arith, both p.buffer.now p.table.now a.message a.out.now c.requires.message_in_bounds, length-append (name_bytes p.buffer.now a.message) (arguments p.buffer.now p.table.now a.message))
 
-pub put_pairs-requires : goal.put_pairs-requires
-put_pairs-requires c =
-    let n = c.put_name-n.ensures in record { formed_run = c.requires.ready.run; count_in_bounds = both_room ((name_bytes c.args.buffer.now c.args.message)) ((let a = c.args in joined (pair_bytes a.buffer.now) (records (pair_at a.pairs.now) a.message.first a.message.count))) c.args.out.now _ _ n.value n.out_after ((let it : length ((name_bytes c.args.buffer.now c.args.message) ++ (let a = c.args in joined (pair_bytes a.buffer.now) (records (pair_at a.pairs.now) a.message.first a.message.count))) ≤ length c.args.out.now = rw (message_bytes_lem c.args.buffer.now c.args.pairs.now c.args.message) at c.requires.message_in_bounds in it)) }
-
-pub overflow_add-result : goal.overflow_add-result
-overflow_add-result c =
+pub put_records-requires-clause-room : goal.put_records-requires-clause-room
+put_records-requires-clause-room c =
+    let a = c.args in
+    let p = a.pairs.now in
     let n = c.put_name-n.ensures in
-    omega (arith, both_count ((name_bytes c.args.buffer.now c.args.message)) ((let a = c.args in joined (pair_bytes a.buffer.now) (records (pair_at a.pairs.now) a.message.first a.message.count))) c.args.out.now _ _ n.value n.out_after ((let it : length ((name_bytes c.args.buffer.now c.args.message) ++ (let a = c.args in joined (pair_bytes a.buffer.now) (records (pair_at a.pairs.now) a.message.first a.message.count))) ≤ length c.args.out.now = rw (message_bytes_lem c.args.buffer.now c.args.pairs.now c.args.message) at c.requires.message_in_bounds in it)) _ c.put_pairs.ensures.value, (let it : length ((name_bytes c.args.buffer.now c.args.message) ++ (let a = c.args in joined (pair_bytes a.buffer.now) (records (pair_at a.pairs.now) a.message.first a.message.count))) ≤ length c.args.out.now = rw (message_bytes_lem c.args.buffer.now c.args.pairs.now c.args.message) at c.requires.message_in_bounds in it), c.well_formed)
-
-pub shape_of-out : goal.shape_of-out
-shape_of-out c = search rules
+    rw (run a.message)
+    (both_room (name_bytes p.buffer.now a.message) (arguments p.buffer.now p.table.now a.message) a.out.now _ _ n.value n.out_after
+    (both p.buffer.now p.table.now a.message a.out.now c.requires.message_in_bounds))
 
 pub returns-clause-value : goal.returns-clause-value
-returns-clause-value c = let n = c.put_name-n.ensures in
-    let r = c.put_pairs.ensures in
-    rw (message_bytes_lem c.args.buffer.now c.args.pairs.now c.args.message) (both_count ((name_bytes c.args.buffer.now c.args.message)) ((let a = c.args in joined (pair_bytes a.buffer.now) (records (pair_at a.pairs.now) a.message.first a.message.count))) c.args.out.now _ _ n.value n.out_after ((let it : length ((name_bytes c.args.buffer.now c.args.message) ++ (let a = c.args in joined (pair_bytes a.buffer.now) (records (pair_at a.pairs.now) a.message.first a.message.count))) ≤ length c.args.out.now = rw (message_bytes_lem c.args.buffer.now c.args.pairs.now c.args.message) at c.requires.message_in_bounds in it)) _ r.value)
+returns-clause-value c =
+    let a = c.args in
+    let p = a.pairs.now in
+    let n = c.put_name-n.ensures in
+    rw (message_bytes_lem p.buffer.now p.table.now a.message)
+    (both_count (name_bytes p.buffer.now a.message) (arguments p.buffer.now p.table.now a.message) a.out.now _ _ n.value n.out_after
+    (both p.buffer.now p.table.now a.message a.out.now c.requires.message_in_bounds) _ (rw (run a.message) at c.put_records.ensures.value))
 
 pub returns-clause-out_after : goal.returns-clause-out_after
-returns-clause-out_after c = let n = c.put_name-n.ensures in
-    let r = c.put_pairs.ensures in
-    rw (message_bytes_lem c.args.buffer.now c.args.pairs.now c.args.message) (both_leaves ((name_bytes c.args.buffer.now c.args.message)) ((let a = c.args in joined (pair_bytes a.buffer.now) (records (pair_at a.pairs.now) a.message.first a.message.count))) c.args.out.now _ _ n.value n.out_after ((let it : length ((name_bytes c.args.buffer.now c.args.message) ++ (let a = c.args in joined (pair_bytes a.buffer.now) (records (pair_at a.pairs.now) a.message.first a.message.count))) ≤ length c.args.out.now = rw (message_bytes_lem c.args.buffer.now c.args.pairs.now c.args.message) at c.requires.message_in_bounds in it)) _ r.out_after)
+returns-clause-out_after c =
+    let a = c.args in
+    let p = a.pairs.now in
+    let n = c.put_name-n.ensures in
+    rw (message_bytes_lem p.buffer.now p.table.now a.message)
+    (both_leaves (name_bytes p.buffer.now a.message) (arguments p.buffer.now p.table.now a.message) a.out.now _ _ n.value n.out_after
+    (both p.buffer.now p.table.now a.message a.out.now c.requires.message_in_bounds) _ (rw (run a.message) at c.put_records.ensures.out_after))

@@ -1,117 +1,90 @@
--- `writer::pair::measure_pair` meets its contract: the value is looked at once, and its number comes in its turn: before the key where it is 14,
--- and else behind it. Where none is left, the lengths of the key and of the value are the pair's.
+-- `writer::pair::measure_pair` meets its contract: the value's numbers, the key, and what is left of the value. Where none is refused, the
+-- lengths of the key and of the value are the pair's.
 use borrow.Author.Rules.{rules}
 use mathlib.Core.Path.{◌≡◌, sym, ap, ◌∙◌}
 use mathlib.Core.Bool.{true}
+use mathlib.Core.List.{List}
 use Prim.Native.Nat.{ℕ, ◌+◌}
 use native.Mathlib.Omega.{arith}
 use lib.ListN.{length}
+use Rattle.std.proofs.lemmas.Result.{err_from_is_err_and}
 use Rattle.answer.specs.Answer.{written}
-use Rattle.answer.specs.Order.{in_order}
+use Rattle.answer.specs.Order.{in_order, lines_at}
+use Rattle.answer.specs.Inner.{Passes}
 use Rattle.answer.proofs.Order.{passes_zero, lines_pass}
+use Rattle.answer.proofs.Same.{reason_some}
 use Rattle.varint.proofs.Writing.{length_most}
 use Rattle.types.specs.Form.{value_bytes, writable_record, length_of}
-use Rattle.types.specs.Check.{value_checks}
+use Rattle.types.specs.Check.{string_checks, value_checks}
 use Rattle.types.specs.Promise.{record_of}
-use Rattle.types.proofs.Checking.{value_part, value_unwritable, value_writable}
+use Rattle.types.proofs.Checking.{value_part}
 use Rattle.types.proofs.Writing.{value_bound, part_within_buffer}
+use Rattle.frame.specs.declared.Pair.{Pair}
 use Rattle.writer.specs.Pair.{pair_checks}
 use Rattle.writer.specs.Inner.{capped, Formed}
 use Rattle.writer.proofs.Capped.{capped_left, capped_most}
 use Rattle.writer.proofs.Pairs.{pair_fields, pair_key, pair_part, pair_long, formed_passed}
 use Rattle.writer.proofs.pair.measure_pair.Goals as goal
-use Rattle.writer.proofs.pair.measure_pair.Goals.{Else-key-ne0, Else-number-eq-NOT_WRITABLE, Else-number-ne0}
 
-pub measure_value-value-requires : goal.measure_value-value-requires
-measure_value-value-requires c = search rules
+-- Past its numbers and its key, a pair is refused with what its value is.
+module _ (buffer : List ℕ) (p : Pair) (fields : writable_record (record_of p.value) ≡ true) (key : 0 ≡ in_order (string_checks buffer p.start p.len) 0) where
+  left : in_order (value_checks buffer (record_of p.value)) 0 ≡ in_order (pair_checks buffer p) 0
+  left = value_part buffer (record_of p.value) fields ∙ sym (pair_part buffer p fields (passes_zero _ tt (sym key)))
 
-pub returns-then-number-eq-NOT_WRITABLE : goal.returns-then-number-eq-NOT_WRITABLE
-returns-then-number-eq-NOT_WRITABLE c =
+  -- and past that it has its written form, and the value's length is known
+  module _ (none : 0 ≡ in_order (value_checks buffer (record_of p.value)) 0) where
+    well : Passes (pair_checks buffer p)
+    well = passes_zero _ tt (sym (none ∙ left))
+
+    formed : Formed buffer p
+    formed = formed_passed buffer p well
+
+    value_is : length_of (in_order (lines_at 0 (value_checks buffer (record_of p.value))) (written (value_bytes buffer (record_of p.value)))) ≡ length (value_bytes buffer (record_of p.value))
+    value_is = ap length_of (lines_pass (value_checks buffer (record_of p.value)) (passes_zero _ tt (sym none)) 0 (written (value_bytes buffer (record_of p.value))))
+
+pub returns-then-not-writable : goal.returns-then-not-writable
+returns-then-not-writable c =
+    let a = c.args in sym (pair_fields a.buffer.now a.pair (search rules))
+
+pub returns-in_err-check_string : goal.returns-in_err-check_string
+returns-in_err-check_string c =
     let a = c.args in
-    let v = a.pair.value in
-    record {
-      number = c.if-number-eq-NOT_WRITABLE.true ∙ sym (pair_fields a.buffer.now a.pair (value_unwritable a.buffer.now v.kind v.a v.b v.flags (sym c.measure_value-value.ensures.0 ∙ c.if-number-eq-NOT_WRITABLE.true)));
-      len = λ z. absurd (omega (arith, c.if-number-eq-NOT_WRITABLE.true, z));
-    }
+    let r = c.from_residual in
+    let p = err_from_is_err_and r.result r.ensures.1 in
+    rw (p.1, p.2)
+    (pair_key a.buffer.now a.pair (search rules) _ c.in_err-check_string.ensures (reason_some c.in_err-check_string.field-0.0))
 
--- past the first test its numbers lie in their fields
-fields : (e : Else-number-eq-NOT_WRITABLE) → writable_record (record_of e.args.pair.value) ≡ true
-fields e =
-    let a = e.args in
-    let v = a.pair.value in
-    value_writable a.buffer.now v.kind v.a v.b v.flags (λ z. e.if-number-eq-NOT_WRITABLE.false (e.measure_value-value.ensures.0 ∙ z))
-
-pub check_string-key-requires : goal.check_string-key-requires
-check_string-key-requires c = search rules
-
-pub returns-then-key-ne0 : goal.returns-then-key-ne0
-returns-then-key-ne0 c =
+pub returns-in_err-value_len : goal.returns-in_err-value_len
+returns-in_err-value_len c =
     let a = c.args in
-    record {
-      number = pair_key a.buffer.now a.pair (fields ((goal.at.returns-then-key-ne0 c).Else-number-eq-NOT_WRITABLE)) _ c.check_string-key.ensures c.if-key-ne0.true;
-      len = λ z. absurd (c.if-key-ne0.true z);
-    }
-
--- past the second its own number is the value's
-number_is : (e : Else-key-ne0)
-    → let a = e.args in
-    e.measure_value-value.result.number ≡ in_order (pair_checks a.buffer.now a.pair) 0
-number_is e =
-    let a = e.args in
-    let w = (let it : writable_record (record_of e.args.pair.value) ≡ true = let a = e.args in
-    let v = a.pair.value in
-    value_writable a.buffer.now v.kind v.a v.b v.flags (λ z. e.if-number-eq-NOT_WRITABLE.false (e.measure_value-value.ensures.0 ∙ z)) in it) in
-    e.measure_value-value.ensures.0
-    ∙ value_part a.buffer.now (record_of a.pair.value) w
-    ∙ sym (pair_part a.buffer.now a.pair w (passes_zero _ tt (sym e.check_string-key.ensures ∙ e.if-key-ne0.false)))
-
-pub returns-then-number-ne0 : goal.returns-then-number-ne0
-returns-then-number-ne0 c = record { number = number_is ((goal.at.returns-then-number-ne0 c).Else-key-ne0); len = λ z. absurd (c.if-number-ne0.true z) }
-
--- past the third it has its written form, and the value's length is known
-formed : (e : Else-number-ne0)
-    → let a = e.args in
-    Formed a.buffer.now a.pair
-formed e = formed_passed _ _ (passes_zero _ tt (sym (number_is ((goal.at.varint_len-requires e).Else-key-ne0)) ∙ e.if-number-ne0.false))
-
-value_is : (e : Else-number-ne0)
-    → let a = e.args in
-    e.measure_value-value.result.len ≡ length (value_bytes a.buffer.now (record_of a.pair.value))
-value_is e =
-    let a = e.args in
-    let v = record_of a.pair.value in
-    e.measure_value-value.ensures.1
-    ∙ ap length_of (lines_pass (value_checks a.buffer.now v) (passes_zero _ tt (sym e.measure_value-value.ensures.0 ∙ e.if-number-ne0.false)) 0 (written (value_bytes a.buffer.now v)))
-
-pub varint_len-requires : goal.varint_len-requires
-varint_len-requires c = search rules
+    let r = c.from_residual-in_err-value_len in
+    let p = err_from_is_err_and r.result r.ensures.1 in
+    rw (p.1, p.2) (c.in_err-value_len.ensures.0 ∙ left a.buffer.now a.pair (search rules) (search rules))
 
 pub overflow_add-varint_len : goal.overflow_add-varint_len
 overflow_add-varint_len c =
-    omega (arith, c.varint_len.ensures, length_most c.args.pair.len, c.well_formed, (formed ((goal.at.overflow_add-varint_len c).Else-number-ne0)).key)
-
-pub cap-key_len-requires : goal.cap-key_len-requires
-cap-key_len-requires c = search rules
+    let a = c.args in
+    let f = formed a.buffer.now a.pair (search rules) c.in_ok-check_string.ensures c.in_ok-value_len.ensures.0 in
+    omega (arith, c.varint_len.ensures, length_most a.pair.len, c.well_formed, f.key)
 
 pub overflow_add-key_len : goal.overflow_add-key_len
 overflow_add-key_len c =
     let a = c.args in
     let v = a.pair.value in
-    omega (arith, value_is ((goal.at.overflow_add-key_len c).Else-number-ne0), c.cap-key_len.ensures, capped_most a.most (c.varint_len.result + a.pair.len), c.well_formed, c.ranges, value_bound a.buffer.now v.kind v.a v.b v.flags, part_within_buffer a.buffer.now v.a v.b)
-
-pub cap-requires : goal.cap-requires
-cap-requires c = search rules
+    let long = c.in_ok-value_len.ensures.1 ∙ value_is a.buffer.now a.pair (search rules) c.in_ok-check_string.ensures c.in_ok-value_len.ensures.0 in
+    omega (arith, long, c.cap-key_len.ensures, capped_most a.most (c.varint_len.result + a.pair.len), c.well_formed, c.ranges, value_bound a.buffer.now v.kind v.a v.b v.flags, part_within_buffer a.buffer.now v.a v.b)
 
 pub returns : goal.returns
 returns c =
     let a = c.args in
     let bytes = value_bytes a.buffer.now (record_of a.pair.value) in
-    record {
-      number = sym c.if-number-ne0.false ∙ number_is ((goal.at.returns c).Else-key-ne0);
-      len = λ z.
-          c.cap.ensures
-          ∙ ap (capped a.most) (ap (λ (m : ℕ). c.cap-key_len.result + m) (value_is ((goal.at.returns c).Else-number-ne0)) ∙ ap (λ (m : ℕ). m + length bytes) c.cap-key_len.ensures)
+    let fields : writable_record (record_of a.pair.value) ≡ true = search rules in
+    let key = c.in_ok-check_string.ensures in
+    let none = c.in_ok-value_len.ensures.0 in (
+      well a.buffer.now a.pair fields key none,
+      c.cap.ensures
+          ∙ ap (capped a.most) (ap (λ (m : ℕ). c.cap-key_len.result + m) (c.in_ok-value_len.ensures.1 ∙ value_is a.buffer.now a.pair fields key none) ∙ ap (λ (m : ℕ). m + length bytes) c.cap-key_len.ensures)
           ∙ capped_left a.most (c.varint_len.result + a.pair.len) (length bytes)
           ∙ ap (λ (m : ℕ). capped a.most (m + a.pair.len + length bytes)) c.varint_len.ensures
-          ∙ ap (capped a.most) (sym (pair_long (formed ((goal.at.returns c).Else-number-ne0))));
-    }
+          ∙ ap (capped a.most) (sym (pair_long (formed a.buffer.now a.pair fields key none))),
+    )

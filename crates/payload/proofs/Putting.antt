@@ -1,0 +1,26 @@
+-- What a record leaves that is put into a table, at a place of the table.
+use mathlib.Core.Path.{◌≡◌, sym, ap, ◌∙◌}
+use mathlib.Core.List.{List, ◌++◌, append-nil}
+use Prim.Native.Nat.{ℕ, ◌+◌, ◌-◌, ◌≤◌}
+use native.Mathlib.Omega.{arith}
+use lib.ListN.{length, take, drop, length-drop, drop_of_length-le}
+use borrow.Rule.Slice.PartMut.{put_mid}
+use Rattle.std.specs.Prelude.{Result}
+use Rattle.answer.specs.declared.Refusal.{Refusal}
+use Rattle.answer.specs.Answer.{written, leaves}
+use Rattle.answer.specs.Writes.{Writes}
+use Rattle.answer.proofs.Output.{lent_tail_lem, writes_room}
+use Rattle.payload.specs.Inner.{put_at}
+
+-- The record's own numbers, as `From` gives them, and what `frame::put` says of them, which was lent the tail from there and has room.
+pub record_put : (n : ℕ) (own table : List ℕ) {numbers tail : List ℕ} {r : Result ℕ Refusal} → n + length own ≤ length table → numbers ≡ own
+    → Writes (written numbers) r (take (length table - n) (drop n table)) tail → put_mid n (length table - n) table tail ≡ put_at n own table
+record_put n own table {numbers} {tail} room is w =
+    ap (λ (l : List ℕ). take n table ++ (tail ++ l)) (drop_of_length-le (drop n table) {i = length table - n} (omega (arith, length-drop n table)))
+    ∙ ap (λ (l : List ℕ). take n table ++ l) (append-nil tail ∙ put ∙ ap (leaves (written own)) (lent_tail_lem n table))
+  where
+    long : length (take (length table - n) (drop n table)) ≡ length table - n
+    long = rw (lent_tail_lem n table) (length-drop n table)
+
+    put : tail ≡ leaves (written own) (take (length table - n) (drop n table))
+    put = rw (sym is) (writes_room numbers w (omega (arith, long, room, ap length is)))
