@@ -14,6 +14,6 @@ number_of_type type.AgentHello = 101
 number_of_type type.AgentDisconnect = 102
 number_of_type type.Ack = 103
 
--- the type that has a number, or that none has it
+-- the type that has a number, or the number, which none has
 abbrev pub Numbered : ℕ → Result FrameType UnknownType → Type 0
-Numbered n r = MatchResult r (λ t. number_of_type t ≡ n) (λ e. some (eqb n) frame_types ≡ false)
+Numbered n r = MatchResult r (λ t. number_of_type t ≡ n) (λ e. (e.0 ≡ n) × (some (eqb n) frame_types ≡ false))

@@ -1,4 +1,5 @@
--- What a type of record has to prove of itself for `record_at`, and the proofs of the three. No promise rests on anything in this file.
+-- What a type of record has to prove of itself for `record_at`, and the proofs of the three. Members `laws` alone rest on this file; they are
+-- proved, so nobody has to believe it.
 use Rattle.std.specs.Prelude.{◌≡◌, List, [], ◌∷◌, ℕ, zero, suc, ◌+◌, ◌*◌, ◌^◌, ◌≤◌, ◌<◌, length, take, drop, refl}
 use Rattle.std.proofs.Common.{ap, sym, ◌∙◌, arith}
 use lib.ListN.{get_or}

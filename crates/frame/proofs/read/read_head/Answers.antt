@@ -92,7 +92,7 @@ returns-in_default-try_from c =
     let s = c.args.frame.now in
     let byte = found s 4 c.in-Some.ensures.lookup.3 refl in
     ap refusal_said c.at-in_default-try_from.ensures
-    ∙ sym (head_type (sender c.args.side) s byte.here (rw ((sides c.args.side).0, ← byte.is 0) c.in_default-try_from.ensures))
+    ∙ sym (head_type (sender c.args.side) s byte.here (rw ((sides c.args.side).0, ← byte.is 0) c.in_default-try_from.ensures.1))
 
 pub returns-then-frame-lt9 : goal.returns-then-frame-lt9
 returns-then-frame-lt9 c =
