@@ -5,7 +5,7 @@ use mathlib.Core.List.{List}
 use Prim.Native.Nat.{ℕ, ◌-◌}
 use lib.ListN.{length, take, drop, length-drop}
 use native.Mathlib.Omega.{arith}
-use Rattle.std.specs.Prelude.{◌+◌, ◌^◌, ◌<◌, ◌≤◌, min, Result, Ok, Err}
+use Rattle.std.specs.Prelude.{◌+◌, ◌^◌, ◌<◌, ◌≤◌, min, Result, Ok, Err, MatchResult}
 use Rattle.answer.specs.declared.Read.{Read}
 use Rattle.answer.specs.declared.Refusal.{Refusal}
 use Rattle.answer.specs.Reason.{number_of}
@@ -66,6 +66,11 @@ behind_refused n (Err q) {y} e h =
     let u : y.place ≡ min (n + q.place) (2 ^ 64 - 1) = cc in
     (q.place, ap (λ k. refused (number_of k) q.place) (sym v), omega (arith, u))
 
+-- So no count of 64 bits is passed where what was read is told from the front of the whole.
+pub sum_fits : {A : Type 0} (n : ℕ) (r : Result (Read A) Refusal) → n + ends (read_said r) < 2 ^ 64 → MatchResult r (λ x. n + x.used < 2 ^ 64) (λ y. n + y.place < 2 ^ 64)
+sum_fits n (Ok x) h = h
+sum_fits n (Err y) h = h
+
 -- The same of a reader that was lent the bytes from a place on, whatever is made of what it read.
 module _ {A B : Type 0} (told : Result (Read A) Refusal → Answer B) (f : A → B) (same : (r : Result (Read A) Refusal) → told r ≡ next (read_said r) (λ x used. done (f x) used))
     (reader : List ℕ → Answer B) (within : (t : List ℕ) → ends (reader t) ≤ length t)
@@ -77,6 +82,9 @@ module _ {A B : Type 0} (told : Result (Read A) Refusal → Answer B) (f : A →
 
   bound : at + ends (read_said r) < 2 ^ 64
   bound = omega (arith, lent_ends reader within s at says here, same_ends r)
+
+  pub at_fits : MatchResult r (λ x. at + x.used < 2 ^ 64) (λ y. at + y.place < 2 ^ 64)
+  at_fits = sum_fits at r bound
 
   pub at_done : {x : Read A} → Ok x ≡ read_behind at r → (used : ℕ) × (reader (drop at s) ≡ done (f x.value) used) × (x.used ≡ at + used) × (x.used ≤ length s)
   at_done {x} e =

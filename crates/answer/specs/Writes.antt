@@ -30,6 +30,6 @@ pub record Writes (a : Answer (List ℕ)) (r : Result ℕ Refusal) (old new : Li
   pub holds : new ≡ leaves (within (length old) a) old
 
 -- how many bytes were written: none after a refusal
-abbrev pub counted : Result ℕ Refusal → ℕ
+abbrev pub counted : {E : Type 0} → Result ℕ E → ℕ
 counted (Ok n) = n
 counted (Err r) = 0

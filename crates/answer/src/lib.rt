@@ -7,7 +7,10 @@
 ghost use Rattle.answer.specs.Writes.{read_behind, counted};
 ghost use Rattle.std.specs.Prelude.{◌≡◌};
 
-// Why a call refuses, each under its number. 1 is no refusal: it says at the calls of C that a frame is not whole yet.
+// What calls that answer a number say of a frame that is not whole yet. It is no refusal.
+pub const WAIT: u64 = 1;
+
+// Why a call refuses, each under its number.
 #[derive(Clone, Copy, Debug, PartialEq, Eq)]
 pub enum Reason {
     // A frame declares more than the limit.
@@ -97,8 +100,8 @@ pub fn behind<T>(read: Result<Read<T>, Refusal>, n: usize) -> Result<Read<T>, Re
     }
 }
 
-// How many bytes a writer wrote: none after a refusal.
-pub fn wrote(answer: Result<usize, Refusal>) -> usize
+// How many bytes a writer wrote: none after a refusal, whatever that is.
+pub fn wrote<E: Drop>(answer: Result<usize, E>) -> usize
     ensures { result ≡ counted answer }
 {
     answer.unwrap_or(0)

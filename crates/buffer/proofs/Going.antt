@@ -21,6 +21,8 @@ use Rattle.payload.proofs.Kept.{Within}
 use Rattle.payload.proofs.Accepted.{payload_fit}
 use Rattle.std.specs.Prelude.{Result, Ok, Err}
 use Rattle.answer.specs.declared.Read.{Read}
+use Rattle.answer.specs.declared.Refusal.{Refusal}
+use Rattle.answer.specs.Reason.{number_of}
 use Rattle.frame.specs.declared.Stop.{Stop}
 use Rattle.frame.specs.declared.Stop.TheVariants as stop
 use Rattle.frame.specs.Promise.{stop_said}
@@ -135,6 +137,9 @@ module _ (s : List ℕ) (limit : ℕ) (old_rows old_messages old_pairs : List �
 
   module _ {x : Totals} {rows messages pairs : List ℕ} (g : Going x rows messages pairs) where
     -- what stands there is within the tables, which are as long as they were
+    pub long_rows : length rows ≡ length old_rows
+    long_rows = filled_length g.in_rows
+
     pub long_messages : length messages ≡ length old_messages
     long_messages = filled_length g.in_messages_lem
 
@@ -146,6 +151,9 @@ module _ (s : List ℕ) (limit : ℕ) (old_rows old_messages old_pairs : List �
 
     pub in_table_pairs : x.pairs * pair_width ≤ length pairs
     in_table_pairs = omega (arith, g.many_pairs_lem, g.in_pairs.room, long_pairs)
+
+    pub row_room : x.frames < room → x.frames * row_width + row_width ≤ length rows
+    row_room h = omega (arith, h, long_rows)
 
     -- it ends where what is left is nothing
     pub going_end : (why : Stop) → left x ≡ stopped x (stop_said why) → ReadFrames s limit (record { totals = x; stop = why }) old_rows rows old_messages messages old_pairs pairs
@@ -202,6 +210,10 @@ module _ (s : List ℕ) (limit : ℕ) (old_rows old_messages old_pairs : List �
             (reads.fills.pairs ∙ ap (λ (a : Answer Contents). table_left pair_numbers (λ c. c.pairs) a (lent_tail from_pairs pairs)) is),
       )
 
+      pub back_lengths : (n p : ℕ) → contents_read (frame_behind limit rooms s x) ≡ refused n p
+          → (length (back_in from_messages messages tail_messages) ≡ length old_messages) × (length (back_in from_pairs pairs tail_pairs) ≡ length old_pairs)
+      back_lengths n p is = let o = unfilled n p is in (ap length o.0 ∙ long_messages, ap length o.1 ∙ long_pairs)
+
       -- what stops it there
       module _ (e : Stop) (is : r ≡ Err e) where
         stops : frame_behind limit rooms s x ≡ stop_said e
@@ -217,6 +229,21 @@ module _ (s : List ℕ) (limit : ℕ) (old_rows old_messages old_pairs : List �
 
         pub going_stops : ReadFrames s limit (record { totals = x; stop = e }) old_rows rows old_messages (back_in from_messages messages tail_messages) old_pairs (back_in from_pairs pairs tail_pairs)
         going_stops = rw (as_it_was.0, as_it_was.1) (going_end e (from_stop limit rooms s (room - x.frames) x e stops))
+
+      -- a frame that is not whole, and one that is refused: both tables are as long as they were, and what was read is told
+      module _ (missing : ℕ) (is : r ≡ Err (stop.Wait missing)) where
+        pub wait_lengths : (length (back_in from_messages messages tail_messages) ≡ length old_messages) × (length (back_in from_pairs pairs tail_pairs) ≡ length old_pairs)
+        wait_lengths = back_lengths 1 missing (ap contents_read (stops (stop.Wait missing) is))
+
+        pub going_wait : ReadFrames s limit (record { totals = x; stop = stop.Wait missing }) old_rows rows old_messages (back_in from_messages messages tail_messages) old_pairs (back_in from_pairs pairs tail_pairs)
+        going_wait = going_stops (stop.Wait missing) is
+
+      module _ (q : Refusal) (is : r ≡ Err (stop.Refused q)) where
+        pub refused_lengths : (length (back_in from_messages messages tail_messages) ≡ length old_messages) × (length (back_in from_pairs pairs tail_pairs) ≡ length old_pairs)
+        refused_lengths = back_lengths (number_of q.reason) q.place (ap contents_read (stops (stop.Refused q) is))
+
+        pub going_refused : ReadFrames s limit (record { totals = x; stop = stop.Refused q }) old_rows rows old_messages (back_in from_messages messages tail_messages) old_pairs (back_in from_pairs pairs tail_pairs)
+        going_refused = going_stops (stop.Refused q) is
 
       -- an accepted frame is one more
       module _ (y : Read Frame) (is : r ≡ Ok y) where

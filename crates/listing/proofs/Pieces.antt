@@ -1,4 +1,4 @@
--- Laws about lines: a value's text by its kind, and the checks before a line.
+-- Laws about lines: a value's text by its kind, the words of a line, and the checks before it.
 use mathlib.Core.Path.{◌≡◌, sym, ap, ◌∙◌}
 use Rattle.std.specs.Prelude.{Err}
 use Rattle.answer.specs.declared.Reason.{Reason}
@@ -17,7 +17,7 @@ use Rattle.answer.proofs.Order.{lines_refuse}
 use Rattle.types.specs.Value.{value}
 use Rattle.types.specs.Form.{part}
 use Rattle.types.proofs.Shapes.{points_no, points_yes}
-use Rattle.listing.specs.Digits.{dash, decimal, shown}
+use Rattle.listing.specs.Digits.{letters, dash, decimal, shown}
 use Rattle.listing.specs.Lines.{value_text}
 
 -- ---- a value's text
@@ -35,6 +35,24 @@ module _ (f : List ℕ) (kind a b flags : ℕ) where
   unfolding value_text
   text_bytes l h =
       rw (ne_eqb kind 0 (λ e. omega arith), ne_eqb kind 2 (λ e. omega arith), ne_eqb kind 4 (λ e. omega arith), points_yes kind l h)
+
+-- ---- the words of a line
+
+-- what stands in front of a name, and behind that of a message
+abbrev pub message_front : List ℕ
+message_front = letters "message # name "
+
+abbrev pub message_back : List ℕ
+message_back = letters " args #\n"
+
+abbrev pub pair_front : List ℕ
+pair_front = letters "pair # key "
+
+abbrev pub set_front_lem : List ℕ
+set_front_lem = letters "action # set scope # name "
+
+abbrev pub unset_front : List ℕ
+unset_front = letters "action # unset scope # name "
 
 -- ---- checks before a line
 

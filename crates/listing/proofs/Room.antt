@@ -2,7 +2,7 @@
 use mathlib.Core.Path.{◌≡◌, ap}
 use mathlib.Core.Bool.{true, ◌||◌}
 use mathlib.Core.Logic.{◌⊎◌, inl, inr, ⊎_elim}
-use mathlib.Core.List.{List}
+use mathlib.Core.List.{List, [], ◌∷◌}
 use Prim.Native.Nat.{ℕ, ◌+◌, ◌*◌, ◌^◌, ◌≤◌, ◌<◌}
 use native.Mathlib.Omega.{arith}
 use lib.Dec.{eqb}
@@ -28,12 +28,34 @@ use Rattle.listing.specs.Digits.{decimal, shown}
 use Rattle.listing.specs.Lines.{filled, value_text, message_line, pair_line, action_line}
 use Rattle.listing.proofs.Decimal.{decimal_most}
 use Rattle.listing.proofs.Text.{signed_most, hex_length, shown_none, shown_some}
-use Rattle.listing.proofs.Pieces.{text_null, text_number, text_bytes}
+use Rattle.listing.proofs.Pieces.{text_null, text_number, text_bytes, message_front, message_back, pair_front, set_front_lem, unset_front}
 use Rattle.listing.proofs.Accepted.{Named, Whole, whole_held}
 use Rattle.listing.proofs.Distinct.{below}
 
 -- ---- words and texts
 
+-- what stands in front of a text, and behind a message's name, with its numbers
+message_front_lem : (t : List ℕ) → length (filled message_front (t ∷ [])) ≡ 14 + length t
+unfolding filled
+message_front_lem t = simp length-append (omega arith)
+
+message_back_lem : (t : List ℕ) → length (filled message_back (t ∷ [])) ≡ 7 + length t
+unfolding filled
+message_back_lem t = simp length-append (omega arith)
+
+pair_front_lem : (t : List ℕ) → length (filled pair_front (t ∷ [])) ≡ 10 + length t
+unfolding filled
+pair_front_lem t = simp length-append (omega arith)
+
+set_front : (t u : List ℕ) → length (filled set_front_lem (t ∷ u ∷ [])) ≡ 24 + length t + length u
+unfolding filled
+set_front t u = simp length-append (omega arith)
+
+unset_front_lem : (t u : List ℕ) → length (filled unset_front (t ∷ u ∷ [])) ≡ 26 + length t + length u
+unfolding filled
+unset_front_lem t u = simp length-append (omega arith)
+
+-- and whole lines
 message_words : (i : ℕ) (f : List ℕ) (m : Message)
     → length (message_line i f m) ≡ 21 + length (decimal i) + length (shown (part f m.start m.len)) + length (decimal m.count)
 unfolding message_line filled

@@ -92,6 +92,13 @@ Roomy rooms x (i.Pair p end) = x.pairs < rooms.pairs
 Roomy rooms x (i.Message m end) = x.messages < rooms.messages
 Roomy rooms x (i.Action a end) = x.actions < rooms.actions
 
+-- that it goes on is no end, and no refusal
+pub on_end : {G : Type 0} {y : Cursor} → one y ≡ no_more → G
+on_end e = absurd (cc e)
+
+pub on_refused : {G : Type 0} {y : Cursor} {n place : ℕ} → one y ≡ refused n place → G
+on_refused e = not_both refl e
+
 module _ (rooms : Counts) (s : List ℕ) (x : Cursor) (c : Contents) where
   -- Of a record that comes next the tests are passed, where there is room, or it is refused.
   pub by_tests : {G : Type 0} (item : Item)

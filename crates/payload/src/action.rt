@@ -4,7 +4,7 @@ ghost use Rattle.answer.specs.Writes.{read_said};
 ghost use Rattle.payload.specs.Action.{argument_count, action as action_of, action_from};
 ghost use Rattle.payload.specs.Inner.{action_behind, Headed};
 
-use crate::pair::{moved_pair, read_pair};
+use crate::pair::{behind, moved_pair, read_pair};
 use answer::{Read, Reason, Refusal};
 use frame::{Action, Pair, SET_VAR, UNSET_VAR};
 use types::Value;
@@ -30,7 +30,7 @@ fn read_set(input: &[u8], scope: u64) -> Result<Read<Action>, Refusal>
     requires { Headed input.now 1 scope }
     ensures { action_behind result ≡ action_of input.now }
 {
-    let Read { value: pair, used } = answer::behind(read_pair(&input[3..]), 3)?;
+    let Read { value: pair, used } = behind(read_pair(&input[3..]), 3)?;
     Ok(Read {
         value: Action {
             verb: SET_VAR,
@@ -46,7 +46,7 @@ fn read_unset(input: &[u8], scope: u64) -> Result<Read<Action>, Refusal>
     requires { Headed input.now 2 scope }
     ensures { action_behind result ≡ action_of input.now }
 {
-    let Read { value: name, used } = answer::behind(types::read_string(&input[3..]), 3)?;
+    let Read { value: name, used } = behind(types::read_string(&input[3..]), 3)?;
     Ok(Read {
         value: Action {
             verb: UNSET_VAR,
@@ -100,7 +100,7 @@ pub(crate) fn action_at(input: &[u8], at: usize) -> Result<Read<Action>, Refusal
     let Read {
         value: action,
         used,
-    } = answer::behind(read_action(&input[at..]), at)?;
+    } = behind(read_action(&input[at..]), at)?;
     Ok(Read {
         value: Action {
             verb: action.verb,

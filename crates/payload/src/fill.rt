@@ -1,5 +1,6 @@
 // The second pass over a payload that is accepted: it fills the tables, and asks nothing again.
 ghost use Rattle.std.specs.Prelude.{◌≡◌, true, false, ◌≤◌, length};
+ghost use Rattle.answer.specs.Answer.{written, leaves};
 ghost use Rattle.payload.specs.Promise.{rooms_of};
 ghost use Rattle.payload.specs.Inner.{Low, Fits, Stores, Accepted, Leaves};
 
@@ -7,6 +8,16 @@ use crate::look::{after, begin};
 use crate::next::item;
 use crate::{Cursor, Item, Payload};
 use frame::{ACTION_WIDTH, MESSAGE_WIDTH, PAIR_WIDTH};
+
+// Puts the numbers of a record to the front of a table that has room for it, which `frame::put` would test.
+fn put(numbers: &[u64], table: &mut [u64])
+    requires { length numbers.now ≤ length table.old }
+    ensures { table.new ≡ leaves (written numbers.now) table.old }
+{
+    for (i, number) in numbers.iter().enumerate() {
+        table[i] = *number;
+    }
+}
 
 // Writes the numbers of what comes next behind those of the records that were met.
 pub(crate) fn store(
@@ -22,18 +33,18 @@ pub(crate) fn store(
     match item {
         Item::Pair { pair, end: _ } => {
             let from = x.pairs * PAIR_WIDTH;
-            let _ = frame::put(&<[u64; PAIR_WIDTH]>::from(pair), &mut pairs[from..]);
+            put(&<[u64; PAIR_WIDTH]>::from(pair), &mut pairs[from..]);
         },
         Item::Message { message, end: _ } => {
             let from = x.messages * MESSAGE_WIDTH;
-            let _ = frame::put(
+            put(
                 &<[u64; MESSAGE_WIDTH]>::from(message),
                 &mut messages[from..],
             );
         },
         Item::Action { action, end: _ } => {
             let from = x.actions * ACTION_WIDTH;
-            let _ = frame::put(&<[u64; ACTION_WIDTH]>::from(action), &mut actions[from..]);
+            put(&<[u64; ACTION_WIDTH]>::from(action), &mut actions[from..]);
         },
     }
 }

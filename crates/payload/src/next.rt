@@ -8,7 +8,7 @@ ghost use Rattle.payload.specs.Item.{next_said, item_of};
 ghost use Rattle.payload.specs.Promise.{NextItem};
 
 use crate::action::action_at;
-use crate::pair::pair_at;
+use crate::pair::{behind, pair_at};
 use crate::{Cursor, Item, Payload};
 use answer::{Read, Reason, Refusal};
 use frame::Message;
@@ -33,7 +33,7 @@ fn message_item(input: &[u8], at: usize, first: usize) -> Result<Option<Item>, R
     let Read {
         value: name,
         used: end,
-    } = answer::behind(types::read_string(&input[at..]), at)?;
+    } = behind(types::read_string(&input[at..]), at)?;
     let Some(&count) = input.get(end) else {
         return Err(Reason::TooSoon.at(end));
     };

@@ -1,6 +1,6 @@
 // A pair, read from the front of some bytes, or at a place of them.
-ghost use Rattle.std.specs.Prelude.{◌≡◌, ◌+◌, ◌≤◌, ◌<◌, ◌^◌, length};
-ghost use Rattle.answer.specs.Writes.{read_said};
+ghost use Rattle.std.specs.Prelude.{◌≡◌, ◌+◌, ◌≤◌, ◌<◌, ◌^◌, length, MatchResult};
+ghost use Rattle.answer.specs.Writes.{read_said, read_behind};
 ghost use Rattle.types.specs.Value.{moved as moved_record};
 ghost use Rattle.types.specs.Promise.{record_of};
 ghost use Rattle.payload.specs.Pair.{moved_pair, pair_from};
@@ -10,12 +10,27 @@ use answer::{Read, Reason, Refusal};
 use frame::Pair;
 use types::Value;
 
+// What was read behind `n` other bytes, told from the front of all. What was read lies in a slice, so the sums fit; `answer::behind` takes any
+// numbers, and tests that.
+pub(crate) fn behind<T>(read: Result<Read<T>, Refusal>, n: usize) -> Result<Read<T>, Refusal>
+    requires { MatchResult read (λ x. n + x.used < 2 ^ 64) (λ r. n + r.place < 2 ^ 64) }
+    ensures { result ≡ read_behind n read }
+{
+    match read {
+        Ok(Read { value, used }) => Ok(Read {
+            value,
+            used: n + used,
+        }),
+        Err(Refusal { reason, place }) => Err(reason.at(n + place)),
+    }
+}
+
 // Reads the pair at the front of `input`: its key, and its value behind that. Starts count from the input's first byte.
 pub fn read_pair(input: &[u8]) -> Result<Read<Pair>, Refusal>
     ensures { ReadPair input.now result }
 {
     let Read { value: key, used } = types::read_string(input)?;
-    let value = answer::behind(types::typed_data(&input[used..]), used)?;
+    let value = behind(types::typed_data(&input[used..]), used)?;
     Ok(Read {
         value: Pair {
             start: key.start as u64,
@@ -61,7 +76,7 @@ pub(crate) fn pair_at(input: &[u8], at: usize) -> Result<Read<Pair>, Refusal>
     requires { at ≤ length input.now }
     ensures { read_said result ≡ pair_from at input.now }
 {
-    let Read { value: pair, used } = answer::behind(read_pair(&input[at..]), at)?;
+    let Read { value: pair, used } = behind(read_pair(&input[at..]), at)?;
     Ok(Read {
         value: moved_pair(pair, at as u64),
         used,

@@ -16,7 +16,7 @@ use Rattle.answer.specs.declared.Reason.TheVariants as reason
 use Rattle.answer.specs.declared.Refusal.{Refusal}
 use Rattle.answer.specs.Answer.{Answer, done, refused, written, leaves}
 use Rattle.answer.proofs.Cases.{lt_or_le}
-use Rattle.answer.proofs.Output.{writes_done}
+use Rattle.answer.proofs.Output.{writes_done, leaves_length}
 use Rattle.answer.proofs.Parts.{room_refused, room_leaves}
 use Rattle.utf8.specs.Text.{lossy, same_bytes}
 use Rattle.utf8.proofs.Same.{same_refl, same_iff, same_next, same_stop, same_length}
@@ -49,6 +49,9 @@ module _ (s : List ℕ) {old new : List ℕ} {r : Result ℕ Refusal} (p : Write
     kept = simp (lt-leb (length (lossy s)) (length old) short) at p.holds
 
 module _ {s old new : List ℕ} {n : ℕ} (p : Stands s old new n) where
+  pub text_inside : n ≤ length new
+  text_inside = omega (arith, p.fits, p.count, ap length p.holds, leaves_length (lossy s) old p.fits)
+
   -- its bytes are those of the text, all of them and each
   text_whole : take n new ≡ lossy s
   text_whole = ap (take n) p.holds ∙ take_at (lossy s) (drop (length (lossy s)) old) n (sym p.count)

@@ -25,5 +25,13 @@ pub fn same_text_plain(
     let b_len = utf8::lossy_text(b, b_text)?;
     // It was measured, so it is not refused.
     let a_len = utf8::lossy_text(a, a_text)?;
-    Ok(a_text[..a_len] == b_text[..b_len])
+    if a_len != b_len {
+        return Ok(false);
+    }
+    for i in 0..a_len {
+        if a_text[i] != b_text[i] {
+            return Ok(false);
+        }
+    }
+    Ok(true)
 }

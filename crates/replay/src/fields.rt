@@ -1,34 +1,22 @@
 // The fields of a line: numbers as hex digits, byte strings as hex pairs, an empty one as `-`, with one space or comma between.
+ghost use Rattle.std.specs.Prelude.{◌≡◌, ◌+◌, ◌<◌, ◌≤◌, IfOk, IfSome, length};
+
 use crate::verdict::Expected;
-use std::alloc::{AllocError, AllocFailed, Global};
 use std::num::TryFromIntError;
 use std::str::Split;
 
 // How many numbers a line has at most, and how many bytes its byte strings have together.
-const NUMBERS: usize = 64;
+pub(crate) const NUMBERS: usize = 64;
 
-const BYTES: usize = 512;
+pub(crate) const BYTES: usize = 512;
 
 // How many digits a number has at most.
 const DIGITS: usize = 16;
 
 // Why a line has no verdict.
-#[derive(Debug, Drop)]
+#[derive(Clone, Copy, Debug)]
 pub(crate) enum LineError {
     Unread,
-    OutOfMemory(AllocError),
-}
-
-impl From<AllocError> for LineError {
-    fn from(error: AllocError) -> LineError {
-        LineError::OutOfMemory(error)
-    }
-}
-
-impl<T: Drop> From<AllocFailed<T>> for LineError {
-    fn from(error: AllocFailed<T>) -> LineError {
-        LineError::OutOfMemory(AllocError::from(error))
-    }
 }
 
 impl From<TryFromIntError> for LineError {
@@ -40,16 +28,14 @@ impl From<TryFromIntError> for LineError {
 // The fields that are left, and how many numbers and bytes they may have.
 #[derive(Drop)]
 pub(crate) struct Fields<'a> {
-    alloc: Global,
     words: Split<'a, [char; 2]>,
     numbers: usize,
     bytes: usize,
 }
 
 impl<'a> Fields<'a> {
-    pub(crate) fn new(alloc: Global, text: &'a str) -> Fields<'a> {
+    pub(crate) fn new(text: &'a str) -> Fields<'a> {
         Fields {
-            alloc,
             words: text.split([' ', ',']),
             numbers: NUMBERS,
             bytes: BYTES,
@@ -62,7 +48,9 @@ impl<'a> Fields<'a> {
     }
 
     // The next field as a number, where one is left.
-    pub(crate) fn number_if_any(&mut self) -> Result<Option<u64>, LineError> {
+    pub(crate) fn number_if_any(&mut self) -> Result<Option<u64>, LineError>
+        ensures { IfOk result (λ n. IfSome n (λ _. self.new.numbers + 1 ≡ self.old.numbers)) }
+    {
         let Some(word) = self.words.next() else {
             return Ok(None);
         };
@@ -96,48 +84,55 @@ impl<'a> Fields<'a> {
         })
     }
 
-    // The numbers of so many records.
-    pub(crate) fn records(&mut self, count: u64, width: usize) -> Result<Vec<u64>, LineError> {
-        let mut numbers = Vec::new(self.alloc);
-        for _ in 0..count {
-            for _ in 0..width {
-                numbers.push(self.number()?)?;
-            }
+    // The numbers of so many records, in `room`.
+    pub(crate) fn records<'b>(
+        &mut self,
+        count: u64,
+        width: usize,
+        room: &'b mut [u64; NUMBERS],
+    ) -> Result<&'b [u64], LineError>
+        ensures { IfOk result (λ numbers. length numbers.now ≤ 64) }
+    {
+        let len = usize::try_from(count)?
+            .checked_mul(width)
+            .ok_or(LineError::Unread)?;
+        let numbers = room.get_mut(..len).ok_or(LineError::Unread)?;
+        for number in &mut *numbers {
+            *number = self.number()?;
         }
         Ok(numbers)
     }
 
-    // All fields that are left, as numbers.
-    pub(crate) fn rest(self) -> Result<Vec<u64>, LineError> {
-        let Fields {
-            alloc,
-            words,
-            numbers,
-            bytes: _,
-        } = self;
-        let rest: Vec<u64> = words.map(number_of).try_collect(alloc)?;
-        if numbers < rest.len() {
-            return Err(LineError::Unread);
+    // All fields that are left, as numbers, in `room`.
+    pub(crate) fn rest<'b>(self, room: &'b mut [u64; NUMBERS]) -> Result<&'b [u64], LineError>
+        ensures { IfOk result (λ numbers. length numbers.now ≤ self.entry.numbers) }
+    {
+        let mut count = 0;
+        for word in self.words {
+            if self.numbers <= count || room.len() <= count {
+                return Err(LineError::Unread);
+            }
+            room[count] = number_of(word)?;
+            count += 1;
         }
-        Ok(rest)
+        Ok(&room[..count])
     }
 
-    // The next field as a byte string.
-    pub(crate) fn bytes(&mut self) -> Result<Vec<u8>, LineError> {
-        let word = self.words.next().ok_or(LineError::Unread)?;
-        let bytes: Vec<u8> = match word {
+    // The next field as a byte string, in `room`.
+    pub(crate) fn bytes<'b>(&mut self, room: &'b mut [u8; BYTES]) -> Result<&'b [u8], LineError>
+        ensures { IfOk result (λ bytes. self.new.bytes + length bytes.now ≡ self.old.bytes) }
+    {
+        let digits = match self.words.next().ok_or(LineError::Unread)? {
             "" => return Err(LineError::Unread),
-            "-" => Vec::new(self.alloc),
-            _ => word
-                .as_bytes()
-                .chunks(2)
-                .map(byte_of)
-                .try_collect(self.alloc)?,
+            "-" => "",
+            word => word,
         };
-        self.bytes = self
-            .bytes
-            .checked_sub(bytes.len())
-            .ok_or(LineError::Unread)?;
+        let len = digits.len().div_ceil(2);
+        self.bytes = self.bytes.checked_sub(len).ok_or(LineError::Unread)?;
+        let bytes = room.get_mut(..len).ok_or(LineError::Unread)?;
+        for (byte, pair) in bytes.iter_mut().zip(digits.as_bytes().chunks(2)) {
+            *byte = byte_of(pair)?;
+        }
         Ok(bytes)
     }
 
@@ -169,7 +164,9 @@ fn byte_of(pair: &[u8]) -> Result<u8, LineError> {
 }
 
 // The value of a hex digit, which is in lower case.
-fn digit(b: u8) -> Option<u8> {
+fn digit(b: u8) -> Option<u8>
+    ensures { IfSome result (λ d. d < 16) }
+{
     match b {
         b'0'..=b'9' => Some(b - b'0'),
         b'a'..=b'f' => Some(b - b'a' + 10),

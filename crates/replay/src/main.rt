@@ -11,8 +11,9 @@ mod frames;
 mod parts;
 mod verdict;
 
+ghost use Rattle.std.specs.Prelude.{◌≤◌, IfOk, length};
+
 use fields::{Fields, LineError};
-use std::alloc::{AllocError, Global};
 use std::fs::File;
 use std::io;
 use std::io::Read;
@@ -20,7 +21,7 @@ use std::rt::Files;
 use verdict::{Counts, Verdict};
 
 // How many bytes of a list are read at most.
-const TEXT: u64 = 65_536;
+const TEXT: usize = 65_536;
 
 fn main(rt: HostRuntime) -> io::Result<()> {
     for name in [
@@ -35,26 +36,39 @@ fn main(rt: HostRuntime) -> io::Result<()> {
     Ok(())
 }
 
-fn replay(rt: &(impl Files + Print + AllocGlobal), name: &str) -> io::Result<()> {
-    let Ok(file) = File::open(rt, name) else {
+fn replay(rt: &(impl Files + Print), name: &str) -> io::Result<()> {
+    let Ok(mut file) = File::open(rt, name) else {
         return println!(rt; "{name} cannot be opened");
     };
-    let mut bytes = Vec::new(rt.alloc());
-    file.take(TEXT).read_to_end(&mut bytes)?;
-    // What is not UTF-8 is U+FFFD from here on, which no field has.
-    let text = String::from_utf8_lossy(rt.alloc(), &bytes)?;
-    let counts = lines(rt, &text)?;
+    let mut text = [0; TEXT];
+    let n = read_full(&mut file, &mut text)?;
+    let counts = lines(rt, &text[..n])?;
     println!(rt; "{name}: {counts}")
 }
 
+// Reads until the buffer is full or the file ends; how many bytes the buffer has then.
+fn read_full(file: &mut impl Read, buffer: &mut [u8]) -> io::Result<usize>
+    ensures { IfOk result (λ n. n ≤ length buffer.new) }
+{
+    let mut n = 0;
+    while n < buffer.len() {
+        let more = file.read(&mut buffer[n..])?;
+        if more == 0 {
+            return Ok(n);
+        }
+        n += more;
+    }
+    Ok(n)
+}
+
 // Judges each line but comments, and says which do not agree.
-fn lines(rt: &(impl Print + AllocGlobal), text: &str) -> io::Result<Counts> {
+fn lines(rt: &impl Print, text: &[u8]) -> io::Result<Counts> {
     let mut counts = Counts::default();
-    for (number, line) in (1u64..).zip(text.split_terminator('\n')) {
-        if line.starts_with('#') {
+    for (number, line) in (1u64..).zip(text.split_inclusive(|&b| b == b'\n')) {
+        if line.starts_with(b"#") {
             continue;
         }
-        let verdict = judge(rt.alloc(), line)?;
+        let verdict = judge(line.strip_suffix(b"\n").unwrap_or(line));
         counts.add(verdict);
         if verdict != Verdict::Agrees {
             println!(rt; "line {number} {verdict}")?;
@@ -63,19 +77,19 @@ fn lines(rt: &(impl Print + AllocGlobal), text: &str) -> io::Result<Counts> {
     Ok(counts)
 }
 
-fn judge(alloc: Global, line: &str) -> Result<Verdict, AllocError> {
-    match agrees(alloc, line) {
-        Ok(true) => Ok(Verdict::Agrees),
-        Ok(false) => Ok(Verdict::Differs),
-        Err(LineError::Unread) => Ok(Verdict::Unread),
-        Err(LineError::OutOfMemory(error)) => Err(error),
+fn judge(line: &[u8]) -> Verdict {
+    match agrees(line) {
+        Ok(true) => Verdict::Agrees,
+        Ok(false) => Verdict::Differs,
+        Err(LineError::Unread) => Verdict::Unread,
     }
 }
 
-// Whether the port answers what the line has.
-fn agrees(alloc: Global, line: &str) -> Result<bool, LineError> {
+// Whether the port answers what the line has. No field has a byte that is not ASCII.
+fn agrees(line: &[u8]) -> Result<bool, LineError> {
+    let line = str::from_utf8(line).map_err(|_| LineError::Unread)?;
     let (letter, text) = line.split_once(' ').ok_or(LineError::Unread)?;
-    let fields = Fields::new(alloc, text);
+    let fields = Fields::new(text);
     match letter {
         "l" => parts::length_line(fields),
         "e" => parts::encode_line(fields),

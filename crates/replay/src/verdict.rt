@@ -1,5 +1,5 @@
 // What a line turned out to be, and how many lines of each sort there are.
-use answer::Refusal;
+use answer::{Refusal, WAIT};
 use std::fmt;
 
 #[derive(Clone, Copy, PartialEq, Eq)]
@@ -47,9 +47,6 @@ impl fmt::Display for Counts {
         write!(f, "{agree} agree, {differ} differ, {unread} cannot be read")
     }
 }
-
-// What a line has for a call that is to wait.
-const WAIT: u64 = 1;
 
 // What is expected of a call: 0 and a count, 1 and how many bytes are missing, or a refusal's number and its place. It is what a line has,
 // so the answer may be a number that no call gives.

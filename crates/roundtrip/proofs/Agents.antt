@@ -27,7 +27,7 @@ use Rattle.writer.specs.Frame.{head_of, limited, kv_allowed, pairs_bytes, kv_ans
 use Rattle.writer.proofs.Answers.{kv_list, list_metadata}
 use Rattle.roundtrip.proofs.Plain.{plain_pair, well_pair, WellPairs, PlainPairs, plain_action, well_action, WellActions, PlainActions}
 use Rattle.roundtrip.proofs.Head.{head_again}
-use Rattle.roundtrip.proofs.Rewritten.{Rewrites, caller_refused, done_refused, wrote_back, wrote_none, wrote_other, wrote_only}
+use Rattle.roundtrip.proofs.Rewritten.{Rewrites, caller_refused_for, done_refused, wrote_back, wrote_none, wrote_other, wrote_only}
 use Rattle.roundtrip.proofs.Again.{Left, left, long, agent_kv, kv_rewrites, ack_rewrites}
 use Rattle.answer.specs.Writes.{Writes}
 
@@ -92,7 +92,7 @@ module _ (limit : ℕ) (s : List ℕ) (small : Bytes s) (r : Result (Read Frame)
     -- Law: where an id is not 0, it is 14, and no byte is written.
     pub agent_kv_ids : (m.stream ≡ 0 → m.frame ≡ 0 → ⊥) → (out ≡ Err (record { reason = reason.NotWritable; place = 0 })) × (new ≡ old)
     agent_kv_ids ids =
-        caller_refused writes reason.NotWritable 0
+        caller_refused_for writes reason.NotWritable 0
         (kv_list head limit f new_pairs total
         ∙ list_metadata (kv_allowed head) pair_width new_pairs total (kv_checks f new_pairs) (limited limit head (pairs_bytes f new_pairs total)) (may ∙ not_zero))
       where

@@ -17,7 +17,7 @@ use Rattle.parser.proofs.Unique.{frame_done}
 use Rattle.writer.specs.Frame.{head_of, kv_answer, notify_answer}
 use Rattle.roundtrip.proofs.Plain.{plain_pair, well_pair, well_name, WellPairs, WellNames, PlainPairs}
 use Rattle.roundtrip.proofs.Head.{head_again}
-use Rattle.roundtrip.proofs.Rewritten.{Rewrites, caller_refused, done_refused, first_or_all, wrote_back, wrote_none, wrote_other, wrote_only}
+use Rattle.roundtrip.proofs.Rewritten.{Rewrites, caller_refused_for, done_refused, first_or_all, wrote_back, wrote_none, wrote_other, wrote_only}
 use Rattle.roundtrip.proofs.Again.{Left, left, long, haproxy_kv, kv_rewrites, notify_refuses_name, notify_rewrites}
 use Rattle.std.specs.Prelude.{Result, Ok, Err}
 use Rattle.answer.specs.declared.Read.{Read}
@@ -102,7 +102,7 @@ module _ (limit : ℕ) (s : List ℕ) (small : Bytes s) (r : Result (Read Frame)
     pub notify_name : (i : ℕ) → i < rows → well_name f (message_at new_messages i) ≡ false → WellNames f new_messages i
         → (out ≡ Err (record { reason = reason.NotText; place = i })) × (new ≡ old)
     notify_name i b ill ns =
-        caller_refused writes reason.NotText i
+        caller_refused_for writes reason.NotText i
         (rw notify at (notify_refuses_name l notify i b ill ns))
 
     -- Law: so the frame's bytes are written only where all texts are UTF-8 and all values plain.

@@ -23,7 +23,8 @@ use Rattle.answer.specs.Table.{records, joined}
 use Rattle.answer.proofs.Cases.{lt_or_le, bool_cases, true_false, not_both}
 use Rattle.answer.proofs.Order.{Numbered, passes_zero, Refuses, lines_refuse, each_pass, each_refuse}
 use Rattle.answer.proofs.Output.{writes_done}
-use Rattle.answer.proofs.Same.{said_same}
+use Rattle.answer.proofs.Answers.{refused_same}
+use Rattle.answer.proofs.Same.{refusal_same, said_same}
 use Rattle.answer.proofs.Each.{Each, each_record, each_at}
 use Rattle.frame.specs.declared.Head.{Head}
 use Rattle.frame.specs.Head.{four_bytes, head_bytes, frame_bytes}
@@ -126,6 +127,12 @@ module _ {A : Type 0} (limit : ℕ) (f : List ℕ) (h : Head) (start : ℕ) (for
 
 -- ---- what its caller learns
 
+-- an answer that says a refusal is one, of the reason with that number, at that place
+said_refused : (out : Result ℕ Refusal) (number place : ℕ) → said out ≡ refused number place
+    → (r : Refusal) × (out ≡ Err r) × (number_of r.reason ≡ number) × (r.place ≡ place)
+said_refused (Ok n) number place e = not_both {x = done tt n} refl e
+said_refused (Err r) number place e = (r, refl, (refused_same e).0, (refused_same e).1)
+
 -- A call that is to write f, with room for it; one that is refused; and one that is to write another frame.
 module _ {a : Answer (List ℕ)} {out : Result ℕ Refusal} {old new : List ℕ} (p : Writes a out old new) where
   caller_written : (f : List ℕ) (n : ℕ) → length f ≡ n → a ≡ written f → n ≤ length old → (out ≡ Ok n) × (new ≡ f ++ drop n old)
@@ -133,8 +140,15 @@ module _ {a : Answer (List ℕ)} {out : Result ℕ Refusal} {old new : List ℕ}
       let fits = le-leb (length f) (length old) (omega arith) in
       (said_same out (Ok n) (rw (is, fits) at p.says ∙ ap (done tt) long), rw (is, fits) at p.holds ∙ ap (λ (k : ℕ). f ++ drop k old) long)
 
-  pub caller_refused : (why : Reason) (place : ℕ) → a ≡ refused (number_of why) place → (out ≡ Err (record { reason = why; place = place })) × (new ≡ old)
-  caller_refused why place is = (said_same out (Err (record { reason = why; place = place })) (rw is at p.says), rw is at p.holds)
+  pub caller_refused : (number place : ℕ) → a ≡ refused number place
+      → ((r : Refusal) × (out ≡ Err r) × (number_of r.reason ≡ number) × (r.place ≡ place)) × (new ≡ old)
+  caller_refused number place is = (said_refused out number place (rw is at p.says), rw is at p.holds)
+
+  -- with the reason of that number
+  pub caller_refused_for : (why : Reason) (place : ℕ) → a ≡ refused (number_of why) place → (out ≡ Err (record { reason = why; place = place })) × (new ≡ old)
+  caller_refused_for why place is =
+      let o = caller_refused (number_of why) place is in
+      (o.0.1 ∙ ap Err (refusal_same o.0.0 (record { reason = why; place = place }) o.0.2 o.0.3), o.1)
 
   caller_done : (n : ℕ) → out ≡ Ok n → (number place : ℕ) → a ≡ refused number place → ⊥
   caller_done n is number place e = not_both {x = done tt n} refl (sym (ap said is) ∙ rw e at p.says)
@@ -172,7 +186,7 @@ module _ {limit : ℕ} {f : List ℕ} {h : Head} {a : Answer (List ℕ)} {n : �
 
   -- Law: where one is not well, and all before it are, it is 15 with its index, and no byte is written.
   pub wrote_none : (i : ℕ) → i < n → well i ≡ false → All well i → (out ≡ Err (record { reason = reason.NotText; place = i })) × (new ≡ old)
-  wrote_none i l ill ws = caller_refused p reason.NotText i (r.ill i l ill ws)
+  wrote_none i l ill ws = caller_refused_for p reason.NotText i (r.ill i l ill ws)
 
   -- Law: where all are well and one is not plain, what is written, if anything is, is another frame.
   pub wrote_other : All well n → (i : ℕ) → i < n → plain i ≡ false → (k : ℕ) → out ≡ Ok k → take k new ≡ f → ⊥

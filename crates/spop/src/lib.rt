@@ -26,15 +26,13 @@ ghost use Rattle.types.specs.Check.{value_checks};
 ghost use Rattle.varint.specs.Number.{number_bytes};
 ghost use Rattle.writer.specs.Frame.{head_of, actions_answer, notify_answer, kv_answer};
 
-use answer::{Read, Refusal};
+use answer::{Read, Refusal, WAIT};
 use frame::{PAIR_WIDTH, Pair, Side, Stop};
 use parser::Frame;
 use types::{VALUE_WIDTH, Value};
 
-// What a call answers that is no refusal: it is done, or the frame is not whole yet. C has numbers for its answers.
+// What a call answers that is done. C has numbers for its answers.
 const DONE: u64 = 0;
-
-const WAIT: u64 = 1;
 
 pub fn spop_varint_len(n: u64) -> u64
     ensures { result ≡ length (number_bytes n) }

@@ -8,7 +8,7 @@
 ghost use Rattle.std.specs.Prelude.{◌≡◌, ◌+◌, ◌≤◌, IfOk, length};
 ghost use Rattle.spoplist.specs.Inner.{end_number, end_place, ReadsIn, side_in, Takes, Ends, limit, StandMessages, StandPairs, StandActions, Lies};
 
-use answer::{Read, Refusal};
+use answer::{Read, Refusal, WAIT};
 use frame::{ACTION_WIDTH, MESSAGE_WIDTH, PAIR_WIDTH, Side, Stop};
 use listing::Place;
 use parser::Frame;
@@ -18,7 +18,7 @@ use std::io;
 use std::io::Read as _;
 
 // How many bytes are read at most.
-const INPUT: u64 = 65_536;
+const INPUT: usize = 65_536;
 
 // The longest frame that is read, its length bytes aside.
 const LIMIT: u32 = 65_532;
@@ -41,9 +41,6 @@ struct Tables {
     actions: [u64; ACTIONS],
 }
 
-// What the last line has for a frame that is not whole.
-const WAIT: u64 = 1;
-
 // How a listing ends: behind so many bytes of accepted frames, and why there is no frame behind them, or nothing where no byte is left.
 #[derive(Clone, Copy)]
 struct Ended {
@@ -55,10 +52,10 @@ fn main(rt: HostRuntime) -> io::Result<()> {
     let Some(side) = side_of(&rt) else {
         return rt.eprintln("usage: spoplist [agent] < FRAMES");
     };
-    let mut input = Vec::new(rt.alloc());
-    rt.stdin().take(INPUT).read_to_end(&mut input)?;
+    let mut input = [0; INPUT];
+    let n = read_full(&mut rt.stdin(), &mut input)?;
     // A listing that nobody reads any more ends quietly.
-    let _ = list(&rt, side, &input);
+    let _ = list(&rt, side, &input[..n]);
     Ok(())
 }
 
@@ -75,6 +72,22 @@ fn side_of(rt: &impl Env) -> Option<Side> {
 // Whether there is such a word. It is lent no bytes, so one that is there is empty or does not fit.
 fn is_given(rt: &impl Env, word: usize) -> bool {
     !matches!(rt.arg(word, &mut []), Err(FillError::NotPresent))
+}
+
+// Reads until the buffer is full or the input ends; how many bytes the buffer has then. Each read is lent all that is left of the buffer, since
+// input that comes in packets loses what a read has no room for.
+fn read_full(input: &mut impl io::Read, buffer: &mut [u8]) -> io::Result<usize>
+    ensures { IfOk result (λ n. n ≤ length buffer.new) }
+{
+    let mut n = 0;
+    while n < buffer.len() {
+        let more = input.read(&mut buffer[n..])?;
+        if more == 0 {
+            return Ok(n);
+        }
+        n += more;
+    }
+    Ok(n)
 }
 
 // Lists the frames of the input, and writes the last line.

@@ -31,7 +31,7 @@ read_string_unique s r q p o = read_same r q (p ∙ sym o)
 pub typed_data_unique : (s : List ℕ) (r q : Result (Read Value) Refusal) → TypedData s r → TypedData s q → r ≡ q
 typed_data_unique s r q p o = value_said_same r q (p ∙ sym o)
 
-measured_same : (a b : Result ℕ Reason) → reason_said a ≡ reason_said b → measured a ≡ measured b → a ≡ b
+pub measured_same : (a b : Result ℕ Reason) → reason_said a ≡ reason_said b → measured a ≡ measured b → a ≡ b
 measured_same (Ok n) (Ok m) e f = ap Ok f
 measured_same (Ok n) (Err q) e f = absurd (reason_some q (sym e))
 measured_same (Err r) (Ok m) e f = absurd (reason_some r e)

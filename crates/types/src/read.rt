@@ -1,5 +1,6 @@
 // Strings and values, read from the front of some bytes.
-ghost use Rattle.std.specs.Prelude.{◌≡◌, true, false, cond, ◌+◌, ◌≤◌, ◌<◌, leb, length};
+ghost use Rattle.std.specs.Prelude.{◌≡◌, true, false, cond, ◌+◌, ◌≤◌, ◌<◌, ◌^◌, leb, length, MatchResult};
+ghost use Rattle.answer.specs.Writes.{read_behind};
 ghost use Rattle.answer.specs.Answer.{done, refused};
 ghost use Rattle.types.specs.Value.{Width, integer, address, shape, value as a_record, narrowed};
 ghost use Rattle.types.specs.Promise.{read_value, value_said, ReadString, TypedData};
@@ -42,13 +43,28 @@ pub fn typed_data(input: &[u8]) -> Result<Read<Value>, Refusal>
 // test tells them from the others, and one reader of numbers serves them all.
 const NUMBERED: u64 = 0x33C;
 
+// What was read behind `n` other bytes, told from the front of all. What was read lies in a slice, so the sums fit; `answer::behind` takes any
+// numbers, and tests that.
+fn behind<T>(read: Result<Read<T>, Refusal>, n: usize) -> Result<Read<T>, Refusal>
+    requires { MatchResult read (λ x. n + x.used < 2 ^ 64) (λ r. n + r.place < 2 ^ 64) }
+    ensures { result ≡ read_behind n read }
+{
+    match read {
+        Ok(Read { value, used }) => Ok(Read {
+            value,
+            used: n + used,
+        }),
+        Err(Refusal { reason, place }) => Err(reason.at(n + place)),
+    }
+}
+
 // Reads the number behind the type byte, of one of these kinds, and what that number stands for.
 fn read_number(kind: u64, flags: u64, input: &[u8]) -> Result<Read<Value>, Refusal>
     requires input_nonzero { 0 < length input.now }
     requires kind_value { numbered (shape kind) ≡ true }
     ensures { ReadsKind kind flags input.now (value_said result) }
 {
-    let Read { value: n, used } = answer::behind(varint::decode_varint(&input[1..]), 1)?;
+    let Read { value: n, used } = behind(varint::decode_varint(&input[1..]), 1)?;
     if kind < 6 {
         return Ok(integer_value(kind, flags, n, used));
     }

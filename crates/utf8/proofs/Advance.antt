@@ -1,5 +1,5 @@
 -- Going on over several bytes at once: what every walk over a text needs of it.
-use mathlib.Core.Path.{◌≡◌, sym, ap, ◌∙◌}
+use mathlib.Core.Path.{◌≡◌, refl, sym, ap, ◌∙◌}
 use mathlib.Core.Bool.{true, false}
 use mathlib.Core.List.{List, []}
 use Prim.Native.Nat.{ℕ, ◌+◌, ◌-◌, ◌≤◌, ◌<◌, zero-le}
@@ -32,6 +32,17 @@ text_advances s n some there e = record {
   there = there;
   moves = λ h. some;
 }
+
+-- how many bytes a step becomes
+abbrev pub text_size : Step → ℕ
+text_size ends = 0
+text_size (char n) = n
+text_size (mark n) = 3
+
+pub becomes_length : (s : List ℕ) (x : Step) → step_size x ≤ length s → length (becomes x s) ≡ text_size x
+becomes_length s ends h = refl
+becomes_length s (char n) h = length-take-le n s h
+becomes_length s (mark n) h = refl
 
 pub advances_length : (s : List ℕ) (x : Step) → Advances s x → length (lossy s) ≡ length (becomes x s) + length (lossy (drop (step_size x) s))
 advances_length s x a = ap length a.text ∙ length-append (becomes x s) (lossy (drop (step_size x) s))

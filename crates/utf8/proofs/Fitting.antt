@@ -1,18 +1,84 @@
 -- Bytes of which each fits the three before it are well-formed text, so a text can be tested without its steps.
 use mathlib.Core.Path.{◌≡◌, refl, ap, subst, ◌∙◌}
-use mathlib.Core.Bool.{true}
+use mathlib.Core.Bool.{Bool, true, false, not, ◌&&◌, ◌||◌, and-false}
 use mathlib.Core.List.{List, [], ◌∷◌}
-use mathlib.Core.Logic.{⊎_elim}
+use mathlib.Core.Logic.{◌⊎◌, inl, inr, ⊎_elim}
 use Prim.Native.Nat.{ℕ, zero, suc, ◌+◌, ◌-◌, ◌≤◌, ◌<◌, zero-le}
 use native.Mathlib.Omega.{arith}
+use lib.Dec.{ltb, leb, eqb}
 use lib.ListN.{length, drop, get_or}
 use lib.Seq.{get_or-drop}
-use borrow.Author.Tests.{le-leb, lt-leb}
-use Rattle.answer.proofs.Cases.{lt_or_le}
+use borrow.Author.Tests.{ltb-true, leb-true, le-ltb, le-leb, lt-leb, eq-eqb}
+use Rattle.answer.proofs.Cases.{lt_or_le, bool_cases, true_false, both_true}
 use Rattle.utf8.specs.Text.{Range, ◌to◌, row, rows, follow, in_range, matching, led, row_for, char, step, is_utf8}
 use Rattle.utf8.specs.Inner.{Fits, FitsAt, FitTo, FirstFit, EndsWhole}
 use Rattle.utf8.proofs.Stepping.{in_range_in, step_for_lem, step_ascii}
 use Rattle.utf8.proofs.Lossy.{empty, is_utf8_none, is_utf8_char}
+
+-- ---- the test of one byte
+
+-- the second of two tests decides where the first does not hold
+either : (p q : Bool) → p || q ≡ true → p ≡ false → q ≡ true
+either true q e f = true_false e f
+either false q e f = e
+
+either_not : (p q : Bool) → not p || q ≡ true → p ≡ true → q ≡ true
+either_not true q e f = e
+either_not false q e f = true_false f refl
+
+module _ (a b c d : ℕ) where
+  abbrev leads : Bool
+  leads = leb 0xC0 c || leb 0xE0 b || leb 0xF0 a || ltb d 0x80 || (leb 0xC2 d && leb d 0xF4)
+
+  abbrev unwanted : Bool
+  unwanted = ltb c 0xC0 && ltb b 0xE0 && ltb a 0xF0
+
+  abbrev follows : Bool
+  follows = unwanted || (leb 0x80 d && leb d 0xBF)
+
+  abbrev narrow_e0 : Bool
+  narrow_e0 = not (eqb c 0xE0) || leb 0xA0 d
+
+  abbrev narrow_ed : Bool
+  narrow_ed = not (eqb c 0xED) || leb d 0x9F
+
+  abbrev narrow_f0 : Bool
+  narrow_f0 = not (eqb c 0xF0) || leb 0x90 d
+
+  abbrev narrow_f4 : Bool
+  narrow_f4 = not (eqb c 0xF4) || leb d 0x8F
+
+  -- the tests of `fits`, one by one
+  pub fits_by : leads && follows && narrow_e0 && narrow_ed && narrow_f0 && narrow_f4 ≡ true → Fits a b c d
+  fits_by t =
+      let f4 = both_true (leads && follows && narrow_e0 && narrow_ed && narrow_f0) narrow_f4 t in
+      let f0 = both_true (leads && follows && narrow_e0 && narrow_ed) narrow_f0 f4.0 in
+      let ed = both_true (leads && follows && narrow_e0) narrow_ed f0.0 in
+      let e0 = both_true (leads && follows) narrow_e0 ed.0 in
+      let is = both_true leads follows e0.0 in
+      record {
+        lead = λ h g k. alone (simp (lt-leb 0xC0 c k, lt-leb 0xE0 b g, lt-leb 0xF0 a h) at is.0);
+        second = λ h. wanted is.1 (simp (le-ltb c 0xC0 h));
+        third = λ h. wanted is.1 (simp (le-ltb b 0xE0 h, and-false));
+        fourth = λ h. wanted is.1 (simp (le-ltb a 0xF0 h, and-false));
+        after_e0 = λ q. leb-true 0xA0 d (either_not (eqb c 0xE0) (leb 0xA0 d) e0.1 (eq-eqb c 0xE0 q));
+        after_ed = λ q. leb-true d 0x9F (either_not (eqb c 0xED) (leb d 0x9F) ed.1 (eq-eqb c 0xED q));
+        after_f0 = λ q. leb-true 0x90 d (either_not (eqb c 0xF0) (leb 0x90 d) f0.1 (eq-eqb c 0xF0 q));
+        after_f4 = λ q. leb-true d 0x8F (either_not (eqb c 0xF4) (leb d 0x8F) f4.1 (eq-eqb c 0xF4 q));
+      }
+    where
+      alone : ltb d 0x80 || (leb 0xC2 d && leb d 0xF4) ≡ true → (d < 0x80) ⊎ ((0xC2 ≤ d) × (d ≤ 0xF4))
+      alone e =
+          bool_cases (ltb d 0x80)
+          (λ p. inl (ltb-true d 0x80 p))
+          (λ p.
+          let q = both_true (leb 0xC2 d) (leb d 0xF4) (either (ltb d 0x80) (leb 0xC2 d && leb d 0xF4) e p) in
+          inr (leb-true 0xC2 d q.0, leb-true d 0xF4 q.1))
+
+      wanted : follows ≡ true → unwanted ≡ false → (0x80 ≤ d) × (d ≤ 0xBF)
+      wanted e p =
+          let q = both_true (leb 0x80 d) (leb d 0xBF) (either unwanted (leb 0x80 d && leb d 0xBF) e p) in
+          (leb-true 0x80 d q.0, leb-true d 0xBF q.1)
 
 -- ---- the row of a first byte
 

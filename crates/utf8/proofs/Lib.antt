@@ -1,4 +1,5 @@
 -- Laws about text: the table, its steps, lossy text, ASCII, texts that are the same, and what each walk over a text needs.
+pub mod Table
 pub mod Stepping
 pub mod Lossy
 pub mod Ascii

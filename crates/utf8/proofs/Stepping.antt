@@ -8,15 +8,9 @@ use native.Mathlib.Decide.{ℕ_discrete}
 use lib.Dec.{leb}
 use lib.ListN.{length, take, drop, get_or, drop_of_length-le}
 use lib.Seq.{drop-cons}
-use borrow.Author.Tests.{le-leb, eq-eqb, ne_eqb, leb-true}
-use Rattle.std.proofs.Common.{Option, Some, None, tests}
-use Rattle.std.specs.Ordering.{is_le, nat_cmp}
-use Rattle.std.specs.Range.{range_inclusive_exhausted, range_inclusive_contains}
-use Rattle.std.specs.declared.ops.RangeInclusive.{RangeInclusive}
-use Rattle.std.proofs.lemmas.Grind.{common_steps}
+use borrow.Author.Tests.{le-leb, lt-leb, eq-eqb, ne_eqb, leb-true}
 use Rattle.answer.proofs.Cases.{bool_cases, both_true}
 use Rattle.utf8.specs.Text.{Range, ◌to◌, Row, row, rows, follow, places, in_range, starts_in, matching, Step, ends, char, mark, taken, Led, unused, led, row_for, step_for, step, replacement}
-use Rattle.utf8.specs.Inner.{as_range, behind_lead}
 
 -- ---- a byte and its range
 
@@ -25,13 +19,13 @@ module _ (low high b : ℕ) where
   unfolding in_range
   in_range_in h g = simp (le-leb low b h, le-leb b high g)
 
-le_is : (a b : ℕ) → is_le (nat_cmp a b) ≡ leb a b
-le_is a b = grind (arith, common_steps, tests)
+  pub in_range_below : b < low → in_range (low to high) b ≡ false
+  unfolding in_range
+  in_range_below h = simp (lt-leb low b h)
 
--- the code's range, which is never spent
-pub contains_in : (r : RangeInclusive ℕ) (b : ℕ) → range_inclusive_exhausted r ≡ false → range_inclusive_contains (λ x y. Some (nat_cmp x y)) r b ≡ in_range (as_range r) b
-unfolding in_range
-contains_in r b e = simp (e, le_is r.start b, le_is b r.end)
+  pub in_range_above : low ≤ b → high < b → in_range (low to high) b ≡ false
+  unfolding in_range
+  in_range_above h g = simp (le-leb low b h, lt-leb b high g)
 
 module _ (p : Range) (s : List ℕ) (at : ℕ) where
   pub starts_in_end : length s ≤ at → starts_in p (drop at s) ≡ false
@@ -222,16 +216,16 @@ step_ends [] h = refl
 step_ends (b ∷ s) h = absurd (omega arith)
 
 -- in the code's terms: the first byte is in its range, and the places behind it are left
-abbrev pub step_behind : Option (Range × ℕ) → List ℕ → Step
-step_behind None s = mark 1
-step_behind (Some (second, bytes)) s = taken (suc (bytes - 1)) (suc (matching (follow (bytes - 1) second) (drop 1 s)))
+abbrev pub step_behind : Led → List ℕ → Step
+step_behind unused s = mark 1
+step_behind (led (row lead second bytes)) s = taken (suc (bytes - 1)) (suc (matching (follow (bytes - 1) second) (drop 1 s)))
 
-pub step_for_lem : (s : List ℕ) (b : ℕ) → 1 ≤ length s → get_or s 0 0 ≡ b → step s ≡ step_behind (behind_lead (row_for rows b)) s
+pub step_for_lem : (s : List ℕ) (b : ℕ) → 1 ≤ length s → get_or s 0 0 ≡ b → step s ≡ step_behind (row_for rows b) s
 unfolding step
 step_for_lem [] b h e = absurd (omega arith)
 step_for_lem (b ∷ s) d h e = rw (sym e) (go (row_for rows b) (found b))
   where
-    go : (x : Led) → Found b x → step_for x (b ∷ s) ≡ step_behind (behind_lead x) (b ∷ s)
+    go : (x : Led) → Found b x → step_for x (b ∷ s) ≡ step_behind x (b ∷ s)
     go unused f = refl
     go (led (row lead second bytes)) f = ap₂ taken (ap suc (follow_length (bytes - 1) second)) (matching_on lead (follow (bytes - 1) second) (b ∷ s) f.0)
 

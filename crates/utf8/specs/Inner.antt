@@ -2,15 +2,18 @@
 -- No public promise rests on anything in this file.
 use Rattle.std.specs.Prelude.{◌≡◌, Bool, true, false, ◌&&◌, ◌⊎◌, List, [], ◌∷◌, ◌++◌, ℕ, ◌+◌, ◌-◌, ◌≤◌, ◌<◌, ltb, length, take, drop, get_or}
 use Rattle.std.specs.Prelude.{Option, Some, None}
-use Rattle.std.specs.declared.ops.RangeInclusive.{RangeInclusive}
-use Rattle.std.specs.Range.{range_inclusive_start, range_inclusive_end}
+use Rattle.utf8.specs.declared.rows.Range as g
+use Rattle.utf8.specs.declared.rows.Row as r
 use Rattle.utf8.specs.declared.step.Step as t
 use Rattle.utf8.specs.declared.step.Step.TheVariants as s
-use Rattle.utf8.specs.Text.{Range, ◌to◌, row, Led, unused, led, Step, ends, char, mark, step_size, well_formed, becomes, is_utf8, lossy, same_text}
+use Rattle.utf8.specs.Text.{Range, ◌to◌, Row, row, Led, unused, led, Step, ends, char, mark, step_size, well_formed, becomes, is_utf8, lossy, same_text}
 
--- a range of the code's table
-abbrev pub as_range : RangeInclusive ℕ → Range
-as_range x = range_inclusive_start x to range_inclusive_end x
+-- a range and a row of the code's table
+abbrev pub as_range : g.Range → Range
+as_range x = x.low to x.high
+
+abbrev pub as_row : r.Row → Row
+as_row x = row (as_range x.lead) (as_range x.second) x.bytes
 
 -- what the code saw at the front of some bytes
 abbrev pub seen : t.Step → Step
@@ -18,15 +21,10 @@ seen s.End = ends
 seen (s.Char n) = char n
 seen (s.Mark n) = mark n
 
--- what a row says of the bytes behind the first, as the code found it for a first byte
-abbrev pub behind : Option (RangeInclusive ℕ × ℕ) → Option (Range × ℕ)
-behind None = None
-behind (Some x) = Some (as_range x.0, x.1)
-
--- and as the definition's row has it
-abbrev pub behind_lead : Led → Option (Range × ℕ)
-behind_lead unused = None
-behind_lead (led (row lead second bytes)) = Some (second, bytes)
+-- the row that it found for a first byte
+abbrev pub led_by : Option r.Row → Led
+led_by None = unused
+led_by (Some x) = led (as_row x)
 
 -- ---- ASCII
 

@@ -1,11 +1,135 @@
 // Table 3-7: its nine rows, and the step that stands at the front of some bytes by them.
-ghost use Rattle.std.specs.Prelude.{◌≡◌, false, IfSome, suc, ◌-◌, ◌≤◌, length, drop};
-ghost use Rattle.std.specs.Range.{range_inclusive_exhausted};
-ghost use Rattle.utf8.specs.Text.{rows, row_for, follow, matching, taken, step};
-ghost use Rattle.utf8.specs.Inner.{as_range, seen, behind, behind_lead};
+ghost use Rattle.std.specs.Prelude.{◌≡◌, suc, ◌-◌, ◌≤◌, length, drop};
+ghost use Rattle.utf8.specs.Text.{rows, row_for, in_range, follow, matching, taken, step};
+ghost use Rattle.utf8.specs.Inner.{as_range, seen, led_by};
 
 use crate::step::Step;
-use std::ops::RangeInclusive;
+
+// The bytes from the first to the last.
+#[derive(Clone, Copy)]
+struct Range {
+    low: u8,
+    high: u8,
+}
+
+impl Range {
+    #[tactic(auto, unfolding(crate::specs::Text::in_range))]
+    fn contains(self, byte: u8) -> bool
+        ensures { result ≡ in_range (as_range self) byte }
+    {
+        self.low <= byte && byte <= self.high
+    }
+}
+
+// A row of the table: what the first byte may be, what the second, and how many bytes there are.
+#[derive(Clone, Copy)]
+struct Row {
+    lead: Range,
+    second: Range,
+    bytes: usize,
+}
+
+const ROWS: [Row; 9] = [
+    Row {
+        lead: Range {
+            low: 0x00,
+            high: 0x7F,
+        },
+        second: Range {
+            low: 0x00,
+            high: 0x00,
+        },
+        bytes: 1,
+    },
+    Row {
+        lead: Range {
+            low: 0xC2,
+            high: 0xDF,
+        },
+        second: Range {
+            low: 0x80,
+            high: 0xBF,
+        },
+        bytes: 2,
+    },
+    Row {
+        lead: Range {
+            low: 0xE0,
+            high: 0xE0,
+        },
+        second: Range {
+            low: 0xA0,
+            high: 0xBF,
+        },
+        bytes: 3,
+    },
+    Row {
+        lead: Range {
+            low: 0xE1,
+            high: 0xEC,
+        },
+        second: Range {
+            low: 0x80,
+            high: 0xBF,
+        },
+        bytes: 3,
+    },
+    Row {
+        lead: Range {
+            low: 0xED,
+            high: 0xED,
+        },
+        second: Range {
+            low: 0x80,
+            high: 0x9F,
+        },
+        bytes: 3,
+    },
+    Row {
+        lead: Range {
+            low: 0xEE,
+            high: 0xEF,
+        },
+        second: Range {
+            low: 0x80,
+            high: 0xBF,
+        },
+        bytes: 3,
+    },
+    Row {
+        lead: Range {
+            low: 0xF0,
+            high: 0xF0,
+        },
+        second: Range {
+            low: 0x90,
+            high: 0xBF,
+        },
+        bytes: 4,
+    },
+    Row {
+        lead: Range {
+            low: 0xF1,
+            high: 0xF3,
+        },
+        second: Range {
+            low: 0x80,
+            high: 0xBF,
+        },
+        bytes: 4,
+    },
+    Row {
+        lead: Range {
+            low: 0xF4,
+            high: 0xF4,
+        },
+        second: Range {
+            low: 0x80,
+            high: 0x8F,
+        },
+        bytes: 4,
+    },
+];
 
 // The step at the front of `s`, by the row in whose range its first byte is.
 pub(crate) fn front_step(s: &[u8]) -> Step
@@ -18,46 +142,39 @@ pub(crate) fn front_step(s: &[u8]) -> Step
     if lead.is_ascii() {
         return Step::Char(1);
     }
-    match row_of(lead) {
-        Some((second, bytes)) => step_on(s, second, bytes),
+    match lead_row(lead) {
+        Some(row) => step_on(s, row.bytes, row.second),
         None => Step::Mark(1),
     }
 }
 
-// The row of a first byte, if there is one: what the second byte may be, and how many bytes there are.
-#[tactic(auto, unfolding(crate::specs::Text::rows, crate::specs::Text::row_for, crate::specs::Text::in_range))]
-fn row_of(lead: u8) -> Option<(RangeInclusive<u8>, usize)>
-    ensures row { behind result ≡ behind_lead (row_for rows lead) }
-    ensures fresh { IfSome result (λ r. range_inclusive_exhausted r.0 ≡ false) }
-    ensures some { IfSome result (λ r. 1 ≤ r.1) }
+// The row of a first byte, if there is one.
+fn lead_row(lead: u8) -> Option<Row>
+    ensures { led_by result ≡ row_for rows lead }
 {
-    match lead {
-        0x00..=0x7F => Some((0x00..=0x00, 1)),
-        0xC2..=0xDF => Some((0x80..=0xBF, 2)),
-        0xE0 => Some((0xA0..=0xBF, 3)),
-        0xE1..=0xEC => Some((0x80..=0xBF, 3)),
-        0xED => Some((0x80..=0x9F, 3)),
-        0xEE..=0xEF => Some((0x80..=0xBF, 3)),
-        0xF0 => Some((0x90..=0xBF, 4)),
-        0xF1..=0xF3 => Some((0x80..=0xBF, 4)),
-        0xF4 => Some((0x80..=0x8F, 4)),
-        _ => None,
+    for i in 0..9 {
+        let row = ROWS[i];
+        if row.lead.contains(lead) {
+            return Some(row);
+        }
     }
+    None
 }
 
 // The step whose first byte is right, in a row of so many bytes and this range for the second.
-fn step_on(s: &[u8], second: RangeInclusive<u8>, bytes: usize) -> Step
-    requires there { 1 ≤ length s.now }
-    requires fresh { range_inclusive_exhausted second ≡ false }
-    requires some { 1 ≤ bytes }
+fn step_on(s: &[u8], bytes: usize, second: Range) -> Step
+    requires { 1 ≤ length s.now }
     ensures { seen result ≡ taken (suc (bytes - 1)) (suc (matching (follow (bytes - 1) (as_range second)) (drop 1 s.now))) }
 {
     let mut allowed = second;
     for at in 1..bytes {
-        if s.len() <= at || !allowed.contains(&s[at]) {
+        if s.len() <= at || !allowed.contains(s[at]) {
             return Step::Mark(at);
         }
-        allowed = 0x80..=0xBF;
+        allowed = Range {
+            low: 0x80,
+            high: 0xBF,
+        };
     }
-    Step::Char(bytes)
+    Step::Char(bytes.max(1))
 }

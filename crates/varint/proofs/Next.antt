@@ -1,7 +1,7 @@
 -- How a number begins and goes on, in the code's terms.
 use Rattle.std.proofs.Common.{◌≡◌, ap, ◌∙◌, ℕ, suc, ◌+◌, ◌-◌, ◌*◌, ◌%◌, ◌≤◌, ◌<◌, ◌^◌, List, length, drop, add-one, arith}
 use native.Mathlib.Nat.{mul-le-mul_right, mod-eq_of_lt}
-use lib.ListN.{drop_of_length-le}
+use lib.ListN.{get_or, drop_of_length-le}
 use lib.Pow.{pow-add, pow_mono}
 use Rattle.answer.specs.Answer.{done, refused}
 use Rattle.answer.proofs.Cases.{Stands, stands_first}
@@ -65,3 +65,11 @@ module _ (sum k b : ℕ) (early : k < 9) (from : 1 ≤ k) (small : b < 256) (bel
       let up : 7 * (k + 1) - 3 ≡ 7 * k - 3 + 7 = omega arith in
       let e : 2 ^ (7 * (k + 1) - 3) ≡ 2 ^ (7 * k - 3) * 2 ^ 7 = ap (λ (n : ℕ). 2 ^ n) up ∙ pow-add 2 (7 * k - 3) 7 in
       omega (arith, addend_whole, byte_below)
+
+-- The same of the byte at its place, with its shift.
+module _ (s : List ℕ) (sum used shift : ℕ) (here : used < length s) (e : shift + 3 ≡ 7 * used) (early : used < 9) (small : get_or s used 0 < 256) (below : sum < 16 * 2 ^ shift) where
+  abbrev pub byte : ℕ
+  byte = get_or s used 0
+
+  pub fits : sum + (byte * 2 ^ shift) % 2 ^ 64 < 2 ^ 64
+  fits = let k : shift ≡ 7 * used - 3 = omega arith in rw k (sum_fits sum used byte early (omega arith) small (rw k at below))

@@ -3,7 +3,7 @@ use mathlib.Core.Path.{◌≡◌, refl, sym, ap, ◌∙◌}
 use mathlib.Core.Bool.{true, false}
 use mathlib.Core.List.{List}
 use Prim.Native.Nat.{ℕ, ◌≤◌}
-use lib.ListN.{length, drop_of_length-le}
+use lib.ListN.{length, drop, drop_of_length-le}
 use Rattle.std.specs.Prelude.{Option}
 use Rattle.answer.specs.Answer.{Answer, done, refused, behind}
 use Rattle.answer.proofs.Cases.{bool_cases, not_both}
@@ -18,8 +18,11 @@ use Rattle.walker.specs.declared.Place.{Place}
 use Rattle.walker.specs.Walk.{end_or, behind_number, comes, after_place, step_said, walk_step}
 
 -- no number stands behind the end
+pub number_past : (s : List ℕ) (at : ℕ) → length s ≤ at → number (drop at s) ≡ refused 3 0
+number_past s at h = ap number (drop_of_length-le s h) ∙ number_none
+
 pub none_past : (s : List ℕ) (at : ℕ) → length s ≤ at → length s ≡ behind_number s at
-none_past s at h = sym (ap (λ (a : Answer ℕ). end_or (length s) (behind still at a)) (ap number (drop_of_length-le s h) ∙ number_none))
+none_past s at h = sym (ap (λ (a : Answer ℕ). end_or (length s) (behind still at a)) (number_past s at h))
 
 module _ (s : List ℕ) (x : Place) where
   pub step_end : comes s x ≡ false → walk_step s x ≡ no_more

@@ -15,11 +15,12 @@ use frame::{Pair, record_at};
 pub(crate) fn measure_pair(pair: Pair, buffer: &[u8], most: u32) -> Result<u64, Reason>
     ensures { Measures (pair_checks buffer.now pair) most (pair_bytes buffer.now pair) result }
 {
-    if !types::writable(pair.value) {
+    let value = types::measure_value(pair.value, buffer);
+    if value.is_err() && !types::writable(pair.value) {
         return Err(Reason::NotWritable);
     }
     types::check_string(pair.start, pair.len, buffer)?;
-    let value_len = types::measure_value(pair.value, buffer)?;
+    let value_len = value?;
     let key_len = cap(varint::varint_len(pair.len) as u64 + pair.len, most);
     Ok(cap(key_len + value_len as u64, most))
 }

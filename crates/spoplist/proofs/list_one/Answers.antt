@@ -15,7 +15,7 @@ use Rattle.listing.proofs.Fitting.{frame_fits}
 use Rattle.spoplist.specs.declared.Tables.{Tables}
 use Rattle.spoplist.specs.Inner.{ReadsIn, side_in, Accepts}
 use Rattle.spoplist.proofs.Standing.{fits_lies, Stood, read_stood}
-use Rattle.spoplist.proofs.Stopping.{said_taken, said_stopped}
+use Rattle.spoplist.proofs.Stopping.{said_taken}
 use Rattle.spoplist.proofs.list_one.Goals as goal
 
 module _ (x : Side) (s : List ℕ) (old new : Tables) {r : Result (Read Frame) Stop} {read : Read Frame} (is : r ≡ Ok read) (reads : ReadsIn x s r old new) where
@@ -47,6 +47,3 @@ list_actions-requires g c =
 
 pub returns-in_ok-list_actions-in-Ok : goal.returns-in_ok-list_actions-in-Ok
 returns-in_ok-list_actions-in-Ok g c = taken c.args.side c.args.rest.now c.args.tables.now _ c.in-Ok.is c.read.ensures
-
-pub returns-in-Err : goal.returns-in-Err
-returns-in-Err g c = said_stopped _ c.in-Err.stop (sym (ap frame_said c.in-Err.is) ∙ c.read.ensures.says)

@@ -3,13 +3,18 @@ use Rattle.std.proofs.Common.{◌∙◌, sym, ap, arith}
 use Rattle.std.proofs.lemmas.Result.{err_from_is_err_and}
 use Rattle.answer.specs.Answer.{refused}
 use Rattle.answer.specs.Reason.{number_of}
-use Rattle.answer.proofs.Answers.{at_done, at_refused}
+use Rattle.answer.proofs.Answers.{at_done, at_refused, at_fits}
 use Rattle.types.proofs.Shapes.{points_yes}
 use Rattle.payload.specs.Action.{action}
 use Rattle.payload.specs.Inner.{action_behind, variable_moved}
 use Rattle.payload.proofs.Pairs.{moved_twice}
 use Rattle.payload.proofs.Actions.{action_ends, action_moved, action_none_at, action_some_at}
 use Rattle.payload.proofs.action.action_at.Goals as goal
+
+pub behind-requires : goal.behind-requires
+behind-requires c =
+    let a = c.args in
+    at_fits action_behind variable_moved action_moved action action_ends a.input.now a.at c.requires (omega (arith, c.well_formed)) c.read_action.result c.read_action.ensures
 
 pub returns-in_err-action : goal.returns-in_err-action
 returns-in_err-action c =

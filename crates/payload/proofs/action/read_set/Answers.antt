@@ -4,11 +4,15 @@ use Rattle.std.proofs.lemmas.Result.{err_from_is_err_and}
 use Rattle.answer.specs.Answer.{refused}
 use Rattle.answer.specs.Reason.{number_of}
 use Rattle.answer.specs.Writes.{read_said}
-use Rattle.answer.proofs.Answers.{at_done, at_refused, itself}
+use Rattle.answer.proofs.Answers.{at_done, at_refused, at_fits, itself}
 use Rattle.payload.specs.Pair.{pair}
 use Rattle.payload.proofs.Pairs.{pair_ends}
 use Rattle.payload.proofs.Actions.{set_refused, set_done}
 use Rattle.payload.proofs.action.read_set.Goals as goal
+
+pub behind-requires : goal.behind-requires
+behind-requires c =
+    at_fits read_said (λ x. x) itself pair pair_ends c.args.input.now 3 c.requires.long (omega (arith, c.well_formed)) c.read_pair.result c.read_pair.ensures
 
 pub returns-in_err-pair : goal.returns-in_err-pair
 returns-in_err-pair c =

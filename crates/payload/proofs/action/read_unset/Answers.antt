@@ -4,12 +4,16 @@ use Rattle.std.proofs.lemmas.Result.{err_from_is_err_and}
 use Rattle.answer.specs.Answer.{refused}
 use Rattle.answer.specs.Reason.{number_of}
 use Rattle.answer.specs.Writes.{read_said}
-use Rattle.answer.proofs.Answers.{at_done, at_refused, itself}
+use Rattle.answer.proofs.Answers.{at_done, at_refused, at_fits, itself}
 use Rattle.types.specs.Value.{string}
 use Rattle.types.proofs.Reading.{string_ends}
 use Rattle.types.proofs.Unique.{value_numbers_unique}
 use Rattle.payload.proofs.Actions.{name_refused, name_done}
 use Rattle.payload.proofs.action.read_unset.Goals as goal
+
+pub behind-requires : goal.behind-requires
+behind-requires c =
+    at_fits read_said (λ x. x) itself string string_ends c.args.input.now 3 c.requires.long (omega (arith, c.well_formed)) c.read_string.result c.read_string.ensures
 
 pub returns-in_err-name : goal.returns-in_err-name
 returns-in_err-name c =

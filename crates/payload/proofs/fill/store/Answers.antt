@@ -4,7 +4,7 @@ use Prim.Native.Nat.{◌+◌, ◌*◌, ◌≤◌}
 use native.Mathlib.Omega.{arith}
 use lib.ListN.{length}
 use Rattle.frame.specs.Records.{message_width, message_numbers, pair_width, pair_numbers, action_width, action_numbers}
-use Rattle.payload.proofs.Putting.{record_put}
+use Rattle.payload.proofs.Putting.{record_stored}
 use Rattle.payload.proofs.fill.store.Goals as goal
 use Rattle.payload.proofs.fill.store.Goals.{In-Action, In-Message, In-Pair}
 
@@ -48,17 +48,17 @@ slice_bounds-put-count-in-Action c = omega (arith, room_3 ((goal.at.slice_bounds
 pub returns-in-Pair : goal.returns-in-Pair
 returns-in-Pair c =
     let a = c.args in
-    rw c.in-Pair.is (refl, record_put (a.x.pairs * pair_width) (pair_numbers c.in-Pair.pair) a.pairs.now (room ((goal.at.returns-in-Pair c).In-Pair)) c.from.ensures c.put.ensures, refl)
+    rw c.in-Pair.is (refl, record_stored (a.x.pairs * pair_width) (pair_numbers c.in-Pair.pair) a.pairs.now (room ((goal.at.returns-in-Pair c).In-Pair)) c.from.ensures c.put.ensures, refl)
 
 pub returns-in-Message : goal.returns-in-Message
 returns-in-Message c =
     let a = c.args in
-    rw c.in-Message.is (record_put (a.x.messages * message_width) (message_numbers c.in-Message.message) a.messages.now (room_2 ((goal.at.returns-in-Message c).In-Message)) c.from-in-Message.ensures c.put-in-Message.ensures, refl, refl)
+    rw c.in-Message.is (record_stored (a.x.messages * message_width) (message_numbers c.in-Message.message) a.messages.now (room_2 ((goal.at.returns-in-Message c).In-Message)) c.from-in-Message.ensures c.put-in-Message.ensures, refl, refl)
 
 pub returns-in-Action : goal.returns-in-Action
 returns-in-Action c =
     let a = c.args in
-    rw c.in-Action.is (refl, refl, record_put (a.x.actions * action_width) (action_numbers c.in-Action.action) a.actions.now (room_3 ((goal.at.returns-in-Action c).In-Action)) c.from-in-Action.ensures c.put-in-Action.ensures)
+    rw c.in-Action.is (refl, refl, record_stored (a.x.actions * action_width) (action_numbers c.in-Action.action) a.actions.now (room_3 ((goal.at.returns-in-Action c).In-Action)) c.from-in-Action.ensures c.put-in-Action.ensures)
 
 pub slice_bounds-put-start : goal.slice_bounds-put-start
 slice_bounds-put-start c = slice_bounds-put-count c

@@ -4,7 +4,7 @@ use Rattle.std.proofs.lemmas.Result.{err_from_is_err_and}
 use Rattle.answer.specs.Answer.{done, refused}
 use Rattle.answer.specs.Reason.{number_of}
 use Rattle.answer.specs.Writes.{refusal_said, read_said}
-use Rattle.answer.proofs.Answers.{at_done, at_refused, itself}
+use Rattle.answer.proofs.Answers.{at_done, at_refused, at_fits, itself}
 use Rattle.answer.specs.Answer.{behind}
 use Rattle.answer.proofs.Cases.{found}
 use Rattle.types.specs.Value.{span, string}
@@ -14,6 +14,11 @@ use Rattle.payload.specs.Payload.{moved_span}
 use Rattle.payload.specs.Item.{item_of}
 use Rattle.payload.proofs.Steps.{name_refused, count_missing, count_there}
 use Rattle.payload.proofs.next.message_item.Goals as goal
+
+pub behind-requires : goal.behind-requires
+behind-requires c =
+    let a = c.args in
+    at_fits read_said (λ x. x) itself string string_ends a.input.now a.at c.requires (omega (arith, c.well_formed)) c.read_string.result c.read_string.ensures
 
 pub returns-in_err-name : goal.returns-in_err-name
 returns-in_err-name c =

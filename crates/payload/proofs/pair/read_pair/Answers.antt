@@ -8,7 +8,7 @@ use Rattle.types.specs.declared.Value.{Value}
 use Rattle.std.proofs.lemmas.Result.{err_from_is_err_and}
 use Rattle.answer.specs.Answer.{done, refused}
 use Rattle.answer.specs.Reason.{number_of}
-use Rattle.answer.proofs.Answers.{at_done, at_refused}
+use Rattle.answer.proofs.Answers.{at_done, at_refused, at_fits}
 use Rattle.types.specs.Value.{span, string, Record, typed}
 use Rattle.types.specs.Promise.{record_of, value_said}
 use Rattle.types.proofs.Reading.{string_accepted, typed_accepted, typed_ends, valued}
@@ -27,6 +27,12 @@ slice_bounds-typed_data-count c = (string_accepted c.args.input.now _ _ _ (sym c
 
 pub slice_bounds-typed_data-start : goal.slice_bounds-typed_data-start
 slice_bounds-typed_data-start c = slice_bounds-typed_data-count c
+
+pub behind-requires : goal.behind-requires
+behind-requires c =
+    let s = c.args.input.now in
+    at_fits value_said record_of valued typed typed_ends s c.in_ok-key.field-0.used (string_accepted s _ _ _ (sym c.in_ok-key.ensures)).1 (omega (arith, c.well_formed))
+    c.typed_data.result c.typed_data.ensures
 
 pub returns-in_err-value : goal.returns-in_err-value
 returns-in_err-value c =

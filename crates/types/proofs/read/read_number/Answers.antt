@@ -1,10 +1,13 @@
 -- `types::read::read_number` meets its contract: each answer is what the table has behind the type byte for what the number reader answered.
 use Rattle.std.proofs.Common.{◌∙◌, arith}
 use Rattle.std.proofs.lemmas.Result.{err_from_is_err_and}
-use Rattle.answer.proofs.Answers.{behind_done, behind_refused}
+use Rattle.answer.proofs.Answers.{behind_done, behind_refused, sum_fits}
 use Rattle.types.proofs.Behind.{some_bound, number_none, integer_some, text_some, bound}
 use Rattle.types.proofs.Shapes.{numbered_integer, numbered_text, shape_integer}
 use Rattle.types.proofs.read.read_number.Goals as goal
+
+pub behind-requires : goal.behind-requires
+behind-requires c = sum_fits 1 c.decode_varint.result (bound c.args.input.now c.requires.input_nonzero c.decode_varint.ensures.says (omega (arith, c.well_formed)))
 
 pub returns-in_err-n : goal.returns-in_err-n
 returns-in_err-n c =

@@ -2,7 +2,7 @@ use Rattle.std.proofs.Common.{◌≡◌, true, false, suc, ◌+◌, ◌-◌, ◌
 use lib.Seq.{drop-drop}
 use borrow.Author.Tests.{eq-eqb, ne_eqb}
 use Rattle.utf8.specs.Text.{Range, ◌to◌, follow, starts_in, matching, char, mark, taken}
-use Rattle.utf8.proofs.Stepping.{contains_in, starts_in_end, starts_in_at, matching_none, matching_stop, matching_on, follow_none, follow_on}
+use Rattle.utf8.proofs.Stepping.{starts_in_end, starts_in_at, matching_none, matching_stop, matching_on, follow_none, follow_on}
 use Rattle.utf8.specs.Inner.{as_range}
 use Rattle.utf8.proofs.rows.step_on.Goals as goal
 use Rattle.utf8.proofs.rows.step_on.Goals.{Joined-then-s-at, then-s-at-via-then-s-at, then-s-at-via-else-s-at+then-not-contains}
@@ -23,11 +23,11 @@ module _ (s : List ℕ) (n bytes at : ℕ) (p : Range) (all : n ≡ at + matchin
         all
         ∙ rw more (ap (λ (k : ℕ). at + k) (matching_on _ _ (drop at s) e ∙ ap (λ (t : List ℕ). suc (matching (follow (bytes - (at + 1)) (0x80 to 0xBF)) t)) (drop-drop 1 at s)) ∙ omega arith)
 
-  end : at ≡ bytes → 1 ≤ bytes → taken (suc (bytes - 1)) n ≡ char bytes
-  end h some =
+  end : bytes ≤ at → 1 ≤ at → at ≤ suc (bytes - 1) → taken (suc (bytes - 1)) n ≡ char at
+  end h some most =
       let none : follow (bytes - at) p ≡ [] = ap (λ (k : ℕ). follow k p) (omega arith) ∙ follow_none _ in
       let k : n ≡ at = all ∙ rw none (ap (λ (k : ℕ). at + k) (matching_none (drop at s)) ∙ omega arith) in
-      rw (k, h) (simp (eq-eqb bytes (suc (bytes - 1)) (omega arith)))
+      rw k (simp (eq-eqb at (suc (bytes - 1)) (omega arith)))
 
 outside : (c : Joined-then-s-at) → starts_in (as_range c.loop-at.allowed) (drop c.loop-at.at c.args.s.now) ≡ false
 outside c =
@@ -35,7 +35,7 @@ outside c =
     elim c.then-s-at.branch [
       | then-s-at-via-then-s-at w ↦ starts_in_end _ s c.loop-at.at w.if-s-at.true
       | then-s-at-via-else-s-at+then-not-contains w ↦
-          starts_in_at _ s c.loop-at.at w.if-s-at.false ∙ sym (contains_in c.loop-at.allowed _ c.loop-at.invariant.fresh) ∙ sym w.contains.ensures.value ∙ w.if-not-contains.true
+          starts_in_at _ s c.loop-at.at w.if-s-at.false ∙ sym w.contains.ensures ∙ w.if-not-contains.true
     ]
 
 pub returns-then-s-at : goal.returns-then-s-at
@@ -47,12 +47,14 @@ loop-at-preserved c =
     let s = c.args.s.now in
     record {
       filled =
-          rw (c.new-allowed.ensures.start, c.new-allowed.ensures.end)
-          (on s _ c.args.bytes c.loop-at.at _ c.loop-at.invariant.filled c.loop-at-test.true
-          (starts_in_at _ s c.loop-at.at c.if-s-at.false ∙ sym (contains_in c.loop-at.allowed _ c.loop-at.invariant.fresh) ∙ sym c.contains.ensures.value ∙ c.if-not-contains.false));
+          on s _ c.args.bytes c.loop-at.at _ c.loop-at.invariant.filled c.loop-at-test.true
+          (starts_in_at _ s c.loop-at.at c.if-s-at.false ∙ sym c.contains.ensures ∙ c.if-not-contains.false);
       there = omega arith;
-      fresh = c.new-allowed.ensures.exhausted;
+      most = omega arith;
     }
 
 pub returns : goal.returns
-returns c = sym (end c.args.s.now _ c.args.bytes c.loop-at.at _ c.loop-at.invariant.filled (omega arith) c.requires.some)
+returns c =
+    sym
+    (end c.args.s.now _ c.args.bytes c.loop-at.at _ c.loop-at.invariant.filled (omega arith) (omega arith) c.loop-at.invariant.most
+    ∙ ap char (omega (arith, c.max.ensures, c.loop-at.invariant.most)))

@@ -1,7 +1,6 @@
 -- `utf8::rows::step_on` meets its contract. The loop's invariant: the places that are filled are the `at` so far and those that are filled
 -- from there on, of which there are as many as the row still has, the next as `allowed` says.
-use Rattle.std.proofs.Common.{◌≡◌, false, suc, ◌+◌, ◌-◌, ◌≤◌, length, drop}
-use Rattle.std.specs.Range.{range_inclusive_exhausted}
+use Rattle.std.proofs.Common.{◌≡◌, suc, ◌+◌, ◌-◌, ◌≤◌, length, drop}
 use Rattle.utf8.specs.Text.{follow, matching}
 use Rattle.utf8.specs.Inner.{as_range}
 use Rattle.utf8.proofs.rows.step_on.Given as goal
@@ -10,5 +9,5 @@ abbrev pub invariant-loop-at : goal.invariant-loop-at
 invariant-loop-at l = record {
   filled : suc (matching (follow (l.bytes - 1) (as_range l.fn.second)) (drop 1 l.s)) ≡ l.at + matching (follow (l.bytes - l.at) (as_range l.allowed)) (drop l.at l.s);
   there : l.at ≤ length l.s;
-  fresh : range_inclusive_exhausted l.allowed ≡ false;
+  most : l.at ≤ suc (l.bytes - 1);
 }
