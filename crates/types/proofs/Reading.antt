@@ -12,7 +12,7 @@ use mathlib.Core.Logic.{⊎_elim}
 use mathlib.Core.List.{List, [], ◌∷◌, ◌++◌}
 use Prim.Native.Nat.{ℕ, suc, ◌+◌, ◌%◌, ◌^◌, ◌≤◌, ◌<◌}
 use native.Mathlib.Omega.{arith}
-use lib.ListN.{length, drop, length-append, drop_of_length-le}
+use lib.ListN.{length, drop, get_or, length-append, drop_of_length-le}
 use borrow.Author.Tests.{le-leb, lt-leb}
 use Rattle.types.specs.declared.Span.{Span}
 use Rattle.answer.specs.Answer.{Answer, done, refused, next, behind}
@@ -117,7 +117,14 @@ pub typed_some : (b : ℕ) (s : List ℕ) → typed (b ∷ s) ≡ behind moved 1
 unfolding typed
 typed_some b s = refl
 
--- the same in the code's terms, by the type byte
+-- the same in the code's terms, by the type byte, which stands at the front
+abbrev pub type_byte : List ℕ → ℕ
+type_byte s = get_or s 0 0
+
+pub type_byte_stands : (s : List ℕ) → 0 < length s → Stands s 0 (type_byte s)
+type_byte_stands [] h = absurd (omega arith)
+type_byte_stands (b ∷ s) h = record { here = h; is = λ d. refl }
+
 pub typed_empty : (s : List ℕ) → length s ≤ 0 → typed s ≡ refused 3 0
 typed_empty s h = ap typed (drop_of_length-le s {i = 0} h) ∙ typed_none
 

@@ -1,14 +1,14 @@
 -- Going on over several bytes at once: what every walk over a text needs of it.
 use mathlib.Core.Path.{◌≡◌, refl, sym, ap, ◌∙◌}
 use mathlib.Core.Bool.{true, false}
-use mathlib.Core.List.{List, []}
+use mathlib.Core.List.{List, [], ◌∷◌}
 use Prim.Native.Nat.{ℕ, ◌+◌, ◌-◌, ◌≤◌, ◌<◌, zero-le}
 use native.Mathlib.Omega.{arith}
 use mathlib.Core.Logic.{⊎_elim}
 use lib.Dec.{leb}
 use borrow.Author.Tests.{le-leb, lt-leb}
 use Rattle.answer.proofs.Cases.{lt_or_le}
-use lib.ListN.{length, take, drop, length-append, take-append-drop}
+use lib.ListN.{length, take, drop, length-append, length-drop, take-append-drop}
 use lib.Seq.{length-take-le}
 use Rattle.utf8.specs.Text.{Step, ends, char, mark, step, step_size, becomes, is_utf8, lossy}
 use Rattle.utf8.specs.Inner.{Advances}
@@ -72,3 +72,16 @@ room_off s x room a h = lt-leb (length (lossy s)) room (omega (arith, advances_l
 
 pub room_none : (room : ℕ) → leb (length (lossy [])) room ≡ true
 room_none room = rw lossy_none (le-leb 0 room zero-le)
+
+-- one that takes no byte is at the end
+pub advances_end : (s : List ℕ) → Advances s ends → length s ≡ 0
+advances_end [] a = refl
+advances_end (b ∷ s) a = absurd (omega (arith, a.moves (omega arith)))
+
+-- What a walk learns that has come to `at`: the bytes from there on are s, and it goes on over n of them.
+module _ (bytes : List ℕ) (at : ℕ) where
+  pub rest_there : (n : ℕ) → n ≤ length (drop at bytes) → at ≤ length bytes → at + n ≤ length bytes
+  rest_there n h g = omega (arith, length-drop at bytes)
+
+  pub rest_some : at < length bytes → 1 ≤ length (drop at bytes)
+  rest_some h = omega (arith, length-drop at bytes)

@@ -36,8 +36,8 @@ returns-in-7 c = let v = c.args.value in
     let k = c.in-7.is in
     sym (fields_alone v.kind v.a v.b v.flags (λ z. omega arith) c.if-value-ge16.false ∙ address_field v.kind v.a v.b 7 16 k shape_is.7)
 
-pub returns-in_default : goal.returns-in_default
-returns-in_default c = let v = c.args.value in
+pub returns-in_default-2 : goal.returns-in_default-2
+returns-in_default-2 c = let v = c.args.value in
     sym
     (fields_alone v.kind v.a v.b v.flags (λ z. omega arith) c.if-value-ge16.false
     ∙ text_field v.kind v.a v.b (omega arith) (omega (arith, c.well_formed)))
