@@ -117,7 +117,7 @@ pub typed_some : (b : ℕ) (s : List ℕ) → typed (b ∷ s) ≡ behind moved 1
 unfolding typed
 typed_some b s = refl
 
--- the same in the code's terms, by the type byte, which stands at the front
+-- the type byte, which stands at the front where there is a byte
 abbrev pub type_byte : List ℕ → ℕ
 type_byte s = get_or s 0 0
 
@@ -125,6 +125,7 @@ pub type_byte_stands : (s : List ℕ) → 0 < length s → Stands s 0 (type_byte
 type_byte_stands [] h = absurd (omega arith)
 type_byte_stands (b ∷ s) h = record { here = h; is = λ d. refl }
 
+-- the same in the code's terms
 pub typed_empty : (s : List ℕ) → length s ≤ 0 → typed s ≡ refused 3 0
 typed_empty s h = ap typed (drop_of_length-le s {i = 0} h) ∙ typed_none
 

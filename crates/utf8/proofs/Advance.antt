@@ -78,7 +78,7 @@ pub advances_end : (s : List ℕ) → Advances s ends → length s ≡ 0
 advances_end [] a = refl
 advances_end (b ∷ s) a = absurd (omega (arith, a.moves (omega arith)))
 
--- What a walk learns that has come to `at`: the bytes from there on are s, and it goes on over n of them.
+-- What a walk learns that has come to `at` and goes on over n of the bytes that are left. The walks of today cut their slice, and need neither.
 module _ (bytes : List ℕ) (at : ℕ) where
   pub rest_there : (n : ℕ) → n ≤ length (drop at bytes) → at ≤ length bytes → at + n ≤ length bytes
   rest_there n h g = omega (arith, length-drop at bytes)
